@@ -1,0 +1,98 @@
+//! The names of declared things.
+
+ghost use Rattle.std.specs.Prelude.{◌≡◌, true, false, MatchOption};
+ghost use Rattle.std.specs.Str.{bytes_eq};
+ghost use Rattle.tt_base.specs.Name.{is_name, is_letter, is_name_byte, is_rest_of_name};
+
+use std::marker::Model;
+
+/// How many bytes a name has at most.
+pub const NAME_BYTES: usize = 16;
+
+/// A name of a document: 1 to 16 bytes, a letter or `_` and then letters, digits or `_`. Case counts. Contracts see it
+/// as the list of its bytes.
+#[derive(Clone, Copy, Debug, PartialEq, Eq)]
+pub struct Name {
+    /// The text, and zeros behind it.
+    bytes: [u8; NAME_BYTES],
+    len: usize,
+}
+
+impl Model for Name {
+    ghost use Rattle.std.specs.Prelude.{◌≡◌, ◌-◌, ◌++◌, true, List, ℕ, length, take, replicate};
+    ghost use Rattle.tt_base.specs.Name.{IsPadded, is_name, padded_bytes, padded_len};
+
+    ghost Value = { List ℕ };
+
+    ghost view = { λ n. take n.len n.bytes };
+
+    ghost invariant = { λ n. IsPadded n.len n.bytes };
+
+    ghost inverse = { λ v. record { bytes = v ++ replicate (16 - length v) 0; len = length v } };
+
+    ghost inverse_ok = { λ n h. record { bytes = padded_bytes n.len n.bytes h; len = padded_len n.len n.bytes h } };
+}
+
+impl Name {
+    /// The name that a text is. None exactly where the text is no name.
+    pub fn new(text: &[u8]) -> Option<Name>
+        ensures { MatchOption result (is_name text.now ≡ false) (λ n. (is_name text.now ≡ true) × (n ≡ text.now)) }
+    {
+        if !is_name(text) {
+            return None;
+        }
+        let mut bytes = [0; NAME_BYTES];
+        bytes[..text.len()].copy_from_slice(text);
+        Some(Name {
+            bytes,
+            len: text.len(),
+        })
+    }
+
+    /// The text.
+    pub fn as_bytes(&self) -> &[u8]
+        ensures text { result.now ≡ self.now }
+        ensures named { is_name self.now ≡ true }
+    {
+        &self.bytes[..self.len]
+    }
+
+    /// Whether two names are one.
+    pub fn is_same(&self, other: &Name) -> bool
+        ensures { result ≡ bytes_eq self.now other.now }
+    {
+        self.as_bytes() == other.as_bytes()
+    }
+}
+
+fn is_name(text: &[u8]) -> bool
+    ensures { result ≡ is_name text.now }
+{
+    match text.split_first() {
+        None => false,
+        Some((first, rest)) => is_letter(*first) && is_rest_of_name(rest),
+    }
+}
+
+fn is_rest_of_name(rest: &[u8]) -> bool
+    ensures { result ≡ is_rest_of_name rest.now }
+{
+    for byte in rest {
+        if !is_name_byte(*byte) {
+            return false;
+        }
+    }
+    rest.len() < NAME_BYTES
+}
+
+fn is_letter(byte: u8) -> bool
+    ensures { result ≡ is_letter byte }
+{
+    byte == b'_' || byte.is_ascii_uppercase() || byte.is_ascii_lowercase()
+}
+
+fn is_name_byte(byte: u8) -> bool
+    ensures { result ≡ is_name_byte byte }
+{
+    is_letter(byte) || byte.is_ascii_digit()
+}
