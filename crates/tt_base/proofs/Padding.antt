@@ -1,7 +1,7 @@
 -- The bytes of a name with zeros behind them.
-use Rattle.std.proofs.Common.{◌≡◌, ℕ, zero, suc, ◌+◌, ◌-◌, ◌≤◌, true, Bool, List, [], ◌∷◌, ◌++◌, length, take, drop, replicate, arith, ap, sym, subst, ◌∙◌, refl, length-append, length-drop}
+use Rattle.std.proofs.Common.{◌≡◌, ℕ, zero, suc, ◌-◌, ◌≤◌, true, List, [], ◌∷◌, ◌++◌, length, drop, replicate, arith, ap, ◌∙◌, refl, length-append, length-drop}
 use Rattle.std.proofs.lemmas.Grind.{common_steps}
-use Rattle.std.proofs.lemmas.List.{take-append-le}
+use Rattle.std.proofs.Math.Seq.{take-append_seam}
 use Rattle.std.proofs.lemmas.Slice.{drop-append-drop}
 use Rattle.tt_base.specs.Name.{is_name, IsPadded}
 
@@ -18,7 +18,7 @@ drop-zeros (suc n) (suc m) = grind (arith, common_steps, drop-zeros n m)
 pub padded : (text zeros : List ℕ) → zeros ≡ replicate {A = ℕ} 16 0 → is_name text ≡ true
     → IsPadded (length text) (text ++ drop (length text) zeros)
 padded text zeros is named = record {
-  named = ap is_name (take-append-le (length text) text (drop (length text) zeros) (omega arith) ∙ search) ∙ named;
+  named = ap is_name (take-append_seam text (drop (length text) zeros)) ∙ named;
   few = name_few text named;
   long = omega (arith, name_few text named, length-append text (drop (length text) zeros), length-drop (length text) zeros, ap length is);
   zeros = drop-append-drop (length text) zeros text (length text) (omega arith) refl ∙ ap (drop (length text)) is ∙ drop-zeros (length text) 16;

@@ -43,37 +43,90 @@ pub enum Call {
 #[derive(Clone, Copy, Debug, PartialEq, Eq)]
 pub enum Event {
     /// The operating system starts in this mode.
-    OsStart { at: Tick, mode: ModeNo },
+    OsStart {
+        at: Tick,
+        mode: ModeNo,
+    },
     /// A dispatcher round begins. Rounds are counted from 1.
-    Round { at: Tick, number: u32, mode: ModeNo },
+    Round {
+        at: Tick,
+        number: u32,
+        mode: ModeNo,
+    },
     /// The round gets longer or shorter by so many ticks.
-    Correct { at: Tick, by: i64 },
+    Correct {
+        at: Tick,
+        by: i64,
+    },
     /// Deadline monitoring looks at an activation of this task.
-    Check { at: Tick, task: TaskNo, met: bool },
+    Check {
+        at: Tick,
+        task: TaskNo,
+        met: bool,
+    },
     /// The dispatcher enables an interrupt source again.
-    Enable { at: Tick, isr: IsrNo },
+    Enable {
+        at: Tick,
+        isr: IsrNo,
+    },
     /// An interrupt occurs and is held.
-    Arrive { at: Tick, source: Owner },
+    Arrive {
+        at: Tick,
+        source: Owner,
+    },
     /// An interrupt occurs while one of its source is held.
-    Merge { at: Tick, source: Owner },
+    Merge {
+        at: Tick,
+        source: Owner,
+    },
     /// The routine of a held interrupt begins.
-    Accept { at: Tick, source: Owner },
+    Accept {
+        at: Tick,
+        source: Owner,
+    },
     /// The dispatcher activates a task.
-    Activate { at: Tick, task: TaskNo },
+    Activate {
+        at: Tick,
+        task: TaskNo,
+    },
     /// Another owner than before takes the tick.
-    Run { at: Tick, who: Owner },
+    Run {
+        at: Tick,
+        who: Owner,
+    },
     /// The owner has nothing left to do.
-    End { at: Tick, owner: Owner },
+    End {
+        at: Tick,
+        owner: Owner,
+    },
     /// A body puts out a value.
-    Out { at: Tick, owner: Owner, value: i32 },
+    Out {
+        at: Tick,
+        owner: Owner,
+        value: i32,
+    },
     /// A body calls a service, which answers the result.
-    Called { at: Tick, owner: Owner, call: Call, result: u8 },
+    Called {
+        at: Tick,
+        owner: Owner,
+        call: Call,
+        result: u8,
+    },
     /// ttErrorHook is called, for a task that missed its deadline.
-    ErrorHook { at: Tick, task: TaskNo },
+    ErrorHook {
+        at: Tick,
+        task: TaskNo,
+    },
     /// ttShutdownHook is called.
-    ShutdownHook { at: Tick },
+    ShutdownHook {
+        at: Tick,
+    },
     /// The run ends by a shutdown.
-    Shutdown { at: Tick },
+    Shutdown {
+        at: Tick,
+    },
     /// The run ends with its last round.
-    Stop { at: Tick },
+    Stop {
+        at: Tick,
+    },
 }

@@ -30,7 +30,7 @@ impl Model for Name {
 
     ghost inverse = { λ v. record { bytes = v ++ replicate (16 - length v) 0; len = length v } };
 
-    ghost inverse_ok = { λ n h. record { bytes = padded_bytes n.len n.bytes h; len = padded_len n.len n.bytes h } };
+    ghost inverse_ok = { λ n h i. record { bytes = padded_bytes n.len n.bytes h i; len = padded_len n.len n.bytes h i } };
 }
 
 impl Name {
