@@ -1,13 +1,15 @@
-//! What every crate of the bench stands on: want of memory, numbers of declared things, ticks, events, names, and a
+//! What every crate of the bench stands on: want of memory, numbers of declared things, ticks, events, names, a list type, and a
 //! counter of steps.
 #![tactic(auto)]
 
 mod event;
 mod name;
 mod number;
+mod series;
 mod steps;
 
 pub use event::{Call, Event, Owner};
 pub use name::Name;
 pub use number::{DemandNo, IsrNo, Memory, ModeNo, OisrNo, OsekNo, TaskNo, Tick, VarNo};
+pub use series::Series;
 pub use steps::{Blank, Ledger, Steps};
