@@ -15,7 +15,7 @@ pub const NAME_BYTES: usize = 16;
 pub struct Name {
     /// The text, and zeros behind it.
     bytes: [u8; NAME_BYTES],
-    len: usize,
+    len: u8,
 }
 
 impl Model for Name {
@@ -45,7 +45,7 @@ impl Name {
         bytes[..text.len()].copy_from_slice(text);
         Some(Name {
             bytes,
-            len: text.len(),
+            len: text.len() as u8,
         })
     }
 
@@ -54,7 +54,7 @@ impl Name {
         ensures text { result.now ≡ self.now }
         ensures named { is_name self.now ≡ true }
     {
-        &self.bytes[..self.len]
+        &self.bytes[..self.len as usize]
     }
 
     /// Whether two names are one.

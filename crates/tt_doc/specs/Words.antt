@@ -1,0 +1,30 @@
+-- The words of a line: the longest runs of bytes other than the space.
+use Rattle.std.specs.Prelude.{ℕ, ◌==◌, not, Bool, true, false, List, [], ◌∷◌, ◌++◌, filter, if◌then◌else◌}
+
+-- one byte more in front of the first piece
+abbrev pub in_first : ℕ → List (List ℕ) → List (List ℕ)
+in_first b [] = (b ∷ []) ∷ []
+in_first b (piece ∷ pieces) = (b ∷ piece) ∷ pieces
+
+-- the pieces between the spaces, some of which may be empty
+abbrev pub pieces_of : List ℕ → List (List ℕ)
+pieces_of [] = [] ∷ []
+pieces_of (b ∷ bytes) = if b == 32 then [] ∷ pieces_of bytes else in_first b (pieces_of bytes)
+
+abbrev pub is_some_text : List ℕ → Bool
+is_some_text [] = false
+is_some_text (b ∷ bytes) = true
+
+abbrev pub words_of : List ℕ → List (List ℕ)
+words_of text = filter is_some_text (pieces_of text)
+
+-- words with one space between them
+abbrev pub joined : List (List ℕ) → List ℕ
+joined [] = []
+joined (word ∷ []) = word
+joined (word ∷ (next ∷ rest)) = word ++ 32 ∷ joined (next ∷ rest)
+
+-- bytes that can be a word: some, and none of them a space
+abbrev pub has_no_space : List ℕ → Bool
+has_no_space [] = true
+has_no_space (b ∷ bytes) = if b == 32 then false else has_no_space bytes

@@ -1,0 +1,8 @@
+//! The lines, words and numbers of a document.
+#![tactic(auto)]
+
+mod lines;
+mod numbers;
+mod words;
+
+pub use lines::{LineKind, LineStep, Span};
