@@ -1,0 +1,6 @@
+//! The task language.
+#![tactic(auto)]
+
+mod syntax;
+
+pub use syntax::Op;
