@@ -1,0 +1,9 @@
+//! What a run is read from, and the definitions of a run: the world at an instant, the parts of an instant in their order,
+//! and the schedule instant by instant.
+#![tactic(auto)]
+
+mod form;
+mod statement;
+
+pub use form::FirstForm;
+pub use statement::{Outcome, Stmt};
