@@ -1,0 +1,15 @@
+use Rattle.std.proofs.Common.{rules, ap, ◌∙◌}
+use Rattle.tt_io.proofs.Taking.{counted_more, taken_more}
+use Rattle.tt_io.specs.Count.{counted}
+use Rattle.tt_io.proofs.whole.fill.Goals as goal
+
+pub loop-taken-preserved : goal.loop-taken-preserved
+loop-taken-preserved g c =
+    let so_far = c.loop-taken.invariant in
+    let n = c.in-Got.n in
+    record {
+      within = search rules;
+      bytes = taken_more _ _ _ c.loop-taken.buf c.read.new.buf c.loop-taken.taken n so_far.within (search rules) so_far.bytes c.in-Got.ensures.got;
+      count = c.in-Got.ensures.got_count ∙ ap (λ k. counted k n) so_far.count ∙ counted_more _ c.loop-taken.taken n;
+      never_falls = search rules;
+    }

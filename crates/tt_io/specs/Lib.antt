@@ -1,0 +1,11 @@
+pub mod Count
+pub mod Filled
+pub mod Known
+pub mod MemSink
+pub mod MemSource
+pub mod Passes
+pub mod ReadStep
+pub mod SureSource
+pub mod TakeFault
+pub mod WriteStep
+pub use Rattle.std.specs.Io.KnownBytes

@@ -1,0 +1,15 @@
+-- What is seen of a source over memory that never fails.
+use Rattle.std.specs.Prelude.{ℕ, List, drop}
+use Rattle.tt_io.specs.declared.mem.SureSource.{SureSource}
+
+-- the bytes left
+abbrev pub rest_of : SureSource → List ℕ
+rest_of s = drop s.supply.at s.supply.bytes.items
+
+-- the most bytes that one read gives
+abbrev pub most_of : SureSource → ℕ
+most_of s = s.supply.chunk
+
+-- how many bytes were given
+abbrev pub given_of : SureSource → ℕ
+given_of s = s.supply.given

@@ -1,0 +1,79 @@
+//! A buffer before a sink.
+
+ghost use Rattle.std.specs.Io.KnownBytes.{Appends};
+ghost use Rattle.std.specs.Prelude.{◌≡◌, ◌≤◌, ◌++◌, [], length, OnOk, OnErr, IsOk};
+ghost use Rattle.tt_io.specs.Count.{Rose};
+ghost use Rattle.tt_io.specs.Known.{AppendsPart};
+ghost use Rattle.tt_io.specs.Passes.{Passes};
+
+use crate::{Sink, WriteFault, put_all};
+use arrayvec::ArrayVec;
+use std::marker::Model;
+
+/// How many bytes a buffer holds at most.
+pub const CAPACITY: usize = 8 * 1024;
+
+/// Bytes on their way to a sink, so that many small pieces make one write. It stands beside the sink, takes no memory,
+/// and contracts see it as the list of the bytes that wait.
+#[derive(Drop)]
+pub struct Buffer {
+    held: ArrayVec<u8, CAPACITY>,
+}
+
+impl Model for Buffer {
+    ghost use Rattle.std.specs.Prelude.{List, ℕ};
+
+    ghost Value = { List ℕ };
+
+    ghost view = { λ b. b.held.items };
+}
+
+impl Buffer {
+    /// A buffer in which nothing waits.
+    pub fn new() -> Buffer
+        ensures { result ≡ [] }
+    {
+        Buffer {
+            held: ArrayVec::new(),
+        }
+    }
+
+    /// Appends a piece. It waits where it has room, and else what waits is sent first. A piece that is larger than the
+    /// buffer goes to the sink at once. After a fault nothing waits.
+    pub fn put<O: Sink>(&mut self, sink: &mut O, piece: &[u8]) -> Result<(), WriteFault>
+        ensures ok { OnOk result (Passes (O.written sink.old) (O.written sink.new) (self.old ++ piece.now) self.new) }
+        ensures waits { length (self.old ++ piece.now) ≤ CAPACITY → IsOk result
+            × (self.new ≡ self.old ++ piece.now) × (sink.new ≡ sink.old) }
+
+        ensures part { OnErr result (AppendsPart (O.written sink.old) (O.written sink.new) (self.old ++ piece.now)) }
+        ensures none_waits { OnErr result (self.new ≡ []) }
+        ensures cause { OnErr result (Rose (O.faults sink.old) (O.faults sink.new)) }
+
+        ensures never_falls { O.faults sink.old ≤ O.faults sink.new }
+    {
+        if self.held.try_extend_from_slice(piece).is_ok() {
+            return Ok(());
+        }
+        self.send(sink)?;
+        if self.held.try_extend_from_slice(piece).is_ok() {
+            return Ok(());
+        }
+        put_all(sink, piece)
+    }
+
+    /// Appends what waits to the sink. Then nothing waits, also after a fault.
+    pub fn send<O: Sink>(&mut self, sink: &mut O) -> Result<(), WriteFault>
+        ensures ok { OnOk result (Appends (O.written sink.old) (O.written sink.new) self.old) }
+        ensures empty { self.old ≡ [] → sink.new ≡ sink.old }
+
+        ensures part { OnErr result (AppendsPart (O.written sink.old) (O.written sink.new) self.old) }
+        ensures cause { OnErr result (Rose (O.faults sink.old) (O.faults sink.new)) }
+
+        ensures none_waits { self.new ≡ [] }
+        ensures never_falls { O.faults sink.old ≤ O.faults sink.new }
+    {
+        let sent = put_all(sink, self.held.as_slice());
+        self.held.clear();
+        sent
+    }
+}

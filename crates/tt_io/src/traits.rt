@@ -1,0 +1,77 @@
+//! What a source and a sink of bytes are.
+
+ghost use Rattle.std.specs.Io.KnownBytes.{Appends, Consumes, IsAtEnd, Keeps};
+ghost use Rattle.std.specs.Prelude.{◌≡◌, ◌<◌, ◌≤◌, ℕ, List, Option, length, take};
+ghost use Rattle.tt_io.specs.Count.{Rose, counted};
+ghost use Rattle.tt_io.specs.ReadStep.{IfGot, OnEnd, OnFailed};
+ghost use Rattle.tt_io.specs.WriteStep.{IfTook, OnRefused};
+
+/// The answer of one read.
+#[derive(Clone, Copy, Debug, PartialEq, Eq)]
+pub enum ReadStep {
+    /// So many bytes stand at the front of the buffer, at least one.
+    Got(usize),
+    /// Nothing is left.
+    End,
+    /// The read failed, and took nothing.
+    Failed,
+}
+
+/// The answer of one write.
+#[derive(Clone, Copy, Debug, PartialEq, Eq)]
+pub enum WriteStep {
+    /// So many bytes of the piece were taken from its front, at least one.
+    Took(usize),
+    /// The write failed, and wrote nothing that is told.
+    Failed,
+}
+
+/// Where bytes come from.
+pub trait Source {
+    /// The bytes left, where it tells them.
+    ghost left: { Self → Option (List ℕ) };
+
+    /// How many bytes were given. The count stays at its last value, 2^64 - 1.
+    ghost given: { Self → ℕ };
+
+    /// How many faults there were. The count stays at its last value, 2^64 - 1.
+    ghost faults: { Self → ℕ };
+
+    /// Takes the first bytes that are left, at least one and as many as it likes, into the front of `buf`.
+    fn read(&mut self, buf: &mut [u8]) -> ReadStep
+        requires { 0 < length buf.old }
+
+        ensures size { IfGot result (λ n. (0 < n) × (n ≤ length buf.new)) }
+        ensures got { IfGot result (λ n. Consumes (left self.old) (left self.new) (take n buf.new)) }
+        ensures got_count { IfGot result (λ n. given self.new ≡ counted (given self.old) n) }
+
+        ensures end { OnEnd result (IsAtEnd (left self.new) × Keeps (left self.old) (left self.new)
+            × (given self.new ≡ given self.old)) }
+
+        ensures failed { OnFailed result (Keeps (left self.old) (left self.new)
+            × (given self.new ≡ given self.old)) }
+        ensures cause { OnFailed result (Rose (faults self.old) (faults self.new)) }
+
+        ensures never_falls { faults self.old ≤ faults self.new };
+}
+
+/// Where bytes go.
+pub trait Sink {
+    /// The bytes written, where it tells them.
+    ghost written: { Self → Option (List ℕ) };
+
+    /// How many faults there were. The count stays at its last value, 2^64 - 1.
+    ghost faults: { Self → ℕ };
+
+    /// Appends the first bytes of `piece`, at least one and as many as it likes.
+    fn write(&mut self, piece: &[u8]) -> WriteStep
+        requires { 0 < length piece.now }
+
+        ensures size { IfTook result (λ n. (0 < n) × (n ≤ length piece.now)) }
+        ensures took { IfTook result (λ n. Appends (written self.old) (written self.new) (take n piece.now)) }
+
+        ensures refused { OnRefused result (Keeps (written self.old) (written self.new)) }
+        ensures cause { OnRefused result (Rose (faults self.old) (faults self.new)) }
+
+        ensures never_falls { faults self.old ≤ faults self.new };
+}
