@@ -1,0 +1,66 @@
+//! The variables.
+
+ghost use Rattle.std.specs.Prelude.{◌≡◌, ◌<◌, [], ◌∷◌, ◌++◌, length, Some, OnOk, OnErr, slice_get, slice_set};
+
+use std::alloc::Global;
+use std::marker::Model;
+use tt_base::{Memory, VarNo};
+
+/// The values of the variables, by number. Contracts see them as a list.
+#[derive(Debug, Drop)]
+pub struct Vars {
+    values: Vec<i32>,
+}
+
+impl Model for Vars {
+    ghost use Rattle.std.specs.Prelude.{List, ℤ};
+
+    ghost Value = { List ℤ };
+
+    ghost view = { λ v. v.values.items };
+}
+
+impl Vars {
+    /// No variables. It takes no memory.
+    pub fn new(alloc: Global) -> Vars
+        ensures { result ≡ [] }
+    {
+        Vars {
+            values: Vec::new(alloc),
+        }
+    }
+
+    /// Appends a variable with its value. On want of memory nothing has changed.
+    pub fn push(&mut self, value: i32) -> Result<(), Memory>
+        ensures ok { OnOk result (self.new ≡ self.old ++ value ∷ []) }
+        ensures err { OnErr result (self.new ≡ self.old) }
+    {
+        match self.values.push(value) {
+            Ok(()) => Ok(()),
+            Err(_) => Err(Memory),
+        }
+    }
+
+    /// The values in order.
+    pub fn as_slice(&self) -> &[i32]
+        ensures { result.now ≡ self.now }
+    {
+        self.values.as_slice()
+    }
+
+    /// The value of a variable.
+    pub fn get(&self, var: VarNo) -> i32
+        requires { var.0 < length self.now }
+        ensures { slice_get self.now var.0 ≡ Some result }
+    {
+        self.values[var.0 as usize]
+    }
+
+    /// Gives a variable a value. All others keep theirs.
+    pub fn set(&mut self, var: VarNo, value: i32)
+        requires { var.0 < length self.old }
+        ensures { self.new ≡ slice_set self.old var.0 value }
+    {
+        self.values[var.0 as usize] = value;
+    }
+}
