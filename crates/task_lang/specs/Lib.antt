@@ -1,0 +1,5 @@
+pub mod Allowed
+pub mod Limits
+pub mod Opening
+pub mod Value
+pub mod Worst

@@ -2,10 +2,14 @@
 //! and one tick of what is left of a body.
 #![tactic(auto)]
 
+pub mod allowed;
 mod demand;
 mod syntax;
+pub mod value;
 mod vars;
+pub mod worst;
 
+pub use allowed::OwnerKind;
 pub use demand::{Demand, Demands, Values};
 pub use syntax::{Body, Expr, Op, Stmt};
 pub use vars::Vars;

@@ -1,0 +1,33 @@
+//! The value of an expression.
+
+ghost use Rattle.std.specs.Prelude.{◌≡◌};
+ghost use Rattle.task_lang.specs.Value.{value_of, result_of};
+
+use crate::syntax::{Expr, Op};
+use crate::vars::Vars;
+
+/// The value of an expression. A variable that `vars` does not have counts as 0.
+pub fn value(expr: &Expr, vars: &Vars) -> i32
+    ensures { result ≡ value_of vars.now expr.now }
+{
+    match expr {
+        Expr::Const(number) => *number,
+        Expr::Var(var) => vars.as_slice().get(var.0 as usize).copied().unwrap_or(0),
+        Expr::Bin(op, left, right) => apply(*op, value(left.get(), vars), value(right.get(), vars)),
+    }
+}
+
+/// What an operator gives of two values.
+fn apply(op: Op, left: i32, right: i32) -> i32
+    ensures { result ≡ result_of op left right }
+{
+    match op {
+        Op::Add => left.wrapping_add(right),
+        Op::Sub => left.wrapping_sub(right),
+        Op::Mul => left.wrapping_mul(right),
+        Op::Less => i32::from(left < right),
+        Op::AtMost => i32::from(left <= right),
+        Op::Same => i32::from(left == right),
+        Op::Differ => i32::from(left != right),
+    }
+}
