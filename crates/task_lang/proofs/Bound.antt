@@ -7,7 +7,7 @@ use Rattle.task_lang.specs.declared.syntax.Stmt.{Stmt}
 use Rattle.task_lang.specs.declared.syntax.Stmt.TheOpen.{Stmt-F}
 use Rattle.task_lang.specs.declared.syntax.Stmt.TheFolds.{ind-Stmt, map-Stmt, fold-roll-Stmt}
 use Rattle.task_lang.specs.declared.syntax.Stmt.TheViews.{roll-Stmt}
-use Rattle.task_lang.specs.Limits.{IsNestedInLimit, IsCountInLimit, AreNumbersInRange, AreMostsInRange, nesting_step, nesting_of, nesting_in, count_step, count_of, count_in, each_of, each_in, all_true, inner_pass, is_number_in_range}
+use Rattle.task_lang.specs.Limits.{IsNestedInLimit, IsCountInLimit, AreNumbersInRange, AreMostsInRange, nesting_step, nesting_of, nesting_in, count_step, count_of, count_in, each_of, all_true, inner_pass, is_number_in_range}
 use Rattle.task_lang.specs.Worst.{most_of, worst_step, worst_of, worst_in}
 use Rattle.task_lang.proofs.Numbers.{and_left, and_right, from_nat_le, most_small}
 

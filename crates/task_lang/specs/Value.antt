@@ -1,5 +1,5 @@
 -- The value of an expression: a signed number of 32 bits.
-use Rattle.std.specs.Prelude.{ℕ, ℤ, pos, ◌+ℤ◌, ◌-ℤ◌, ◌*ℤ◌, Bool, not, ◌&&◌, if◌then◌else◌, List, slice_index_or}
+use Rattle.std.specs.Prelude.{ℤ, pos, ◌+ℤ◌, ◌-ℤ◌, ◌*ℤ◌, Bool, not, ◌&&◌, if◌then◌else◌, List, slice_index_or}
 use Rattle.std.specs.Int.{int_wrap}
 use mir.Syntax.{w32}
 use lib.Signed.{lt_z, le_z}

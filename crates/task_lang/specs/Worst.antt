@@ -1,5 +1,5 @@
 -- How many ticks a body takes at most.
-use Rattle.std.specs.Prelude.{ℕ, ◌+◌, ◌*◌, max, List, [], ◌∷◌, map, sum, Option, Some, None, slice_get}
+use Rattle.std.specs.Prelude.{ℕ, ◌+◌, ◌*◌, max, List, map, sum, Option, Some, None, slice_get}
 use Rattle.task_lang.specs.declared.demand.Demand.{Demand}
 use Rattle.task_lang.specs.declared.syntax.Stmt.{Stmt}
 use Rattle.task_lang.specs.declared.syntax.Stmt.TheOpen.{Stmt-F}

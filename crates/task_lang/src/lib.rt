@@ -4,12 +4,16 @@
 
 pub mod allowed;
 mod demand;
+mod laws;
 mod syntax;
+mod tick;
 pub mod value;
 mod vars;
 pub mod worst;
 
 pub use allowed::OwnerKind;
 pub use demand::{Demand, Demands, Values};
+pub use laws::{tick_keeps_numbers, tick_lowers_worst};
 pub use syntax::{Body, Expr, Op, Stmt};
+pub use tick::Effect;
 pub use vars::Vars;

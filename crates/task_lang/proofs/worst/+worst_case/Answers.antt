@@ -1,7 +1,5 @@
-use Rattle.std.proofs.Common.{◌≡◌, ◌^◌, ap, sym, subst, rules}
+use Rattle.std.proofs.Common.{◌^◌, rules}
 use Rattle.task_lang.specs.declared.syntax.Stmt.{the_lemmas}
-use Rattle.task_lang.specs.Limits.{AreNumbersInRange, each_of, is_number_in_range}
-use Rattle.task_lang.specs.Worst.{worst_of, worst_in}
 use Rattle.task_lang.proofs.Numbers.{repeat_body}
 use Rattle.task_lang.proofs.worst.+worst_case.Goals as goal
 

@@ -1,0 +1,14 @@
+//! Laws of the definitions. Each is the contract of a function with an empty body.
+
+ghost use Rattle.task_lang.specs.TickLaws.{TickLowersWorst, TickKeepsNumbers};
+
+/// A tick of a list of statements lowers its worst case by at least one, where its numbers are in range, it is not empty, and
+/// the script gives no demand more than its most.
+pub fn tick_lowers_worst()
+    ensures { TickLowersWorst }
+{}
+
+/// A tick leaves numbers that are in range, where the script gives no demand more than its most.
+pub fn tick_keeps_numbers()
+    ensures { TickKeepsNumbers }
+{}
