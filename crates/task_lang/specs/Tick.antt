@@ -20,6 +20,12 @@ pub record State : Type 0 where
   pub cursors : List ℕ
   pub effects : List Effect
 
+abbrev pub supply_of : List Demand → List (List ℕ) → Supply
+supply_of demands values = record { demands = demands; values = values }
+
+abbrev pub state_of : List Stmt → List ℤ → List ℕ → List Effect → State
+state_of left vars cursors effects = record { left = left; vars = vars; cursors = cursors; effects = effects }
+
 -- so many ticks of work in front of the rest, and nothing where there are none
 abbrev pub work_then : ℕ → List Stmt → List Stmt
 work_then zero rest = rest

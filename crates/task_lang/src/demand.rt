@@ -1,6 +1,10 @@
-//! Execution demands, and what a script gives for them.
+//! Execution demands, what a script gives for them, and how much of it was used.
 
-use tt_base::Series;
+ghost use Rattle.std.specs.Prelude.{◌≡◌, ◌+◌, ◌^◌, ◌<◌, min, [], length, replicate, IfOk, slice_get, slice_index, slice_index_or, slice_set};
+
+use std::alloc::Global;
+use std::marker::Model;
+use tt_base::{DemandNo, Memory, Series};
 
 /// How many ticks a demand asks for: at most, and where the script gives no value.
 #[derive(Clone, Copy, Debug, PartialEq, Eq)]
@@ -16,3 +20,52 @@ pub type Demands = Series<Demand>;
 
 /// For each demand, by number, the values that the script gives, in order.
 pub type Values = Series<Series<u64>>;
+
+/// For each demand, by number, how many of its script values were used. Contracts see them as a list.
+#[derive(Debug, Drop)]
+pub struct Cursors {
+    used: Vec<usize>,
+}
+
+impl Model for Cursors {
+    ghost use Rattle.std.specs.Prelude.{List, ℕ};
+
+    ghost Value = { List ℕ };
+
+    ghost view = { λ c. c.used.items };
+}
+
+impl Cursors {
+    /// So many demands, of which no value was used.
+    pub fn new(alloc: Global, demands: usize) -> Result<Cursors, Memory>
+        ensures { IfOk result (λ cursors. cursors ≡ replicate demands 0) }
+    {
+        match vec![in alloc; 0; demands] {
+            Ok(used) => Ok(Cursors { used }),
+            Err(_) => Err(Memory),
+        }
+    }
+
+    /// How many values were used, by demand.
+    pub fn as_slice(&self) -> &[usize]
+        ensures { result.now ≡ self.now }
+    {
+        self.used.as_slice()
+    }
+
+    /// Uses one value more of a demand, where it has so many, and answers how many were used before. A demand that is not
+    /// there has none.
+    pub(crate) fn use_one(&mut self, demand: DemandNo, values: usize) -> usize
+        ensures before { result ≡ slice_index self.old demand.0 }
+        ensures after { self.new ≡ slice_set self.old demand.0 (min (slice_index self.old demand.0 + 1) values) }
+    {
+        match self.used.get_mut(demand.0 as usize) {
+            Some(place) => {
+                let before = *place;
+                *place = if before < values { before + 1 } else { values };
+                before
+            }
+            None => 0,
+        }
+    }
+}

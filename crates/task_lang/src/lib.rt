@@ -3,6 +3,7 @@
 #![tactic(auto)]
 
 pub mod allowed;
+mod copies;
 mod demand;
 mod laws;
 mod syntax;
@@ -12,8 +13,8 @@ mod vars;
 pub mod worst;
 
 pub use allowed::OwnerKind;
-pub use demand::{Demand, Demands, Values};
+pub use demand::{Cursors, Demand, Demands, Values};
 pub use laws::{tick_keeps_numbers, tick_lowers_worst};
 pub use syntax::{Body, Expr, Op, Stmt};
-pub use tick::Effect;
+pub use tick::{Effect, Left};
 pub use vars::Vars;

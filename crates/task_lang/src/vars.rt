@@ -63,4 +63,13 @@ impl Vars {
     {
         self.values[var.0 as usize] = value;
     }
+
+    /// Gives a variable a value, where it exists.
+    pub(crate) fn assign(&mut self, var: VarNo, value: i32)
+        ensures { self.new ≡ slice_set self.old var.0 value }
+    {
+        if let Some(place) = self.values.get_mut(var.0 as usize) {
+            *place = value;
+        }
+    }
 }
