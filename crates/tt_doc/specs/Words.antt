@@ -1,5 +1,5 @@
 -- The words of a line: the longest runs of bytes other than the space.
-use Rattle.std.specs.Prelude.{ℕ, ◌==◌, not, Bool, true, false, List, [], ◌∷◌, ◌++◌, filter, if◌then◌else◌}
+use Rattle.std.specs.Prelude.{ℕ, ◌==◌, ◌&&◌, Bool, true, false, List, [], ◌∷◌, ◌++◌, filter, if◌then◌else◌}
 
 -- one byte more in front of the first piece
 abbrev pub in_first : ℕ → List (List ℕ) → List (List ℕ)
@@ -28,3 +28,6 @@ joined (word ∷ (next ∷ rest)) = word ++ 32 ∷ joined (next ∷ rest)
 abbrev pub has_no_space : List ℕ → Bool
 has_no_space [] = true
 has_no_space (b ∷ bytes) = if b == 32 then false else has_no_space bytes
+
+abbrev pub is_word : List ℕ → Bool
+is_word word = is_some_text word && has_no_space word

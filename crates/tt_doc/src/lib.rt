@@ -1,6 +1,7 @@
 //! The lines, words and numbers of a document.
 #![tactic(auto)]
 
+pub mod laws;
 mod lines;
 mod numbers;
 mod words;
