@@ -1,2 +1,4 @@
 pub mod WordLaws
 pub mod NumberLaws
+pub mod LineLaws
+pub mod WordSpans

@@ -30,7 +30,8 @@ words_from_pieces ((b ∷ bytes) ∷ pieces) clean =
 pub words_of_are_words : (text : List ℕ) → list_all is_word (words_of text) ≡ true
 words_of_are_words text = words_from_pieces (pieces_of text) (no_space-pieces_of text)
 
-parts_of_no_space : (t rest : Bool) → cond t false rest ≡ true → (t ≡ false) × (rest ≡ true)
+-- bytes without a space begin with none, and have none behind it
+pub parts_of_no_space : (t rest : Bool) → cond t false rest ≡ true → (t ≡ false) × (rest ≡ true)
 parts_of_no_space true rest clean = absurd (false≢true clean)
 parts_of_no_space false rest clean = (refl, clean)
 

@@ -2,8 +2,9 @@
 #![tactic(auto)]
 
 pub mod laws;
+mod line_words;
 mod lines;
 mod numbers;
-mod words;
 
-pub use lines::{LineKind, LineStep, Span};
+pub use line_words::words;
+pub use lines::{LineKind, LineStep, Span, next_line};
