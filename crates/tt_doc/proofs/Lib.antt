@@ -1,4 +1,5 @@
 pub mod WordLaws
 pub mod NumberLaws
+pub mod Tens
 pub mod LineLaws
 pub mod WordSpans

@@ -24,7 +24,8 @@ leading (first ∷ []) h = (omega arith, λ e. refl)
 leading (first ∷ (second ∷ rest)) h =
     (omega arith, λ e. absurd (both_ways (first == 48) (not-true (first == 48) h) (eq-eqb first 48 e)))
 
-is_number-spelled : (text : List ℕ) → is_number text ≡ true → (text ≡ decimal (value_of text)) × (value_of text < 10 ^ 12)
+-- the spelling of a text that is a number, and the bound of its value
+pub is_number-spelled : (text : List ℕ) → is_number text ≡ true → (text ≡ decimal (value_of text)) × (value_of text < 10 ^ 12)
 is_number-spelled text h =
     let two = and_parts (list_all is_ascii_digit text && nat_le (length text) 12) (has_no_leading_zero text) h in
     let one = and_parts (list_all is_ascii_digit text) (nat_le (length text) 12) two.0 in

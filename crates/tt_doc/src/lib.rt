@@ -8,3 +8,4 @@ mod numbers;
 
 pub use line_words::words;
 pub use lines::{LineKind, LineStep, Span, next_line};
+pub use numbers::{integer, number};
