@@ -5,6 +5,8 @@ pub mod MemSink
 pub mod MemSource
 pub mod Passes
 pub mod ReadStep
+pub mod StdSink
+pub mod StdSource
 pub mod SureSource
 pub mod TakeFault
 pub mod WriteStep

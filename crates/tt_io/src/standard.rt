@@ -1,10 +1,15 @@
-//! The standard library's readers and writers as sources and sinks. They tell no bytes.
+//! The standard library's readers and writers as sources and sinks. As sources and sinks they tell no bytes; where the
+//! reader or the writer tells its own, these pass through unchanged.
 
-ghost use Rattle.std.specs.Prelude.{◌≡◌, None};
+ghost use Rattle.std.specs.Io.KnownBytes.{Appends, Consumes, IsAtEnd, Keeps};
+ghost use Rattle.std.specs.Prelude.{◌≡◌, ◌≢◌, ◌<◌, ◌≤◌, if◌then◌else◌, ℕ, None, is_ok, length, take};
 ghost use Rattle.tt_io.specs.Count.{Rose, counted};
+ghost use Rattle.tt_io.specs.ReadStep.{IfGot, OnEnd, OnFailed};
+ghost use Rattle.tt_io.specs.WriteStep.{IfTook, OnRefused};
 
 use crate::count::count_more;
 use crate::{ReadStep, Sink, Source, WriteStep};
+use std::io;
 use std::io::{Read, Write};
 
 /// A reader as a source. Each error of the reader is a fault, also that of an interrupted read.
@@ -16,8 +21,13 @@ pub struct StdSource<R: Read + Drop> {
 }
 
 impl<R: Read + Drop> StdSource<R> {
+    ghost use Rattle.tt_io.specs.StdSource.{reader_of, bytes_given, read_faults};
+
     /// The source of what the reader gives from here on.
-    pub fn new(reader: R) -> StdSource<R> {
+    pub fn new(reader: R) -> StdSource<R>
+        ensures reader { reader_of result ≡ reader }
+        ensures counts { (bytes_given result ≡ 0) × (read_faults result ≡ 0) }
+    {
         StdSource {
             reader,
             given: 0,
@@ -27,13 +37,33 @@ impl<R: Read + Drop> StdSource<R> {
 }
 
 impl<R: Read + Drop> Source for StdSource<R> {
+    ghost use Rattle.tt_io.specs.StdSource.{reader_of, bytes_given, read_faults};
+
     ghost left = { λ _. None };
 
-    ghost given = { λ s. s.given };
+    ghost given = { λ s. bytes_given s };
 
-    ghost faults = { λ s. s.faults };
+    ghost faults = { λ s. read_faults s };
 
-    fn read(&mut self, buf: &mut [u8]) -> ReadStep {
+    fn read(&mut self, buf: &mut [u8]) -> ReadStep
+        requires { 0 < length buf.old }
+
+        ensures size { IfGot result (λ n. (0 < n) × (n ≤ length buf.new)) }
+        ensures got { IfGot result (λ n. Consumes (R.remaining (reader_of self.old))
+            (R.remaining (reader_of self.new)) (take n buf.new)) }
+        ensures got_count { IfGot result (λ n. bytes_given self.new ≡ counted (bytes_given self.old) n) }
+
+        ensures end { OnEnd result (IsAtEnd (R.remaining (reader_of self.new))
+            × (bytes_given self.new ≡ bytes_given self.old)) }
+
+        ensures failed { OnFailed result (Keeps (R.remaining (reader_of self.old)) (R.remaining (reader_of self.new))
+            × (bytes_given self.new ≡ bytes_given self.old)) }
+        ensures fault { OnFailed result (read_faults self.new ≡ counted (read_faults self.old) 1) }
+        ensures no_fault { result ≢ ReadStep.Failed → read_faults self.new ≡ read_faults self.old }
+        ensures cause { OnFailed result (Rose (read_faults self.old) (read_faults self.new)) }
+
+        ensures never_falls { read_faults self.old ≤ read_faults self.new }
+    {
         match self.reader.read(buf) {
             Ok(0) => ReadStep::End,
             Ok(n) => {
@@ -56,25 +86,58 @@ pub struct StdSink<W: Write + Drop> {
 }
 
 impl<W: Write + Drop> StdSink<W> {
+    ghost use Rattle.tt_io.specs.StdSink.{writer_of, write_faults};
+
     /// The sink that writes to the writer.
-    pub fn new(writer: W) -> StdSink<W> {
+    pub fn new(writer: W) -> StdSink<W>
+        ensures writer { writer_of result ≡ writer }
+        ensures count { write_faults result ≡ 0 }
+    {
         StdSink { writer, faults: 0 }
     }
 }
 
 impl<W: Write + Drop> Sink for StdSink<W> {
+    ghost use Rattle.tt_io.specs.StdSink.{writer_of, write_faults};
+
     ghost written = { λ _. None };
 
-    ghost faults = { λ s. s.faults };
+    ghost faults = { λ s. write_faults s };
 
     /// Each error of the writer is a fault. So is a write of nothing, and a failed flush after a write.
-    fn write(&mut self, piece: &[u8]) -> WriteStep {
-        match self.writer.write(piece) {
-            Ok(n) if n > 0 && self.writer.flush().is_ok() => WriteStep::Took(n),
-            _ => {
-                self.faults = count_more(self.faults, 1);
-                WriteStep::Failed
-            }
+    fn write(&mut self, piece: &[u8]) -> WriteStep
+        requires { 0 < length piece.now }
+
+        ensures size { IfTook result (λ n. (0 < n) × (n ≤ length piece.now)) }
+        ensures took { IfTook result (λ n. Appends (W.contents (writer_of self.old))
+            (W.contents (writer_of self.new)) (take n piece.now)) }
+
+        // A write that is not known to have come through may have been made all the same.
+        ensures refused { OnRefused result ((n : ℕ) × (n ≤ length piece.now) × Appends (W.contents (writer_of self.old))
+            (W.contents (writer_of self.new)) (take n piece.now)) }
+        ensures fault { OnRefused result (write_faults self.new ≡ counted (write_faults self.old) 1) }
+        ensures no_fault { result ≢ WriteStep.Failed → write_faults self.new ≡ write_faults self.old }
+        ensures cause { OnRefused result (Rose (write_faults self.old) (write_faults self.new)) }
+
+        ensures never_falls { write_faults self.old ≤ write_faults self.new }
+    {
+        let step = match self.writer.write(piece) {
+            Ok(0) | Err(_) => WriteStep::Failed,
+            Ok(taken) => step_of(taken, self.writer.flush()),
+        };
+        if step == WriteStep::Failed {
+            self.faults = count_more(self.faults, 1);
         }
+        step
+    }
+}
+
+/// What a write comes to, of which the writer took so many bytes before it was flushed.
+fn step_of(taken: usize, flushed: io::Result<()>) -> WriteStep
+    ensures { result ≡ (if is_ok flushed then WriteStep.Took taken else WriteStep.Failed) }
+{
+    match flushed {
+        Ok(()) => WriteStep::Took(taken),
+        Err(_) => WriteStep::Failed,
     }
 }

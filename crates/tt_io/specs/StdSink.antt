@@ -1,0 +1,11 @@
+-- What is seen of a writer as a sink.
+use Rattle.std.specs.Prelude.{ℕ}
+use Rattle.tt_io.specs.declared.standard.StdSink.{StdSink}
+
+-- the writer
+abbrev pub writer_of : {W : Type 0} → StdSink W → W
+writer_of s = s.writer
+
+-- how many writes failed
+abbrev pub write_faults : {W : Type 0} → StdSink W → ℕ
+write_faults s = s.faults
