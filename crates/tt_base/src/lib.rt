@@ -4,12 +4,14 @@
 
 mod event;
 mod name;
+mod names;
 mod number;
 mod series;
 mod steps;
 
 pub use event::{Call, Event, Owner};
 pub use name::Name;
+pub use names::{Declared, NameEntry, NameKind, Names};
 pub use number::{DemandNo, IsrNo, Memory, ModeNo, OisrNo, OsekNo, TaskNo, Tick, VarNo};
 pub use series::Series;
 pub use steps::{Blank, Ledger, Steps};
