@@ -1,1 +1,4 @@
 pub mod Padding
+pub mod NamesLemmas
+pub mod FindLemmas
+pub mod IndexLemmas

@@ -1,6 +1,8 @@
 //! The names of a document and the numbers of what they declare.
 
 ghost use Rattle.std.specs.Prelude.{◌≡◌, [], ◌∷◌, ◌++◌, ◌<◌, IfOk, OnOk, OnErr};
+ghost use Rattle.std.specs.BTreeMap.{IsUnchanged};
+ghost use Rattle.tt_base.specs.NameIndex.{KeepsFirst};
 ghost use Rattle.tt_base.specs.Names.{count_of, declared, find_name, get_name, index_of, kind_of, number_of};
 
 use crate::name::Name;
@@ -167,9 +169,7 @@ impl Names {
         if self.entries.reserve(1).is_err() || self.by_kind[place].reserve(1).is_err() {
             return Err(Memory);
         }
-        if !self.index.contains_key(&name) && self.index.insert(name, which).is_err() {
-            return Err(Memory);
-        }
+        keep_first(&mut self.index, name, which)?;
         self.by_kind[place].push_reserved(name);
         self.entries.push_reserved(NameEntry { kind, name });
         Ok(which)
@@ -188,5 +188,40 @@ impl Names {
     {
         let names = &self.by_kind[which.kind().index()];
         names.get(which.number() as usize).copied()
+    }
+}
+
+/// Notes what a name declares. A name that declares something keeps that. On want of memory the index is unchanged.
+fn keep_first(index: &mut BTreeMap<Name, Declared>, name: Name, which: Declared) -> Result<(), Memory>
+    ensures ok { OnOk result (KeepsFirst index.old index.new name which) }
+    ensures err { OnErr result (IsUnchanged index.old index.new) }
+{
+    if index.contains_key(&name) {
+        return Ok(());
+    }
+    match index.insert(name, which) {
+        Ok(_) => Ok(()),
+        Err(_) => Err(Memory),
+    }
+}
+
+#[cfg(test)]
+mod tests {
+    use super::*;
+    use std::test::Fail;
+
+    #[test]
+    fn finds_and_gives_back_names(rt: HostRuntime) -> Result<(), Fail> {
+        let plan = Name::new(b"Plan").ok_or("no name")?;
+        let wheel = Name::new(b"Wheel").ok_or("no name")?;
+        let mut names = Names::new(rt.alloc());
+        assert_eq!(rt; names.add(NameKind::Mode, wheel)?, Declared::Mode(ModeNo(0)));
+        assert_eq!(rt; names.add(NameKind::Task, plan)?, Declared::Task(TaskNo(0)));
+        assert_eq!(rt; names.add(NameKind::Task, wheel)?, Declared::Task(TaskNo(1)));
+        assert_eq!(rt; names.find(plan), Some(Declared::Task(TaskNo(0))));
+        assert_eq!(rt; names.find(wheel), Some(Declared::Mode(ModeNo(0))));
+        assert_eq!(rt; names.get(Declared::Task(TaskNo(1))), Some(wheel));
+        assert_eq!(rt; names.get(Declared::Isr(IsrNo(0))), None);
+        Ok(())
     }
 }
