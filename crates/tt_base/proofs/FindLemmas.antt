@@ -1,7 +1,7 @@
 -- What a name declares, as the names grow.
-use Rattle.std.proofs.Common.{◌≡◌, ℕ, ◌+◌, ◌≤◌, ◌<◌, Bool, true, false, cond, eqb, List, [], ◌∷◌, ◌++◌, length, take, Option, Some, None, arith, ap, sym, ◌∙◌, subst, refl, ⊎_elim, if◌then◌else◌, not, length-append}
-use Rattle.std.specs.Prelude.{slice_get, position, option_and_then, option_map}
-use Rattle.std.specs.List.{prefix_len, position_or_len}
+use Rattle.std.proofs.Common.{◌≡◌, ℕ, ◌≤◌, ◌<◌, Bool, true, false, eqb, List, [], ◌∷◌, ◌++◌, length, Option, Some, None, arith, ap, sym, ◌∙◌, refl, ⊎_elim, if◌then◌else◌, not}
+use Rattle.std.specs.Prelude.{position, option_and_then}
+use Rattle.std.specs.List.{position_or_len}
 use Rattle.std.specs.Str.{bytes_eq}
 use Rattle.std.proofs.lemmas.Grind.{common_steps}
 use Rattle.std.proofs.lemmas.List.{take-append-le, take_all}
@@ -127,7 +127,7 @@ pub find_name-push_new : (names : List NameEntry) (entry : NameEntry) → find_n
     → (name : List ℕ) → find_name (names ++ entry ∷ []) name ≡ (if bytes_eq entry.name name then Some (declared entry.kind (count_of entry.kind names)) else find_name names name)
 find_name-push_new names entry unknown name = at_known (find_name names name) (bytes_eq entry.name name) refl refl where
   at_known : (found : Option Declared) (same : Bool) → find_name names name ≡ found → bytes_eq entry.name name ≡ same
-    → find_name (names ++ entry ∷ []) name ≡ (if same then Some (declared entry.kind (count_of entry.kind names)) else find_name names name)
+      → find_name (names ++ entry ∷ []) name ≡ (if same then Some (declared entry.kind (count_of entry.kind names)) else find_name names name)
   at_known (Some other) true is same = let e : entry.name ≡ name = same_bytes entry.name name same in absurd (cc)
   at_known (Some other) false is same = find_name-push_known names entry name other is ∙ sym is
   at_known None true is same = find_name-push_unknown names entry name is ∙ ap (λ b. if b then Some (declared entry.kind (count_of entry.kind names)) else None) same

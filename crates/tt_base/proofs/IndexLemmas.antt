@@ -1,10 +1,10 @@
 -- How the lists and the map of the names follow the names.
-use Rattle.std.proofs.Common.{◌≡◌, ℕ, zero, suc, ◌+◌, ◌≤◌, ◌<◌, Bool, true, false, cond, eqb, List, [], ◌∷◌, ◌++◌, length, map, filter, get_or, set, Option, Some, None, Bor, Vec, Global, vec_len, arith, ap, sym, ◌∙◌, subst, refl, ⊎_elim, if◌then◌else◌}
+use Rattle.std.proofs.Common.{◌≡◌, ℕ, zero, suc, ◌<◌, Bool, true, false, cond, eqb, List, [], ◌∷◌, ◌++◌, length, map, filter, get_or, set, Option, Some, None, Bor, Vec, Global, vec_len, arith, ap, sym, ◌∙◌, refl, ⊎_elim, if◌then◌else◌}
 use Rattle.std.specs.Prelude.{slice_get, option_map, unwrap_or}
 use Rattle.std.specs.Option.{option_copied}
 use Rattle.std.specs.Slice.{IsGetResult}
 use Rattle.std.specs.Str.{bytes_eq}
-use Rattle.std.specs.BTreeMap.{BTreeMap, get, Updates}
+use Rattle.std.specs.BTreeMap.{get, Updates}
 use Rattle.std.specs.Ordering.{nat_cmp}
 use Rattle.std.specs.Cmp.Lexicographic.{slice_cmp}
 use Rattle.std.proofs.lemmas.List.{length-map}
@@ -109,7 +109,7 @@ pub IsIndexed-set : (names : List NameEntry) (lists : Lists) (index : Index) →
     → (kind : NameKind) (i : ℕ) (list : Vec (List ℕ) Global) → i ≡ index_of kind → list.items ≡ names_of kind names → IsIndexed names (set lists i list) index
 IsIndexed-set names lists index indexed kind i list is same = record {
   by_kind = λ other. replaced lists i list (index_of other) (names_of other names) (within names lists index indexed kind i is)
-    (λ e. same ∙ names_of-index kind other names (sym is ∙ e)) (λ apart. indexed.by_kind other);
+      (λ e. same ∙ names_of-index kind other names (sym is ∙ e)) (λ apart. indexed.by_kind other);
   found = indexed.found;
 }
 
@@ -127,10 +127,10 @@ pub IsIndexed-push : (names : List NameEntry) (lists : Lists) (index new : Index
     → ((name : List ℕ) → get (slice_cmp nat_cmp) new name ≡ find_name (names ++ entry ∷ []) name) → IsIndexed (names ++ entry ∷ []) (set lists i list) new
 IsIndexed-push names lists index new entry indexed i list is more found = record {
   by_kind = λ other. replaced lists i list (index_of other) (names_of other (names ++ entry ∷ [])) (within names lists index indexed entry.kind i is)
-    (λ e. let same : index_of entry.kind ≡ index_of other = sym is ∙ e in
+      (λ e. let same : index_of entry.kind ≡ index_of other = sym is ∙ e in
       more ∙ ap (λ ns. ns ++ entry.name ∷ []) (names_of-index entry.kind other names same)
       ∙ sym (names_of-push_same other names entry (is_same_kind-same other entry.kind same)))
-    (λ apart. indexed.by_kind other
+      (λ apart. indexed.by_kind other
       ∙ ap Some (sym (names_of-push_other other names entry (is_same_kind-apart other entry.kind (λ e. apart (is ∙ e))))));
   found = found;
 }
@@ -141,15 +141,15 @@ pub found-push : (names : List NameEntry) (lists : Lists) (index new : Index) (e
     → (name : List ℕ) → get (slice_cmp nat_cmp) new name ≡ find_name (names ++ entry ∷ []) name
 found-push names lists index new entry indexed which is keeps name =
     keeps name ∙ rw (indexed.found entry.name, indexed.found name) (at_known (find_name names entry.name) refl (bytes_eq entry.name name) refl) where
-  at_known : (found : Option Declared) → find_name names entry.name ≡ found → (same : Bool) → bytes_eq entry.name name ≡ same
-    → (if same then Some (unwrap_or found which) else find_name names name) ≡ find_name (names ++ entry ∷ []) name
-  at_known (Some other) known true same =
-      let e : entry.name ≡ name = same_bytes entry.name name same in
-      sym known ∙ ap (find_name names) e ∙ sym (find_name-push_repeat names entry other known name)
-  at_known (Some other) known false same = sym (find_name-push_repeat names entry other known name)
-  at_known None unknown same eq = ap (λ w. if same then Some w else find_name names name) is
-      ∙ ap (λ b. if b then Some (declared entry.kind (count_of entry.kind names)) else find_name names name) (sym eq)
-      ∙ sym (find_name-push_new names entry unknown name)
+      at_known : (found : Option Declared) → find_name names entry.name ≡ found → (same : Bool) → bytes_eq entry.name name ≡ same
+          → (if same then Some (unwrap_or found which) else find_name names name) ≡ find_name (names ++ entry ∷ []) name
+      at_known (Some other) known true same =
+          let e : entry.name ≡ name = same_bytes entry.name name same in
+          sym known ∙ ap (find_name names) e ∙ sym (find_name-push_repeat names entry other known name)
+      at_known (Some other) known false same = sym (find_name-push_repeat names entry other known name)
+      at_known None unknown same eq = ap (λ w. if same then Some w else find_name names name) is
+          ∙ ap (λ b. if b then Some (declared entry.kind (count_of entry.kind names)) else find_name names name) (sym eq)
+          ∙ sym (find_name-push_new names entry unknown name)
 
 -- the entry that was put into the map is the first of its name
 pub KeepsFirst-new : (index new : Index) (name : List ℕ) (which : Declared) → get (slice_cmp nat_cmp) index name ≡ None

@@ -1,26 +1,12 @@
 -- How the names of a document grow by one.
-use Rattle.std.proofs.Common.{◌≡◌, ℕ, zero, suc, ◌+◌, ◌≤◌, ◌<◌, Bool, true, false, cond, eqb, List, [], ◌∷◌, ◌++◌, length, take, map, filter, get_or, set, Option, Some, None, Bor, arith, ap, sym, ◌∙◌, subst, refl, ⊎_elim, if◌then◌else◌, not}
-use Rattle.std.specs.Prelude.{slice_get, position, option_and_then, option_map}
-use Rattle.std.specs.Option.{option_copied}
-use Rattle.std.specs.Slice.{IsGetResult}
-use Rattle.std.specs.List.{prefix_len, position_or_len}
-use Rattle.std.specs.Str.{bytes_eq}
+use Rattle.std.proofs.Common.{◌≡◌, ℕ, zero, suc, ◌<◌, true, false, List, [], ◌∷◌, ◌++◌, length, Some, arith, refl}
+use Rattle.std.specs.Prelude.{slice_get}
 use Rattle.std.proofs.lemmas.Grind.{common_steps}
-use Rattle.std.proofs.lemmas.List.{map-append, append-nil, take-append-le}
+use Rattle.std.proofs.lemmas.List.{map-append, append-nil}
 use Rattle.std.proofs.lemmas.List.Elements.{filter-append}
-use Rattle.std.proofs.lemmas.List.Folds.{prefix_len-append}
-use Rattle.std.proofs.lemmas.List.Sums.{prefix_len-le-length}
-use Rattle.std.proofs.lemmas.Bool.{cases_lt}
-use Rattle.std.proofs.lemmas.Bool.Decides.{nat_tests}
-use Rattle.std.proofs.lemmas.Option.{slice_get_past, slice_get-get_or, slice_get-map}
-use Rattle.std.specs.declared.alloc.Global.{Global}
-use Rattle.std.specs.declared.vec.Vec.{Vec}
-use Rattle.std.specs.BTreeMap.{BTreeMap}
-use Rattle.tt_base.specs.NameIndex.{IsIndexed}
-use Rattle.tt_base.specs.Names.{index_of, is_same_kind, names_of, count_of, declared, declared_at, place_of, find_name}
+use Rattle.tt_base.specs.Names.{is_same_kind, names_of}
 use Rattle.tt_base.specs.declared.names.NameKind.{NameKind}
 use Rattle.tt_base.specs.declared.names.NameEntry.{NameEntry}
-use Rattle.tt_base.specs.declared.names.Declared.{Declared}
 
 -- one more name of the kind
 pub names_of-push_same : (kind : NameKind) (names : List NameEntry) (entry : NameEntry) → is_same_kind kind entry.kind ≡ true
@@ -40,4 +26,3 @@ slice_get-append_left (x ∷ xs) ys (suc i) lt = slice_get-append_left xs ys i (
 pub slice_get-push : {X : Type 0} (xs : List X) (x : X) → slice_get (xs ++ x ∷ []) (length xs) ≡ Some x
 slice_get-push [] x = refl
 slice_get-push (y ∷ xs) x = slice_get-push xs x
-

@@ -192,7 +192,11 @@ impl Names {
 }
 
 /// Notes what a name declares. A name that declares something keeps that. On want of memory the index is unchanged.
-fn keep_first(index: &mut BTreeMap<Name, Declared>, name: Name, which: Declared) -> Result<(), Memory>
+fn keep_first(
+    index: &mut BTreeMap<Name, Declared>,
+    name: Name,
+    which: Declared,
+) -> Result<(), Memory>
     ensures ok { OnOk result (KeepsFirst index.old index.new name which) }
     ensures err { OnErr result (IsUnchanged index.old index.new) }
 {
@@ -215,9 +219,15 @@ mod tests {
         let plan = Name::new(b"Plan").ok_or("no name")?;
         let wheel = Name::new(b"Wheel").ok_or("no name")?;
         let mut names = Names::new(rt.alloc());
-        assert_eq!(rt; names.add(NameKind::Mode, wheel)?, Declared::Mode(ModeNo(0)));
+        assert_eq!(rt;
+            names.add(NameKind::Mode, wheel)?,
+            Declared::Mode(ModeNo(0))
+        );
         assert_eq!(rt; names.add(NameKind::Task, plan)?, Declared::Task(TaskNo(0)));
-        assert_eq!(rt; names.add(NameKind::Task, wheel)?, Declared::Task(TaskNo(1)));
+        assert_eq!(rt;
+            names.add(NameKind::Task, wheel)?,
+            Declared::Task(TaskNo(1))
+        );
         assert_eq!(rt; names.find(plan), Some(Declared::Task(TaskNo(0))));
         assert_eq!(rt; names.find(wheel), Some(Declared::Mode(ModeNo(0))));
         assert_eq!(rt; names.get(Declared::Task(TaskNo(1))), Some(wheel));

@@ -1,4 +1,3 @@
-use Rattle.std.proofs.Common.{◌≡◌}
 use Rattle.tt_base.proofs.IndexLemmas.{IsIndexed-new}
 use Rattle.tt_base.proofs.names.Names.new.Goals as goal
 
