@@ -1,8 +1,8 @@
 -- Laws of lines: the first line of a text, and what follows it.
-use Rattle.std.proofs.Common.{◌≡◌, ℕ, ◌+◌, ◌-◌, ◌<◌, ◌≤◌, zero, suc, Bool, true, false, not, ◌&&◌, ◌==◌, cond, List, [], ◌∷◌, ◌++◌, length, take, drop, Option, Some, None, refl, sym, ap, ◌∙◌, subst, arith, inl, inr, unwrap_or, is_some}
+use Rattle.std.proofs.Common.{◌≡◌, ℕ, ◌+◌, ◌-◌, ◌<◌, ◌≤◌, zero, suc, Bool, true, false, not, ◌==◌, cond, List, [], ◌∷◌, ◌++◌, length, take, drop, Option, Some, None, refl, sym, ap, ◌∙◌, subst, arith, inl, inr, unwrap_or, is_some}
 use Rattle.std.specs.Prelude.{nat_lt, nat_le, slice_range}
-use Rattle.std.specs.List.{list_all, position, position_or_len, prefix_len}
-use Rattle.std.proofs.lemmas.Bool.{cond_both, cond-true, cond-false, and_parts, false≢true, cases_Bool, lt-ltb, le-ltb, ne_eqb, leb-true, ltb-false, ltb-true, eqb-false}
+use Rattle.std.specs.List.{list_all, position, position_or_len}
+use Rattle.std.proofs.lemmas.Bool.{cond-true, cond-false, and_parts, cases_Bool, lt-ltb, le-ltb, ne_eqb, leb-true, ltb-false, eqb-false}
 use Rattle.std.proofs.lemmas.Bool.Decides.{nat_tests}
 use Rattle.std.proofs.lemmas.List.{length-take, length-take-le, drop-drop, take_rest}
 use Rattle.std.proofs.lemmas.List.Sums.{prefix_len-le-length}
@@ -40,14 +40,15 @@ begins [] some = absurd (omega arith)
 begins (b ∷ bytes) some =
     let n = position_or_len is_lf bytes in
     elim (cases_Bool (b == 10)) [
-      inl lf ↦
-        let first : position_or_len is_lf (b ∷ bytes) ≡ 0 = ap (λ t. cond (not t) (1 + n) 0) lf in
-        subst (Begins (b ∷ bytes)) (sym first) 
-        (cond-true (b == 10) (record { text = []; ended = true } ∷ lines_of bytes) (in_front b (lines_of bytes)) lf
-        ∙ ap (λ ended. record { text = []; ended = ended } ∷ lines_of bytes) (sym (lt-ltb 0 (suc (length bytes)) (omega arith))))
-    | inr other ↦
-        let more : position_or_len is_lf (b ∷ bytes) ≡ suc n = ap (λ t. cond (not t) (1 + n) 0) other ∙ omega arith in
-        subst (Begins (b ∷ bytes)) (sym more) (begins_by_one b bytes n (within bytes) (begins bytes) other) ]
+      | inl lf ↦
+          let first : position_or_len is_lf (b ∷ bytes) ≡ 0 = ap (λ t. cond (not t) (1 + n) 0) lf in
+          subst (Begins (b ∷ bytes)) (sym first)
+          (cond-true (b == 10) (record { text = []; ended = true } ∷ lines_of bytes) (in_front b (lines_of bytes)) lf
+          ∙ ap (λ ended. record { text = []; ended = ended } ∷ lines_of bytes) (sym (lt-ltb 0 (suc (length bytes)) (omega arith))))
+      | inr other ↦
+          let more : position_or_len is_lf (b ∷ bytes) ≡ suc n = ap (λ t. cond (not t) (1 + n) 0) other ∙ omega arith in
+          subst (Begins (b ∷ bytes)) (sym more) (begins_by_one b bytes n (within bytes) (begins bytes) other)
+    ]
 
 -- the first line of a text goes up to the first LF, or to the text's end where there is none
 pub lines_of-first : (bytes : List ℕ) (n : ℕ) → n ≡ position_or_len (λ b. b == 10) bytes → 0 < length bytes
@@ -60,8 +61,9 @@ lines_of-first bytes n is some =
 unwrap_or-cond : (n m : ℕ) → n ≤ m → unwrap_or (cond (nat_lt n m) (Some n) None) m ≡ n
 unwrap_or-cond n m h =
     elim (cases_Bool (nat_lt n m)) [
-      inl below ↦ ap (λ t. unwrap_or (cond t (Some n) None) m) below
-    | inr above ↦ ap (λ t. unwrap_or (cond t (Some n) None) m) above ∙ omega (arith, ltb-false n m above) ]
+      | inl below ↦ ap (λ t. unwrap_or (cond t (Some n) None) m) below
+      | inr above ↦ ap (λ t. unwrap_or (cond t (Some n) None) m) above ∙ omega (arith, ltb-false n m above)
+    ]
 
 pub unwrap_or-position : (p : ℕ → Bool) (xs : List ℕ) → unwrap_or (position p xs) (length xs) ≡ position_or_len p xs
 unwrap_or-position p xs = unwrap_or-cond (position_or_len p xs) (length xs) (prefix_len-le-length (λ x. not (p x)) xs)
@@ -81,6 +83,20 @@ fault_of-short : (text : List ℕ) (ended : Bool) → list_all is_plain_byte tex
 fault_of-short text ended plain short =
     cond-false (not (list_all is_plain_byte text)) (Some Byte) _ (ap not plain)
     ∙ cond-false (nat_lt 200 (length text)) (Some Long) _ (le-ltb 200 (length text) short)
+
+-- a plain text, a LF and a rest are one line and the lines of the rest
+pub lines_of-plain : (text rest : List ℕ) → list_all is_plain_byte text ≡ true → lines_of (text ++ 10 ∷ rest) ≡ record { text = text; ended = true } ∷ lines_of rest
+lines_of-plain [] rest plain = refl
+lines_of-plain (b ∷ text) rest plain =
+    let parts = and_parts (is_plain_byte b) (list_all is_plain_byte text) plain in
+    let low = leb-true 32 b (and_parts (nat_le 32 b) (nat_le b 126) parts.0).0 in
+    cond-false (b == 10) (record { text = []; ended = true } ∷ lines_of (text ++ 10 ∷ rest)) (in_front b (lines_of (text ++ 10 ∷ rest)))
+    (ne_eqb b 10 (λ e. omega (arith, low)))
+    ∙ ap (in_front b) (lines_of-plain text rest parts.1)
+
+-- a plain line of at most 200 bytes that a LF ends has no fault
+pub fault_of-plain : (text : List ℕ) → list_all is_plain_byte text ≡ true → length text ≤ 200 → fault_of (record { text = text; ended = true }) ≡ None
+fault_of-plain text plain short = fault_of-short text true plain short
 
 -- what a slice holds from a place on
 abbrev pub rest_at : List ℕ → ℕ → List ℕ
@@ -158,3 +174,5 @@ lines_of-ended {bytes} {at} {lf} {n} finds some =
     ∙ ap (λ text. line_with (take n text) true ∷ lines_of (drop (n + 1) text)) (take_rest bytes at)
     ∙ ap (λ k. line_with (take k (drop at bytes)) true ∷ lines_of (drop (n + 1) (drop at bytes))) (sym far)
     ∙ ap (λ text. line_with (slice_range bytes at (at + n)) true ∷ lines_of text) (drop-drop (n + 1) at bytes ∙ ap (λ k. drop k bytes) behind)
+
+pub ruleset line_laws = (lines_of-plain, fault_of-plain)

@@ -1,5 +1,5 @@
 -- Powers of ten.
-use Rattle.std.proofs.Common.{◌≡◌, ℕ, ◌+◌, ◌-◌, ◌*◌, ◌^◌, ◌≤◌, zero, suc, arith, le_refl, add-zero, add-suc, subst}
+use Rattle.std.proofs.Common.{◌≡◌, ℕ, ◌+◌, ◌-◌, ◌^◌, ◌≤◌, zero, suc, arith, le_refl, add-zero, add-suc, subst}
 use Rattle.std.proofs.Math.Nat.{pow-suc}
 
 tens_more : (i j : ℕ) → 10 ^ i ≤ 10 ^ (i + j)

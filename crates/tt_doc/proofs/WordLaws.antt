@@ -1,5 +1,5 @@
 -- Laws of words: what a text is read as, and what is read of words that were joined.
-use Rattle.std.proofs.Common.{◌≡◌, ℕ, ◌+◌, ◌-◌, Bool, true, false, ◌&&◌, ◌==◌, cond, List, [], ◌∷◌, ◌++◌, length, refl, ap, ◌∙◌, arith}
+use Rattle.std.proofs.Common.{◌≡◌, ℕ, ◌<◌, ◌≤◌, suc, ◌+◌, ◌-◌, Bool, true, false, ◌&&◌, ◌==◌, cond, List, [], ◌∷◌, ◌++◌, length, refl, ap, ◌∙◌, arith}
 use Rattle.std.specs.List.{list_all, sum_by, filter}
 use Rattle.std.proofs.lemmas.Bool.{cond_both, cond-false, and_parts, and_from, false≢true}
 use Rattle.std.proofs.lemmas.List.{length-append}
@@ -79,4 +79,57 @@ plain-joined (word ∷ (next ∷ rest)) plain =
     list_all-append is_plain_byte word (32 ∷ joined (next ∷ rest))
     ∙ and_from (list_all is_plain_byte word) (list_all is_plain_byte (32 ∷ joined (next ∷ rest))) parts.0 (plain-joined (next ∷ rest) parts.1)
 
-pub ruleset word_laws = (words_of_are_words, words_of-joined, length-joined, plain-joined)
+plain-in_first : (b : ℕ) (pieces : List (List ℕ)) → is_plain_byte b ≡ true → list_all (list_all is_plain_byte) pieces ≡ true → list_all (list_all is_plain_byte) (in_first b pieces) ≡ true
+plain-in_first b [] plain all = ap (λ t. (t && true) && true) plain
+plain-in_first b (piece ∷ pieces) plain all = ap (λ t. (t && list_all is_plain_byte piece) && list_all (list_all is_plain_byte) pieces) plain ∙ all
+
+plain-pieces_of : (text : List ℕ) → list_all is_plain_byte text ≡ true → list_all (list_all is_plain_byte) (pieces_of text) ≡ true
+plain-pieces_of [] plain = refl
+plain-pieces_of (b ∷ bytes) plain =
+    let parts = and_parts (is_plain_byte b) (list_all is_plain_byte bytes) plain in
+    cond_both (b == 32) ([] ∷ pieces_of bytes) (in_first b (pieces_of bytes)) (λ pieces. list_all (list_all is_plain_byte) pieces ≡ true)
+    (λ space. plain-pieces_of bytes parts.1)
+    (λ other. plain-in_first b (pieces_of bytes) parts.0 (plain-pieces_of bytes parts.1))
+
+plain-some : (pieces : List (List ℕ)) → list_all (list_all is_plain_byte) pieces ≡ true → list_all (list_all is_plain_byte) (filter is_some_text pieces) ≡ true
+plain-some [] plain = refl
+plain-some ([] ∷ pieces) plain = plain-some pieces plain
+plain-some ((b ∷ bytes) ∷ pieces) plain =
+    let parts = and_parts (list_all is_plain_byte (b ∷ bytes)) (list_all (list_all is_plain_byte) pieces) plain in
+    and_from (list_all is_plain_byte (b ∷ bytes)) (list_all (list_all is_plain_byte) (filter is_some_text pieces)) parts.0 (plain-some pieces parts.1)
+
+-- the words of a plain text are plain
+pub plain-words_of : (text : List ℕ) → list_all is_plain_byte text ≡ true → list_all (list_all is_plain_byte) (words_of text) ≡ true
+plain-words_of text plain = plain-some (pieces_of text) (plain-pieces_of text plain)
+
+-- the bytes of some texts, and one more for each text
+abbrev room_of : List (List ℕ) → ℕ
+room_of [] = 0
+room_of (text ∷ texts) = suc (length text) + room_of texts
+
+room-in_first : (b : ℕ) (pieces : List (List ℕ)) → 0 < room_of pieces → room_of (in_first b pieces) ≡ room_of pieces + 1
+room-in_first b [] some = absurd (omega arith)
+room-in_first b (piece ∷ pieces) some = omega arith
+
+room-pieces_of : (text : List ℕ) → room_of (pieces_of text) ≡ length text + 1
+room-pieces_of [] = refl
+room-pieces_of (b ∷ bytes) =
+    cond_both (b == 32) ([] ∷ pieces_of bytes) (in_first b (pieces_of bytes)) (λ pieces. room_of pieces ≡ length (b ∷ bytes) + 1)
+    (λ space. omega (arith, room-pieces_of bytes))
+    (λ other. omega (arith, room-in_first b (pieces_of bytes) (omega (arith, room-pieces_of bytes)), room-pieces_of bytes))
+
+room-some : (pieces : List (List ℕ)) → room_of (filter is_some_text pieces) ≤ room_of pieces
+room-some [] = omega arith
+room-some ([] ∷ pieces) = omega (arith, room-some pieces)
+room-some ((b ∷ bytes) ∷ pieces) = omega (arith, room-some pieces)
+
+room-joined : (words : List (List ℕ)) → length (joined words) ≡ room_of words - 1
+room-joined [] = refl
+room-joined (word ∷ []) = omega arith
+room-joined (word ∷ (next ∷ rest)) = omega (arith, length-append word (32 ∷ joined (next ∷ rest)), room-joined (next ∷ rest))
+
+-- the words of a text with one space between them are no longer than the text
+pub length-joined-words_of : (text : List ℕ) → length (joined (words_of text)) ≤ length text
+length-joined-words_of text = omega (arith, room-joined (words_of text), room-some (pieces_of text), room-pieces_of text)
+
+pub ruleset word_laws = (words_of_are_words, words_of-joined, length-joined, plain-joined, plain-words_of, length-joined-words_of)

@@ -1,8 +1,8 @@
 -- The words of a line that were found so far.
-use Rattle.std.proofs.Common.{◌≡◌, ◌≢◌, ℕ, ◌+◌, ◌-◌, ◌*◌, ◌<◌, ◌≤◌, zero, suc, Bool, true, false, ◌==◌, cond, List, [], ◌∷◌, ◌++◌, length, take, drop, get_or, map, refl, sym, ap, ◌∙◌, subst, arith, inl, inr, All, AllPairs}
+use Rattle.std.proofs.Common.{◌≡◌, ◌≢◌, ℕ, ◌+◌, ◌-◌, ◌*◌, ◌<◌, ◌≤◌, suc, Bool, true, false, ◌==◌, cond, List, [], ◌∷◌, ◌++◌, length, take, drop, get_or, map, refl, sym, ap, ◌∙◌, subst, arith, All, AllPairs}
 use Rattle.std.specs.Prelude.{nat_lt, slice_range, filter}
 use Rattle.std.proofs.Math.Seq.{take-add}
-use Rattle.std.proofs.lemmas.Bool.{cond_both, cond-true, cond-false, cases_Bool, lt-ltb, le-ltb, ne_eqb, ltb-true, ltb-false}
+use Rattle.std.proofs.lemmas.Bool.{cond_both, cond-false, lt-ltb, ne_eqb, ltb-true}
 use Rattle.std.proofs.lemmas.Bool.Decides.{nat_tests}
 use Rattle.std.proofs.lemmas.List.{append_assoc, map-append, append-nil, drop-drop, drop_more, length_push}
 use Rattle.std.proofs.lemmas.List.Edits.{between_none, between_more, length-between}
@@ -119,9 +119,9 @@ passed_space {bytes} {span} {words} {start} {at} passed before inside space =
     let rest = slice_range bytes (at + 1) span.end in
     let split = split_at bytes start at span.end passed.to before (omega arith) ∙ ap (λ b. piece ++ b ∷ rest) space in
     let read =
-      sym (read_piece bytes words start at (pieces_of rest) (omega arith))
-      ∙ ap (λ pieces. map (text_of bytes) words ++ filter is_some_text pieces) (sym (ap pieces_of split ∙ pieces_of-piece piece rest passed.clean))
-      ∙ passed.read in
+    sym (read_piece bytes words start at (pieces_of rest) (omega arith))
+    ∙ ap (λ pieces. map (text_of bytes) words ++ filter is_some_text pieces) (sym (ap pieces_of split ∙ pieces_of-piece piece rest passed.clean))
+    ∙ passed.read in
     record {
       read = read;
       clean = ap has_no_space (between_none bytes (at + 1));
@@ -129,7 +129,7 @@ passed_space {bytes} {span} {words} {start} {at} passed before inside space =
       to = omega arith;
       few = few_with_word words span.start start at passed.few passed.to;
       within = all_with_word (λ word. (span.start ≤ word.start) × (word.end < at + 1)) words start at
-        (λ k d below. let one = passed.within k d below in (one.0, omega (arith, one.1, passed.to))) (λ some. (passed.from, omega arith));
+          (λ k d below. let one = passed.within k d below in (one.0, omega (arith, one.1, passed.to))) (λ some. (passed.from, omega arith));
       some = all_with_word (λ word. word.start < word.end) words start at passed.some (λ some. some);
       ascend = ascend_with_word words start at passed.ascend (λ k d below. (passed.within k d below).1);
     }
@@ -145,14 +145,14 @@ pub all_passed : {bytes : List ℕ} {span : Span} {words : List Span} {start : �
 all_passed {bytes} {span} {words} {start} passed inside =
     let piece = slice_range bytes start span.end in
     let read =
-      sym (append-nil (map (text_of bytes) (with_word words start span.end)))
-      ∙ sym (read_piece bytes words start span.end [] inside)
-      ∙ ap (λ pieces. map (text_of bytes) words ++ filter is_some_text pieces) (sym (pieces_of-last piece passed.clean))
-      ∙ passed.read in
+    sym (append-nil (map (text_of bytes) (with_word words start span.end)))
+    ∙ sym (read_piece bytes words start span.end [] inside)
+    ∙ ap (λ pieces. map (text_of bytes) words ++ filter is_some_text pieces) (sym (pieces_of-last piece passed.clean))
+    ∙ passed.read in
     record {
       read = read;
       within = all_with_word (λ word. (span.start ≤ word.start) × (word.end ≤ span.end)) words start span.end
-        (λ k d below. let one = passed.within k d below in (one.0, omega (arith, one.1, passed.to))) (λ some. (passed.from, omega arith));
+          (λ k d below. let one = passed.within k d below in (one.0, omega (arith, one.1, passed.to))) (λ some. (passed.from, omega arith));
       some = all_with_word (λ word. word.start < word.end) words start span.end passed.some (λ some. some);
       ascend = ascend_with_word words start span.end passed.ascend (λ k d below. (passed.within k d below).1);
     }

@@ -1,14 +1,26 @@
-//! Laws of the words, numbers and integers of a document. Each is the contract of a function with nothing to do, so that
+//! Laws of the lines, words, numbers and integers of a document. Each is the contract of a function with nothing to do, so that
 //! it is proved with the crate.
-#![tactic(auto, using(crate::proofs::WordLaws::word_laws, crate::proofs::NumberLaws::number_laws))]
+#![tactic(auto, using(crate::proofs::LineLaws::line_laws, crate::proofs::WordLaws::word_laws, crate::proofs::NumberLaws::number_laws))]
 
-ghost use Rattle.std.specs.Prelude.{◌≡◌, ◌+◌, ◌-◌, ◌^◌, ◌<◌, ℕ, ℤ, List, Some, length, sum_by, IsTrue, FitsSigned};
+ghost use Rattle.std.specs.Prelude.{◌≡◌, ◌+◌, ◌-◌, ◌^◌, ◌<◌, ◌≤◌, ◌∷◌, ◌++◌, true, None, ℕ, ℤ, List, Some, length, sum_by, IsTrue, FitsSigned};
 ghost use Rattle.std.specs.Int.{w32};
 ghost use Rattle.std.specs.List.{list_all};
 ghost use Rattle.std.specs.Fmt.{decimal, signed_decimal};
-ghost use Rattle.tt_doc.specs.Lines.{is_plain_byte};
+ghost use Rattle.tt_doc.specs.Lines.{is_plain_byte, lines_of, fault_of};
 ghost use Rattle.tt_doc.specs.Numbers.{number_of, integer_of};
 ghost use Rattle.tt_doc.specs.Words.{words_of, joined, is_word};
+
+/// A plain text, a LF and a rest are read as a line of that text and the lines of the rest.
+pub fn plain_lines_are_read()
+    ensures { (text rest : List ℕ) → IsTrue (list_all is_plain_byte text)
+        → lines_of (text ++ 10 ∷ rest) ≡ record { text = text; ended = true } ∷ lines_of rest }
+{}
+
+/// A plain line of at most 200 bytes that a LF ends has no fault.
+pub fn short_plain_lines_are_good()
+    ensures { (text : List ℕ) → IsTrue (list_all is_plain_byte text) → length text ≤ 200
+        → fault_of (record { text = text; ended = true }) ≡ None }
+{}
 
 /// Each word of a text is some bytes, and none of them is a space.
 pub fn words_are_words()
@@ -28,6 +40,16 @@ pub fn joined_words_have_length()
 /// Plain words make a plain text.
 pub fn joined_words_are_plain()
     ensures { (words : List (List ℕ)) → IsTrue (list_all (list_all is_plain_byte) words) → IsTrue (list_all is_plain_byte (joined words)) }
+{}
+
+/// The words of a plain text are plain.
+pub fn words_of_plain_text_are_plain()
+    ensures { (text : List ℕ) → IsTrue (list_all is_plain_byte text) → IsTrue (list_all (list_all is_plain_byte) (words_of text)) }
+{}
+
+/// The words of a text with one space between them are no longer than the text.
+pub fn joined_words_are_no_longer()
+    ensures { (text : List ℕ) → length (joined (words_of text)) ≤ length text }
 {}
 
 /// A number below 10^12 is read from its decimal spelling.

@@ -9,3 +9,6 @@ mod numbers;
 pub use line_words::words;
 pub use lines::{LineKind, LineStep, Span, next_line};
 pub use numbers::{integer, number};
+
+#[cfg(test)]
+mod tests;

@@ -4,9 +4,8 @@ ghost use Rattle.arrayvec.specs.ArrayVec.{array_vec_len};
 ghost use Rattle.tt_doc.specs.Span.{text_of};
 ghost use Rattle.tt_doc.specs.Words.{words_of};
 
-use arrayvec::ArrayVec;
-
 use crate::Span;
+use arrayvec::ArrayVec;
 
 /// Adds a word, unless it has no bytes.
 fn push_word(words: &mut ArrayVec<Span, 100>, word: Span)
@@ -27,7 +26,7 @@ pub fn words(bytes: &[u8], span: Span) -> ArrayVec<Span, 100>
 
     ensures words { map (text_of bytes.now) result.items ≡ words_of (text_of bytes.now span) }
     ensures within { All (λ word. (span.start ≤ word.start) × (word.end ≤ span.end)) result.items }
-    ensures some { All (λ word. word.start < word.end) result.items }
+    ensures not_empty { All (λ word. word.start < word.end) result.items }
     ensures ascend { AllPairs (λ earlier later. earlier.end < later.start) result.items }
 {
     let mut words = ArrayVec::new();
@@ -38,6 +37,12 @@ pub fn words(bytes: &[u8], span: Span) -> ArrayVec<Span, 100>
             start = at + 1;
         }
     }
-    push_word(&mut words, Span { start, end: span.end });
+    push_word(
+        &mut words,
+        Span {
+            start,
+            end: span.end,
+        },
+    );
     words
 }

@@ -1,6 +1,6 @@
 -- The first LF of the rest tells the first line, and what it has wrong.
 use Rattle.std.proofs.Common.{arith, not, ap, sym, ◌∙◌}
-use Rattle.tt_doc.proofs.LineLaws.{FindsLf, begins_with_byte, begins_with_long, begins_with_cut, lines_of-ended}
+use Rattle.tt_doc.proofs.LineLaws.{begins_with_byte, begins_with_long, begins_with_cut, lines_of-ended}
 use Rattle.tt_doc.proofs.lines.next_line.Goals as goal
 
 pub returns-then-not-is_plain-clause-fault : goal.returns-then-not-is_plain-clause-fault

@@ -1,4 +1,4 @@
-use Rattle.std.proofs.Common.{◌≡◌, ◌∙◌, ◌<◌, ◌^◌, ℕ, sym, ap, subst}
+use Rattle.std.proofs.Common.{◌∙◌, ◌<◌, ◌^◌, ℕ, sym, ap, subst}
 use Rattle.std.specs.Fmt.{decimal}
 use Rattle.tt_doc.proofs.NumberLaws.{is_number-spelled}
 use Rattle.tt_doc.proofs.numbers.number.Goals as goal
