@@ -1,7 +1,6 @@
 -- What the next line of a document says.
 use Rattle.std.specs.Prelude.{◌≡◌, ℕ, List, ◌∷◌, Some}
-use Rattle.tt_doc.specs.Lines.{fault_of}
-use Rattle.tt_doc.specs.Lines.{Line as LineOfText}
+use Rattle.tt_doc.specs.Lines.{Line as LineOfText, fault_of}
 use Rattle.tt_doc.specs.declared.lines.LineKind.{LineKind}
 use Rattle.tt_doc.specs.declared.lines.LineStep.{LineStep}
 use Rattle.tt_doc.specs.declared.lines.LineStep.TheVariants.{End, Line, Fault}

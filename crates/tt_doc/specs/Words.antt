@@ -11,10 +11,12 @@ abbrev pub pieces_of : List ℕ → List (List ℕ)
 pieces_of [] = [] ∷ []
 pieces_of (b ∷ bytes) = if b == 32 then [] ∷ pieces_of bytes else in_first b (pieces_of bytes)
 
+-- some bytes
 abbrev pub is_some_text : List ℕ → Bool
 is_some_text [] = false
 is_some_text (b ∷ bytes) = true
 
+-- the words of a text, in order
 abbrev pub words_of : List ℕ → List (List ℕ)
 words_of text = filter is_some_text (pieces_of text)
 
@@ -24,10 +26,11 @@ joined [] = []
 joined (word ∷ []) = word
 joined (word ∷ (next ∷ rest)) = word ++ 32 ∷ joined (next ∷ rest)
 
--- bytes that can be a word: some, and none of them a space
+-- no byte is a space
 abbrev pub has_no_space : List ℕ → Bool
 has_no_space [] = true
 has_no_space (b ∷ bytes) = if b == 32 then false else has_no_space bytes
 
+-- bytes that can be a word: some, and none of them a space
 abbrev pub is_word : List ℕ → Bool
 is_word word = is_some_text word && has_no_space word
