@@ -1,5 +1,5 @@
 -- Bytes that are taken piece by piece.
-use Rattle.std.proofs.Common.{◌≡◌, ◌+◌, ◌-◌, ◌≤◌, ℕ, List, ◌++◌, Option, length, take, drop, arith, sym, ap, ◌∙◌, subst, append_assoc, length-take-le, take-append-drop, take_at}
+use Rattle.std.proofs.Common.{◌≡◌, ◌+◌, ◌-◌, ◌≤◌, ℕ, List, ◌++◌, Option, length, take, drop, arith, sym, ap, ◌∙◌, subst, length-take-le, take-append-drop, take_at}
 use Rattle.std.proofs.lemmas.List.{take_rest, drop-drop, take-append-le}
 use Rattle.std.proofs.Math.Seq.{take-append-add}
 use borrow.Rule.Slice.PartMut.{put_mid, post_of}

@@ -7,6 +7,7 @@ pub mod Passes
 pub mod ReadStep
 pub mod StdSink
 pub mod StdSource
+pub mod Supply
 pub mod SureSource
 pub mod TakeFault
 pub mod WriteStep

@@ -1,10 +1,11 @@
 -- What is seen of a source over memory.
-use Rattle.std.specs.Prelude.{ℕ, List, drop}
+use Rattle.std.specs.Prelude.{ℕ, List}
+use Rattle.tt_io.specs.Supply.{bytes_left}
 use Rattle.tt_io.specs.declared.mem.MemSource.{MemSource}
 
 -- the bytes left
 abbrev pub left_of : MemSource → List ℕ
-left_of s = drop s.supply.at s.supply.bytes.items
+left_of s = bytes_left s.supply
 
 -- the most bytes that one read gives
 abbrev pub chunk_of : MemSource → ℕ

@@ -1,10 +1,11 @@
 -- What is seen of a source over memory that never fails.
-use Rattle.std.specs.Prelude.{ℕ, List, drop}
+use Rattle.std.specs.Prelude.{ℕ, List}
+use Rattle.tt_io.specs.Supply.{bytes_left}
 use Rattle.tt_io.specs.declared.mem.SureSource.{SureSource}
 
 -- the bytes left
 abbrev pub rest_of : SureSource → List ℕ
-rest_of s = drop s.supply.at s.supply.bytes.items
+rest_of s = bytes_left s.supply
 
 -- the most bytes that one read gives
 abbrev pub most_of : SureSource → ℕ

@@ -1,7 +1,7 @@
 //! A buffer before a sink.
 
 ghost use Rattle.std.specs.Io.KnownBytes.{Appends};
-ghost use Rattle.std.specs.Prelude.{◌≡◌, ◌≤◌, ◌++◌, [], length, OnOk, OnErr, IsOk};
+ghost use Rattle.std.specs.Prelude.{◌≡◌, ◌<◌, ◌≤◌, ◌++◌, [], length, OnOk, OnErr, IsOk};
 ghost use Rattle.tt_io.specs.Count.{Rose};
 ghost use Rattle.tt_io.specs.Known.{AppendsPart};
 ghost use Rattle.tt_io.specs.Passes.{Passes};
@@ -10,7 +10,8 @@ use crate::{Sink, WriteFault, put_all};
 use arrayvec::ArrayVec;
 use std::marker::Model;
 
-/// How many bytes a buffer holds at most.
+/// How many bytes a buffer holds at most: as many as std's own buffered writer. Eight times as many write ten million
+/// short lines to a file by a third faster, and make each buffer that much larger on the stack.
 pub const CAPACITY: usize = 8 * 1024;
 
 /// Bytes on their way to a sink, so that many small pieces make one write. It stands beside the sink, takes no memory,
@@ -28,6 +29,14 @@ impl Model for Buffer {
     ghost view = { λ b. b.held.items };
 }
 
+impl Default for Buffer {
+    ghost is_default = { λ b. b ≡ [] };
+
+    fn default() -> Buffer {
+        Buffer::new()
+    }
+}
+
 impl Buffer {
     /// A buffer in which nothing waits.
     pub fn new() -> Buffer
@@ -41,11 +50,14 @@ impl Buffer {
     /// Appends a piece. It waits where it has room, and else what waits is sent first. A piece that is larger than the
     /// buffer goes to the sink at once. After a fault nothing waits.
     pub fn put<O: Sink>(&mut self, sink: &mut O, piece: &[u8]) -> Result<(), WriteFault>
-        ensures ok { OnOk result (Passes (O.written sink.old) (O.written sink.new) (self.old ++ piece.now) self.new) }
+        ensures ok { OnOk result (Passes (O.written sink.old) (O.written sink.new)
+            (self.old ++ piece.now) self.new) }
         ensures waits { length (self.old ++ piece.now) ≤ CAPACITY → IsOk result
             × (self.new ≡ self.old ++ piece.now) × (sink.new ≡ sink.old) }
+        ensures larger { CAPACITY < length piece.now → self.new ≡ [] }
 
-        ensures part { OnErr result (AppendsPart (O.written sink.old) (O.written sink.new) (self.old ++ piece.now)) }
+        ensures part { OnErr result (AppendsPart (O.written sink.old) (O.written sink.new)
+            (self.old ++ piece.now)) }
         ensures none_waits { OnErr result (self.new ≡ []) }
         ensures cause { OnErr result (Rose (O.faults sink.old) (O.faults sink.new)) }
 
@@ -66,7 +78,8 @@ impl Buffer {
         ensures ok { OnOk result (Appends (O.written sink.old) (O.written sink.new) self.old) }
         ensures empty { self.old ≡ [] → sink.new ≡ sink.old }
 
-        ensures part { OnErr result (AppendsPart (O.written sink.old) (O.written sink.new) self.old) }
+        ensures part { OnErr result (
+            AppendsPart (O.written sink.old) (O.written sink.new) self.old) }
         ensures cause { OnErr result (Rose (O.faults sink.old) (O.faults sink.new)) }
 
         ensures none_waits { self.new ≡ [] }

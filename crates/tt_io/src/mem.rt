@@ -1,6 +1,6 @@
 //! Sources and sinks over memory.
 
-ghost use Rattle.std.specs.Prelude.{◌≡◌, ◌≢◌, ◌<◌, ◌≤◌, ◌-◌, ◌⊎◌, ◌↔◌, ◌++◌, ℕ, List, Some, None, [], length, take, drop, min, IfOk, Contains, vec_len, vec_capacity};
+ghost use Rattle.std.specs.Prelude.{◌≡◌, ◌≢◌, ◌<◌, ◌≤◌, ◌-◌, ◌⊎◌, ◌↔◌, ◌++◌, Some, None, [], length, take, min, IfOk, Contains, vec_len, vec_capacity};
 ghost use Rattle.tt_io.specs.Count.{Rose, counted};
 ghost use Rattle.tt_io.specs.ReadStep.{IfGot, OnEnd, OnFailed};
 ghost use Rattle.tt_io.specs.WriteStep.{IfTook, OnRefused};
@@ -22,11 +22,13 @@ struct Supply {
 }
 
 impl Supply {
+    ghost use Rattle.tt_io.specs.Supply.{bytes_left};
+
     fn new(bytes: Vec<u8>, chunk: usize) -> Supply
         requires { 0 < chunk }
-        ensures bytes { result.bytes ≡ bytes }
-        ensures counts { (result.at ≡ 0) × (result.given ≡ 0) }
+        ensures left { bytes_left result ≡ bytes.items }
         ensures chunk { result.chunk ≡ chunk }
+        ensures count { result.given ≡ 0 }
     {
         Supply {
             bytes,
@@ -40,13 +42,16 @@ impl Supply {
     fn give(&mut self, buf: &mut [u8]) -> ReadStep
         requires { 0 < length buf.old }
         ensures sure { result ≢ ReadStep.Failed }
+
         ensures size { IfGot result (λ n. (0 < n)
-            × (n ≡ min (length (drop self.old.at self.old.bytes.items)) (min self.old.chunk (length buf.new)))) }
-        ensures got { IfGot result (λ n. drop self.old.at self.old.bytes.items
-            ≡ take n buf.new ++ drop self.new.at self.new.bytes.items) }
+            × (n ≡ min (length (bytes_left self.old)) (min self.old.chunk (length buf.new)))) }
+        ensures got { IfGot result (λ n.
+            bytes_left self.old ≡ take n buf.new ++ bytes_left self.new) }
         ensures got_count { IfGot result (λ n. self.new.given ≡ counted self.old.given n) }
-        ensures end { OnEnd result ((drop self.old.at self.old.bytes.items ≡ [])
-            × (drop self.new.at self.new.bytes.items ≡ []) × (self.new.given ≡ self.old.given)) }
+
+        ensures end { OnEnd result ((bytes_left self.old ≡ []) × (bytes_left self.new ≡ [])
+            × (self.new.given ≡ self.old.given)) }
+
         ensures same { self.new.chunk ≡ self.old.chunk }
     {
         let rest = &self.bytes[self.at..];
@@ -115,14 +120,16 @@ impl Source for MemSource {
             × (given_by self.new ≡ given_by self.old)) }
 
         // The reads that are to fail do, and are counted; no other does.
-        ensures fails { (result ≡ ReadStep.Failed) ↔ Contains (failing_of self.old) (calls_of self.old) }
+        ensures fails { (result ≡ ReadStep.Failed)
+            ↔ Contains (failing_of self.old) (calls_of self.old) }
         ensures fault { OnFailed result (faults_of self.new ≡ counted (faults_of self.old) 1) }
         ensures no_fault { result ≢ ReadStep.Failed → faults_of self.new ≡ faults_of self.old }
         ensures cause { OnFailed result (Rose (faults_of self.old) (faults_of self.new)) }
         ensures never_falls { faults_of self.old ≤ faults_of self.new }
 
         ensures call { calls_of self.new ≡ counted (calls_of self.old) 1 }
-        ensures same { (failing_of self.new ≡ failing_of self.old) × (chunk_of self.new ≡ chunk_of self.old) }
+        ensures same { (failing_of self.new ≡ failing_of self.old)
+            × (chunk_of self.new ≡ chunk_of self.old) }
     {
         let call = self.calls;
         self.calls = count_more(call, 1);
@@ -177,6 +184,7 @@ impl Source for SureSource {
 
         ensures end { OnEnd result ((rest_of self.old ≡ []) × (rest_of self.new ≡ [])
             × (given_of self.new ≡ given_of self.old)) }
+
         ensures same { most_of self.new ≡ most_of self.old }
     {
         self.supply.give(buf)
@@ -248,38 +256,39 @@ impl Sink for MemSink {
         requires { 0 < length piece.now }
 
         // As many as the piece has, as one write takes, and as there is room for.
-        ensures size { IfTook result (λ n. (0 < n)
-            × (n ≡ min (length piece.now) (min (chunk_in self.old) (room_of self.old - length (written_in self.old))))) }
-        ensures took { IfTook result (λ n. written_in self.new ≡ written_in self.old ++ take n piece.now) }
+        ensures size { IfTook result (λ n. (0 < n) × (n ≡ min (length piece.now)
+            (min (chunk_in self.old) (room_of self.old - length (written_in self.old))))) }
+        ensures took { IfTook result (λ n.
+            written_in self.new ≡ written_in self.old ++ take n piece.now) }
 
         ensures refused { OnRefused result (written_in self.new ≡ written_in self.old) }
 
         // The writes that are to fail do, and those with no room left, and are counted; no other does.
-        ensures fails { (result ≡ WriteStep.Failed) ↔ (Contains (refusing self.old) (write_calls self.old)
+        ensures fails { (result ≡ WriteStep.Failed)
+            ↔ (Contains (refusing self.old) (write_calls self.old)
             ⊎ (length (written_in self.old) ≡ room_of self.old)) }
         ensures fault { OnRefused result (sink_faults self.new ≡ counted (sink_faults self.old) 1) }
-        ensures no_fault { result ≢ WriteStep.Failed → sink_faults self.new ≡ sink_faults self.old }
+        ensures no_fault { result ≢ WriteStep.Failed
+            → sink_faults self.new ≡ sink_faults self.old }
         ensures cause { OnRefused result (Rose (sink_faults self.old) (sink_faults self.new)) }
         ensures never_falls { sink_faults self.old ≤ sink_faults self.new }
 
         ensures call { write_calls self.new ≡ counted (write_calls self.old) 1 }
-        ensures same { (refusing self.new ≡ refusing self.old) × (room_of self.new ≡ room_of self.old)
-            × (chunk_in self.new ≡ chunk_in self.old) }
+        ensures same { (refusing self.new ≡ refusing self.old)
+            × (room_of self.new ≡ room_of self.old) × (chunk_in self.new ≡ chunk_in self.old) }
     {
         let call = self.calls;
         self.calls = count_more(call, 1);
-        let n = piece
-            .len()
-            .min(self.chunk)
-            .min(self.room - self.bytes.len());
         if self.failing.contains(&call) {
             self.faults = count_more(self.faults, 1);
             return WriteStep::Failed;
         }
-        if n == 0 {
+        let room = self.room - self.bytes.len();
+        if room == 0 {
             self.faults = count_more(self.faults, 1);
             return WriteStep::Failed;
         }
+        let n = piece.len().min(self.chunk).min(room);
         // The room was reserved.
         if self.bytes.extend_from_slice(&piece[..n]).is_err() {
             unreachable!()

@@ -51,13 +51,14 @@ impl<R: Read + Drop> Source for StdSource<R> {
         ensures size { IfGot result (λ n. (0 < n) × (n ≤ length buf.new)) }
         ensures got { IfGot result (λ n. Consumes (R.remaining (reader_of self.old))
             (R.remaining (reader_of self.new)) (take n buf.new)) }
-        ensures got_count { IfGot result (λ n. bytes_given self.new ≡ counted (bytes_given self.old) n) }
+        ensures got_count { IfGot result (λ n.
+            bytes_given self.new ≡ counted (bytes_given self.old) n) }
 
         ensures end { OnEnd result (IsAtEnd (R.remaining (reader_of self.new))
             × (bytes_given self.new ≡ bytes_given self.old)) }
 
-        ensures failed { OnFailed result (Keeps (R.remaining (reader_of self.old)) (R.remaining (reader_of self.new))
-            × (bytes_given self.new ≡ bytes_given self.old)) }
+        ensures failed { OnFailed result (Keeps (R.remaining (reader_of self.old))
+            (R.remaining (reader_of self.new)) × (bytes_given self.new ≡ bytes_given self.old)) }
         ensures fault { OnFailed result (read_faults self.new ≡ counted (read_faults self.old) 1) }
         ensures no_fault { result ≢ ReadStep.Failed → read_faults self.new ≡ read_faults self.old }
         ensures cause { OnFailed result (Rose (read_faults self.old) (read_faults self.new)) }
@@ -112,11 +113,14 @@ impl<W: Write + Drop> Sink for StdSink<W> {
         ensures took { IfTook result (λ n. Appends (W.contents (writer_of self.old))
             (W.contents (writer_of self.new)) (take n piece.now)) }
 
-        // A write that is not known to have come through may have been made all the same.
-        ensures refused { OnRefused result ((n : ℕ) × (n ≤ length piece.now) × Appends (W.contents (writer_of self.old))
-            (W.contents (writer_of self.new)) (take n piece.now)) }
-        ensures fault { OnRefused result (write_faults self.new ≡ counted (write_faults self.old) 1) }
-        ensures no_fault { result ≢ WriteStep.Failed → write_faults self.new ≡ write_faults self.old }
+        // A front of the piece may have gone out all the same, as where the flush after a write failed.
+        ensures refused { OnRefused result ((n : ℕ) × (n ≤ length piece.now)
+            × Appends (W.contents (writer_of self.old)) (W.contents (writer_of self.new))
+            (take n piece.now)) }
+        ensures fault { OnRefused result (
+            write_faults self.new ≡ counted (write_faults self.old) 1) }
+        ensures no_fault { result ≢ WriteStep.Failed
+            → write_faults self.new ≡ write_faults self.old }
         ensures cause { OnRefused result (Rose (write_faults self.old) (write_faults self.new)) }
 
         ensures never_falls { write_faults self.old ≤ write_faults self.new }
@@ -132,12 +136,13 @@ impl<W: Write + Drop> Sink for StdSink<W> {
     }
 }
 
-/// What a write comes to, of which the writer took so many bytes before it was flushed.
+/// What a write comes to of which the writer took so many bytes, and was then flushed.
 fn step_of(taken: usize, flushed: io::Result<()>) -> WriteStep
     ensures { result ≡ (if is_ok flushed then WriteStep.Took taken else WriteStep.Failed) }
 {
-    match flushed {
-        Ok(()) => WriteStep::Took(taken),
-        Err(_) => WriteStep::Failed,
+    if flushed.is_ok() {
+        WriteStep::Took(taken)
+    } else {
+        WriteStep::Failed
     }
 }

@@ -22,7 +22,7 @@ pub enum ReadStep {
 pub enum WriteStep {
     /// So many bytes of the piece were taken from its front, at least one.
     Took(usize),
-    /// The write failed, and wrote nothing that is told.
+    /// The write failed. Where the sink tells its bytes, none was written.
     Failed,
 }
 
@@ -42,7 +42,8 @@ pub trait Source {
         requires { 0 < length buf.old }
 
         ensures size { IfGot result (λ n. (0 < n) × (n ≤ length buf.new)) }
-        ensures got { IfGot result (λ n. Consumes (left self.old) (left self.new) (take n buf.new)) }
+        ensures got { IfGot result (λ n.
+            Consumes (left self.old) (left self.new) (take n buf.new)) }
         ensures got_count { IfGot result (λ n. given self.new ≡ counted (given self.old) n) }
 
         ensures end { OnEnd result (IsAtEnd (left self.new) × Keeps (left self.old) (left self.new)
@@ -68,7 +69,8 @@ pub trait Sink {
         requires { 0 < length piece.now }
 
         ensures size { IfTook result (λ n. (0 < n) × (n ≤ length piece.now)) }
-        ensures took { IfTook result (λ n. Appends (written self.old) (written self.new) (take n piece.now)) }
+        ensures took { IfTook result (λ n.
+            Appends (written self.old) (written self.new) (take n piece.now)) }
 
         ensures refused { OnRefused result (Keeps (written self.old) (written self.new)) }
         ensures cause { OnRefused result (Rose (faults self.old) (faults self.new)) }

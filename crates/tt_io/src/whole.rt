@@ -29,8 +29,8 @@ pub enum TakeFault {
 #[derive(Clone, Copy, Debug, PartialEq, Eq)]
 pub struct WriteFault;
 
-/// All the bytes that a source has left, of which there may be at most `limit`. It takes at most `limit + 1` of them,
-/// and reserves its buffer before it reads.
+/// All the bytes that a source has left, of which there may be at most `limit`, itself at most 2^24. It reserves its
+/// buffer before it reads, and takes at most `limit + 1` bytes: one more than the limit shows that there are too many.
 pub fn take_all<I: Source>(
     alloc: Global,
     source: &mut I,
@@ -38,7 +38,8 @@ pub fn take_all<I: Source>(
 ) -> Result<Vec<u8>, TakeFault>
     requires { limit ≤ 2 ^ 24 }
 
-    ensures bytes { IfOk result (λ bytes. WasAll (I.left source.old) (I.left source.new) bytes.items) }
+    ensures bytes { IfOk result (λ bytes.
+        WasAll (I.left source.old) (I.left source.new) bytes.items) }
     ensures fits { IfOk result (λ bytes. length bytes.items ≤ limit) }
     ensures count { IfOk result (λ bytes.
         I.given source.new ≡ counted (I.given source.old) (length bytes.items)) }
@@ -52,7 +53,8 @@ pub fn take_all<I: Source>(
         × (I.given source.new ≡ counted (I.given source.old) n)) }
 
     ensures too_long { OnTooLong result (HadMore (I.left source.old) limit) }
-    ensures too_long_taken { OnTooLong result (TakesFirst (I.left source.old) (I.left source.new) (limit + 1)) }
+    ensures too_long_taken { OnTooLong result (
+        TakesFirst (I.left source.old) (I.left source.new) (limit + 1)) }
     ensures too_long_count { OnTooLong result (
         I.given source.new ≡ counted (I.given source.old) (limit + 1)) }
 
@@ -89,8 +91,10 @@ fn fill<I: Source>(source: &mut I, buf: &mut [u8]) -> Filled
         I.given source.new ≡ counted (I.given source.old) (length buf.new)) }
 
     ensures ended { IfEnded result (λ n. (n < length buf.new)
-        × Consumes (I.left source.old) (I.left source.new) (take n buf.new) × IsAtEnd (I.left source.new)) }
-    ensures ended_count { IfEnded result (λ n. I.given source.new ≡ counted (I.given source.old) n) }
+        × Consumes (I.left source.old) (I.left source.new) (take n buf.new)
+        × IsAtEnd (I.left source.new)) }
+    ensures ended_count { IfEnded result (λ n.
+        I.given source.new ≡ counted (I.given source.old) n) }
 
     ensures broken { OnBroken result (Rose (I.faults source.old) (I.faults source.new)) }
     ensures broken_taken { OnBroken result ((n : ℕ) × (n < length buf.new)
@@ -110,7 +114,7 @@ fn fill<I: Source>(source: &mut I, buf: &mut [u8]) -> Filled
     Filled::Whole
 }
 
-/// Appends a piece to a sink. An empty piece writes nothing.
+/// Appends a piece to a sink. An empty piece writes nothing. At a fault a proper prefix of the piece was appended.
 pub fn put_all<O: Sink>(sink: &mut O, piece: &[u8]) -> Result<(), WriteFault>
     ensures ok { OnOk result (Appends (O.written sink.old) (O.written sink.new) piece.now) }
     ensures empty { piece.now ≡ [] → sink.new ≡ sink.old }

@@ -1,0 +1,7 @@
+-- What is seen of bytes that are given from the front on.
+use Rattle.std.specs.Prelude.{ℕ, List, drop}
+use Rattle.tt_io.specs.declared.mem.Supply.{Supply}
+
+-- the bytes not yet given
+abbrev pub bytes_left : Supply → List ℕ
+bytes_left s = drop s.at s.bytes.items
