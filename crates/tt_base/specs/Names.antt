@@ -1,5 +1,5 @@
 -- The names of a document, as one list of kinds and names in the order of adding, and the number that each has in its kind.
-use Rattle.std.specs.Prelude.{ℕ, ◌==◌, Bool, List, length, map, filter, take, position, slice_get, Option, option_map, option_and_then, unwrap_or, []}
+use Rattle.std.specs.Prelude.{ℕ, ◌==◌, ◌<◌, Bool, List, length, map, filter, take, position, slice_get, Option, option_map, option_and_then, unwrap_or, []}
 use Rattle.std.specs.Str.{bytes_eq}
 use Rattle.tt_base.specs.declared.names.NameKind.{NameKind}
 use Rattle.tt_base.specs.declared.names.NameKind.TheVariants as Kind
@@ -58,6 +58,10 @@ number_of (Which.Task number) = number.0
 number_of (Which.Isr number) = number.0
 number_of (Which.Osek number) = number.0
 number_of (Which.Oisr number) = number.0
+
+-- whether a thing was declared: its kind has such a number
+abbrev pub IsDeclared : List NameEntry → Declared → Type 0
+IsDeclared names which = number_of which < count_of (kind_of which) names
 
 -- the place of the first name that equals this one
 abbrev pub place_of : List ℕ → List NameEntry → Option ℕ

@@ -1,0 +1,140 @@
+//! The line of an event.
+
+ghost use Rattle.std.specs.Prelude.{◌≡◌, ◌≤◌, [], ◌∷◌, ◌++◌, length, codes, decimal, if◌then◌else◌};
+ghost use Rattle.std.specs.Fmt.{signed_decimal};
+ghost use Rattle.tt_base.specs.declared.names.Declared.TheVariants as Which;
+ghost use Rattle.tt_base.specs.Names.{IsDeclared, name_of};
+ghost use Rattle.trace_text.specs.Lines.{IsNamed, IsNamedCall, IsNamedOwner, call_words, correction, line, line_of, owner_name};
+
+use crate::line::Line;
+use tt_base::{Call, Declared, Event, ModeNo, Names, Owner, TaskNo, Tick};
+
+#[tactic(auto, unfolding(crate::specs::Lines::line_of))]
+/// The line of an event, its LF included. All that the event speaks of has a name.
+pub fn line_of(event: &Event, names: &Names) -> Line
+    requires { IsNamed names.now event.now }
+    ensures line { result ≡ line_of names.now event.now }
+    ensures few { length result ≤ 96 }
+{
+    match *event {
+        Event::OsStart { at, mode } => with_name(at, b"os start", names, Declared::Mode(mode)),
+        Event::Round { at, number, mode } => round(at, number, names, mode),
+        Event::Correct { at, by } => correct(at, by),
+        Event::Check { at, task, met } => check(at, names, task, met),
+        Event::Enable { at, isr } => with_name(at, b"enable", names, Declared::Isr(isr)),
+        Event::Arrive { at, source } => with_owner(at, b"arrive", names, source),
+        Event::Merge { at, source } => with_owner(at, b"merge", names, source),
+        Event::Accept { at, source } => with_owner(at, b"accept", names, source),
+        Event::Activate { at, task } => with_name(at, b"activate", names, Declared::Task(task)),
+        Event::Run { at, who } => with_owner(at, b"run", names, who),
+        Event::End { at, owner } => with_owner(at, b"end", names, owner),
+        Event::Out { at, owner, value } => out(at, names, owner, value),
+        Event::Called { at, owner, call, result: answer } => called(at, names, owner, call, answer),
+        Event::ErrorHook { at, task } => with_name(at, b"hook ttErrorHook", names, Declared::Task(task)),
+        Event::ShutdownHook { at } => plain(at, b"hook ttShutdownHook"),
+        Event::Shutdown { at } => plain(at, b"shutdown"),
+        Event::Stop { at } => plain(at, b"stop"),
+    }
+}
+
+fn plain(at: Tick, words: &[u8]) -> Line
+    requires { length words.now ≤ 20 }
+    ensures line { result ≡ line (decimal at ∷ words.now ∷ []) }
+    ensures few { length result ≤ 96 }
+{
+    let mut line = Line::stamped(at);
+    line.word(words);
+    line.end();
+    line
+}
+
+fn with_name(at: Tick, words: &[u8], names: &Names, which: Declared) -> Line
+    requires declared { IsDeclared names.now which }
+    requires short { length words.now ≤ 20 }
+    ensures line { result ≡ line (decimal at ∷ words.now ∷ name_of names.now which ∷ []) }
+    ensures few { length result ≤ 96 }
+{
+    let mut line = Line::stamped(at);
+    line.word(words);
+    line.name(names, which);
+    line.end();
+    line
+}
+
+fn with_owner(at: Tick, word: &[u8], names: &Names, owner: Owner) -> Line
+    requires named { IsNamedOwner names.now owner }
+    requires short { length word.now ≤ 20 }
+    ensures line { result ≡ line (decimal at ∷ word.now ∷ owner_name names.now owner ∷ []) }
+    ensures few { length result ≤ 96 }
+{
+    let mut line = Line::stamped(at);
+    line.word(word);
+    line.owner(names, owner);
+    line.end();
+    line
+}
+
+fn round(at: Tick, number: u32, names: &Names, mode: ModeNo) -> Line
+    requires { IsDeclared names.now (Which.Mode mode) }
+    ensures line { result ≡ line (decimal at ∷ codes "round" ∷ decimal number ∷ name_of names.now (Which.Mode mode) ∷ []) }
+    ensures few { length result ≤ 96 }
+{
+    let mut line = Line::stamped(at);
+    line.word(b"round");
+    line.number(number);
+    line.name(names, Declared::Mode(mode));
+    line.end();
+    line
+}
+
+fn correct(at: Tick, by: i64) -> Line
+    ensures line { result ≡ line (decimal at ∷ codes "correct" ∷ correction by ∷ []) }
+    ensures few { length result ≤ 96 }
+{
+    let mut line = Line::stamped(at);
+    line.word(b"correct");
+    line.correction(by);
+    line.end();
+    line
+}
+
+fn check(at: Tick, names: &Names, task: TaskNo, met: bool) -> Line
+    requires { IsDeclared names.now (Which.Task task) }
+    ensures line { result ≡ line (decimal at ∷ codes "check" ∷ name_of names.now (Which.Task task) ∷ (if met then codes "met" else codes "missed") ∷ []) }
+    ensures few { length result ≤ 96 }
+{
+    let mut line = Line::stamped(at);
+    line.word(b"check");
+    line.name(names, Declared::Task(task));
+    line.word(if met { b"met" } else { b"missed" });
+    line.end();
+    line
+}
+
+fn out(at: Tick, names: &Names, owner: Owner, value: i32) -> Line
+    requires { IsNamedOwner names.now owner }
+    ensures line { result ≡ line (decimal at ∷ codes "out" ∷ owner_name names.now owner ∷ signed_decimal value ∷ []) }
+    ensures few { length result ≤ 96 }
+{
+    let mut line = Line::stamped(at);
+    line.word(b"out");
+    line.owner(names, owner);
+    line.number(value);
+    line.end();
+    line
+}
+
+fn called(at: Tick, names: &Names, owner: Owner, call: Call, answer: u8) -> Line
+    requires caller { IsNamedOwner names.now owner }
+    requires argument { IsNamedCall names.now call }
+    ensures line { result ≡ line (decimal at ∷ codes "call" ∷ owner_name names.now owner ∷ call_words names.now call ++ decimal answer ∷ []) }
+    ensures few { length result ≤ 96 }
+{
+    let mut line = Line::stamped(at);
+    line.word(b"call");
+    line.owner(names, owner);
+    line.call(names, call);
+    line.number(answer);
+    line.end();
+    line
+}

@@ -1,0 +1,8 @@
+//! The text of a trace: the line of each event.
+#![tactic(auto)]
+
+mod event_line;
+mod line;
+
+pub use event_line::line_of;
+pub use line::Line;

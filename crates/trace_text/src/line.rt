@@ -1,0 +1,160 @@
+//! A line of a trace, and what is appended to it word by word.
+
+ghost use Rattle.std.specs.Prelude.{◌≡◌, ◌+◌, ◌≤◌, [], ◌∷◌, ◌++◌, length, decimal};
+ghost use Rattle.tt_base.specs.Names.{IsDeclared, name_of};
+ghost use Rattle.trace_text.specs.Lines.{IsNamedCall, IsNamedOwner, call_words, correction, owner_name, spaced};
+
+use arrayvec::ArrayVec;
+use itoa::{Buffer, Integer};
+use std::marker::Model;
+use tt_base::{Call, Declared, Names, Owner, Tick};
+
+/// How many bytes a line has at most, its LF included.
+pub const LINE_BYTES: usize = 96;
+
+/// A line of a trace. Contracts see it as the list of its bytes.
+#[derive(Debug, Drop)]
+pub struct Line {
+    bytes: ArrayVec<u8, LINE_BYTES>,
+}
+
+impl Model for Line {
+    ghost use Rattle.std.specs.Prelude.{List, ℕ};
+
+    ghost Value = { List ℕ };
+
+    ghost view = { λ l. l.bytes.items };
+}
+
+impl Line {
+    /// The bytes, the LF included.
+    pub fn as_bytes(&self) -> &[u8]
+        ensures bytes { result.now ≡ self.now }
+        ensures few { length self.now ≤ 96 }
+    {
+        self.bytes.as_slice()
+    }
+
+    /// A line whose first word is a stamp in ticks.
+    pub(crate) fn stamped(at: Tick) -> Line
+        ensures text { result ≡ decimal at }
+        ensures few { length result ≤ 20 }
+    {
+        let mut line = Line {
+            bytes: ArrayVec::new(),
+        };
+        line.digits(at);
+        line
+    }
+
+    /// One more word.
+    pub(crate) fn word(&mut self, word: &[u8])
+        requires { length self.old + 1 + length word.now ≤ 96 }
+        ensures { self.new ≡ self.old ++ 32 ∷ word.now }
+    {
+        self.text(b" ");
+        self.text(word);
+    }
+
+    /// One more word: a number in decimal.
+    pub(crate) fn number<I: Integer>(&mut self, number: I)
+        requires { length self.old + 1 + I.MAX_STR_LEN ≤ 96 }
+        ensures text { self.new ≡ self.old ++ 32 ∷ I.text number }
+        ensures few { length self.new ≤ length self.old + 1 + I.MAX_STR_LEN }
+    {
+        self.text(b" ");
+        self.digits(number);
+    }
+
+    /// One more word: a correction in ticks, with its sign.
+    pub(crate) fn correction(&mut self, by: i64)
+        requires { length self.old + 22 ≤ 96 }
+        ensures text { self.new ≡ self.old ++ 32 ∷ correction by }
+        ensures few { length self.new ≤ length self.old + 22 }
+    {
+        self.text(b" ");
+        if by >= 0 {
+            self.text(b"+");
+        }
+        self.digits(by);
+    }
+
+    /// One more word: the name of a declared thing.
+    pub(crate) fn name(&mut self, names: &Names, which: Declared)
+        requires declared { IsDeclared names.now which }
+        requires room { length self.old + 17 ≤ 96 }
+        ensures text { self.new ≡ self.old ++ 32 ∷ name_of names.now which }
+        ensures few { length self.new ≤ length self.old + 17 }
+    {
+        let name = names.get(which).unwrap();
+        self.word(name.as_bytes());
+    }
+
+    /// One more word: the name of an owner.
+    pub(crate) fn owner(&mut self, names: &Names, owner: Owner)
+        requires named { IsNamedOwner names.now owner }
+        requires room { length self.old + 17 ≤ 96 }
+        ensures text { self.new ≡ self.old ++ 32 ∷ owner_name names.now owner }
+        ensures few { length self.new ≤ length self.old + 17 }
+    {
+        match owner {
+            Owner::Task(task) => self.name(names, Declared::Task(task)),
+            Owner::Isr(isr) => self.name(names, Declared::Isr(isr)),
+            Owner::Osek(task) => self.name(names, Declared::Osek(task)),
+            Owner::Oisr(isr) => self.name(names, Declared::Oisr(isr)),
+            Owner::ErrorHook => self.word(b"ttErrorHook"),
+            Owner::ShutdownHook => self.word(b"ttShutdownHook"),
+            Owner::Idle => self.word(b"idle"),
+        }
+    }
+
+    /// One or two more words: a service, and its argument where it has one.
+    pub(crate) fn call(&mut self, names: &Names, call: Call)
+        requires named { IsNamedCall names.now call }
+        requires room { length self.old + 33 ≤ 96 }
+        ensures text { self.new ≡ self.old ++ spaced (call_words names.now call) }
+        ensures few { length self.new ≤ length self.old + 33 }
+    {
+        match call {
+            Call::Switch(mode) => {
+                self.word(b"ttSwitchAppMode");
+                self.name(names, Declared::Mode(mode));
+            }
+            Call::Sync => self.word(b"ttSyncTimes"),
+            Call::Shutdown => self.word(b"ttShutdownOS"),
+            Call::Activate(task) => {
+                self.word(b"ActivateTask");
+                self.name(names, Declared::Osek(task));
+            }
+            Call::Chain(task) => {
+                self.word(b"ChainTask");
+                self.name(names, Declared::Osek(task));
+            }
+            Call::Terminate => self.word(b"TerminateTask"),
+        }
+    }
+
+    /// The LF at the end.
+    pub(crate) fn end(&mut self)
+        requires { length self.old + 1 ≤ 96 }
+        ensures { self.new ≡ self.old ++ 10 ∷ [] }
+    {
+        self.text(b"\n");
+    }
+
+    fn text(&mut self, text: &[u8])
+        requires { length self.old + length text.now ≤ 96 }
+        ensures { self.new ≡ self.old ++ text.now }
+    {
+        let _ = self.bytes.try_extend_from_slice(text);
+    }
+
+    fn digits<I: Integer>(&mut self, number: I)
+        requires { length self.old + I.MAX_STR_LEN ≤ 96 }
+        ensures text { self.new ≡ self.old ++ I.text number }
+        ensures few { length self.new ≤ length self.old + I.MAX_STR_LEN }
+    {
+        let mut buffer = Buffer::new();
+        self.text(buffer.format(number).as_bytes());
+    }
+}
