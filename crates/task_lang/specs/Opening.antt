@@ -51,3 +51,6 @@ module _ (A : Type 0) (step : Stmt-F A → A) where
 
   pub fold-Service : (call : Call) → fold-Stmt A step (s.Service call) ≡ step (Stmt-F.Service call)
   fold-Service call = ap (fold-Stmt A step) (sym (s.rolls-Service call)) ∙ fold-roll-Stmt A step (Stmt-F.Service call)
+
+-- the equations above
+pub ruleset folds = (fold-Const, fold-Var, fold-Bin, fold-Work, fold-Take, fold-Set, fold-If, fold-Repeat, fold-Out, fold-Service)

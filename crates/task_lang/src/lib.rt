@@ -18,3 +18,6 @@ pub use laws::{tick_keeps_numbers, tick_lowers_worst};
 pub use syntax::{Body, Expr, Op, Stmt};
 pub use tick::{Effect, Left};
 pub use vars::Vars;
+
+#[cfg(test)]
+mod tests;
