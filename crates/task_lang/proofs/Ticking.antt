@@ -1,21 +1,39 @@
 -- What one tick does to the worst case of a list, and to what each of its statements has.
 use Rattle.std.proofs.Common.{◌≡◌, ◌≢◌, ℕ, zero, suc, ◌+◌, ◌*◌, ◌-◌, ◌≤◌, max, Bool, true, false, ℤ, pos, negsuc, List, [], ◌∷◌, ◌++◌, map, refl, sym, ap, subst, ◌∙◌, arith}
-use Rattle.std.specs.Prelude.{◌&&◌, nat_le, slice_index}
+use Rattle.std.specs.Prelude.{◌&&◌, nat_le, slice_get, slice_index, slice_index_or}
+use Rattle.std.specs.List.{list_all}
 use Rattle.std.proofs.lemmas.List.Sums.{sum_by-cons}
 use Rattle.std.proofs.lemmas.Bool.Decides.{nat_tests}
-use Rattle.tt_base.specs.declared.number.DemandNo.{DemandNo}
 use Rattle.task_lang.specs.declared.demand.Demand.{Demand}
 use Rattle.task_lang.specs.declared.syntax.Stmt.{Stmt, out-Stmt}
 use Rattle.task_lang.specs.declared.syntax.Stmt.TheOpen.{Stmt-F}
 use Rattle.task_lang.specs.declared.syntax.Stmt.TheFolds.{map-Stmt, fold_out-Stmt}
 use Rattle.task_lang.specs.declared.syntax.Stmt.TheVariants as s
-use Rattle.task_lang.specs.Limits.{AreNumbersInRange, AreMostsInRange, each_of, each_in, inner_pass, is_number_in_range}
+use Rattle.task_lang.specs.Limits.{AreNumbersInRange, AreMostsInRange, AreUsualsInRange, each_of, each_in, inner_pass, is_number_in_range}
 use Rattle.task_lang.specs.Opening.{fold-Work, fold-Repeat}
-use Rattle.task_lang.specs.Tick.{Supply, State, work_then, repeat_then, branch, given, tick, tick_by, tick_list}
-use Rattle.task_lang.specs.TickLaws.{KeepsMost, TickLowersWorst, TickKeepsNumbers}
+use Rattle.task_lang.specs.Tick.{Supply, State, work_then, repeat_then, branch, usual_of, values_of, given, tick, tick_by, tick_list}
+use Rattle.task_lang.specs.TickLaws.{KeepsMost, AreValuesKept, Lasts, TickLowersWorst, TickKeepsEach, TickKeepsNumbers}
 use Rattle.task_lang.specs.Value.{value_of}
-use Rattle.task_lang.specs.Worst.{worst_of, worst_in, worst_step}
+use Rattle.task_lang.specs.Worst.{most_of, worst_of, worst_in, worst_step}
 use Rattle.task_lang.proofs.Numbers.{and_left, and_right, from_nat_le, most_small}
+
+-- ---- what a demand is given
+
+usual_small : (demands : List Demand) (demand : ℕ) → AreUsualsInRange demands → usual_of (slice_get demands demand) ≤ most_of (slice_get demands demand)
+usual_small [] demand usuals = omega arith
+usual_small (first ∷ rest) zero usuals = from_nat_le first.usual first.most (and_left (nat_le first.usual first.most) _ usuals)
+usual_small (first ∷ rest) (suc demand) usuals = usual_small rest demand (and_right (nat_le first.usual first.most) _ usuals)
+
+read_small : (most usual : ℕ) (values : List ℕ) (used : ℕ) → usual ≤ most → list_all (λ value. nat_le value most) values ≡ true → slice_index_or values used usual ≤ most
+read_small most usual [] used small kept = small
+read_small most usual (value ∷ values) zero small kept = from_nat_le value most (and_left (nat_le value most) _ kept)
+read_small most usual (value ∷ values) (suc used) small kept = read_small most usual values used small (and_right (nat_le value most) _ kept)
+
+-- A script whose values are at most the mosts gives no demand more than its most.
+pub keeps_most : (supply : Supply) → AreUsualsInRange supply.demands → AreValuesKept supply → KeepsMost supply
+keeps_most supply usuals kept demand used =
+    read_small (most_of (slice_get supply.demands demand)) (usual_of (slice_get supply.demands demand)) (values_of supply demand) used
+    (usual_small supply.demands demand usuals) (kept demand)
 
 -- ---- the worst case of a list
 
@@ -102,12 +120,6 @@ lowers_worst supply state keeps numbers some = lowers_list supply state state.le
 
 -- ---- what each statement has
 
--- A test that passes at a statement passes at what a tick makes of it.
-pub record Lasts (supply : Supply) (test : Stmt-F Bool → Bool) : Type 0 where
-  pub work : (n : ℕ) → test (Stmt-F.Work (suc (suc n))) ≡ true → test (Stmt-F.Work (suc n)) ≡ true
-  pub repeat : (n : ℕ) (body : List Bool) → test (Stmt-F.Repeat (suc (suc n)) body) ≡ true → test (Stmt-F.Repeat (suc n) body) ≡ true
-  pub take : (demand : DemandNo) (used n : ℕ) → given supply demand.0 used ≡ suc n → test (Stmt-F.Take demand) ≡ true → test (Stmt-F.Work (suc n)) ≡ true
-
 and_both : (a b : Bool) → a ≡ true → b ≡ true → a && b ≡ true
 and_both true b one other = other
 and_both false b one other = cc
@@ -161,9 +173,9 @@ module _ (test : Stmt-F Bool → Bool) where
       let inside = map-Stmt Stmt Bool (each_of test) (out-Stmt front) in
       keeps_by supply state (out-Stmt front) rest lasts (and_left (test inside) _ here) (and_right (test inside) _ here) (and_right (each_of test front) _ passed)
 
-  pub keeps_each : (supply : Supply) (state : State) → Lasts supply test → each_in test state.left ≡ true → each_in test (tick supply state).left ≡ true
-  unfolding tick
-  keeps_each supply state lasts passed = keeps_list supply state state.left lasts refl passed
+pub keeps_each : TickKeepsEach
+unfolding tick
+keeps_each supply state test lasts passed = keeps_list test supply state state.left lasts refl passed
 
 numbers_last : (supply : Supply) → KeepsMost supply → AreMostsInRange supply.demands → Lasts supply is_number_in_range
 numbers_last supply keeps mosts = record {
@@ -175,4 +187,4 @@ numbers_last supply keeps mosts = record {
 }
 
 pub keeps_numbers : TickKeepsNumbers
-keeps_numbers supply state keeps mosts numbers = keeps_each is_number_in_range supply state (numbers_last supply keeps mosts) numbers
+keeps_numbers supply state keeps mosts numbers = keeps_each supply state is_number_in_range (numbers_last supply keeps mosts) numbers

@@ -3,6 +3,8 @@ use Rattle.std.specs.Prelude.{ℕ, ◌+◌, ◌^◌, ◌<◌, ◌≤◌, max, Bo
 use Rattle.std.specs.List.{list_all}
 use Rattle.tt_base.specs.declared.event.Call.{Call}
 use Rattle.tt_base.specs.declared.event.Call.TheVariants as call
+use Rattle.task_lang.specs.Allowed.{is_allowed}
+use Rattle.task_lang.specs.declared.allowed.OwnerKind.{OwnerKind}
 use Rattle.task_lang.specs.declared.demand.Demand.{Demand}
 use Rattle.task_lang.specs.declared.syntax.Expr.{Expr}
 use Rattle.task_lang.specs.declared.syntax.Expr.TheOpen.{Expr-F}
@@ -151,6 +153,10 @@ HasDemands count body = IsTrue (each_in (has_demand count) body)
 -- Each mode and each OSEK task that a service names is one of so many.
 abbrev pub HasCallees : (modes oseks : ℕ) → List Stmt → Type 0
 HasCallees modes oseks body = IsTrue (each_in (has_callee modes oseks) body)
+
+-- An owner of this kind may have each of the statements.
+abbrev pub AreAllowed : OwnerKind → List Stmt → Type 0
+AreAllowed kind body = IsTrue (each_in (is_allowed kind) body)
 
 -- A demand asks for at most 10,000,000 ticks.
 abbrev pub AreMostsInRange : List Demand → Type 0

@@ -1,17 +1,36 @@
 -- What a tick does to the worst case and to the numbers of a list.
-use Rattle.std.specs.Prelude.{◌≢◌, ℕ, ◌+◌, ◌≤◌, [], slice_get}
-use Rattle.task_lang.specs.Limits.{AreNumbersInRange, AreMostsInRange}
-use Rattle.task_lang.specs.Tick.{Supply, State, given, tick}
+use Rattle.std.specs.Prelude.{◌≡◌, ◌≢◌, ℕ, suc, ◌+◌, ◌≤◌, Bool, true, nat_le, IsTrue, List, [], slice_get}
+use Rattle.std.specs.List.{list_all}
+use Rattle.tt_base.specs.declared.number.DemandNo.{DemandNo}
+use Rattle.task_lang.specs.declared.syntax.Stmt.TheOpen.{Stmt-F}
+use Rattle.task_lang.specs.Limits.{AreNumbersInRange, AreMostsInRange, each_in}
+use Rattle.task_lang.specs.Tick.{Supply, State, values_of, given, tick}
 use Rattle.task_lang.specs.Worst.{most_of, worst_in}
 
 -- What a demand is given is at most its most, however many of its values were used.
 abbrev pub KeepsMost : Supply → Type 0
 KeepsMost supply = (demand used : ℕ) → given supply demand used ≤ most_of (slice_get supply.demands demand)
 
+-- Each value that the script gives for a demand is at most its most.
+abbrev pub AreValuesKept : Supply → Type 0
+AreValuesKept supply =
+    (demand : ℕ) → IsTrue (list_all (λ value. nat_le value (most_of (slice_get supply.demands demand))) (values_of supply demand))
+
 -- A tick lowers the worst case by at least one.
 abbrev pub TickLowersWorst : Type 0
 TickLowersWorst = (supply : Supply) (state : State) → KeepsMost supply → AreNumbersInRange state.left → state.left ≢ []
     → worst_in supply.demands (tick supply state).left + 1 ≤ worst_in supply.demands state.left
+
+-- A test that passes at a statement passes at what a tick makes of it.
+pub record Lasts (supply : Supply) (test : Stmt-F Bool → Bool) : Type 0 where
+  pub work : (n : ℕ) → test (Stmt-F.Work (suc (suc n))) ≡ true → test (Stmt-F.Work (suc n)) ≡ true
+  pub repeat : (n : ℕ) (body : List Bool) → test (Stmt-F.Repeat (suc (suc n)) body) ≡ true → test (Stmt-F.Repeat (suc n) body) ≡ true
+  pub take : (demand : DemandNo) (used n : ℕ) → given supply demand.0 used ≡ suc n → test (Stmt-F.Take demand) ≡ true → test (Stmt-F.Work (suc n)) ≡ true
+
+-- A tick leaves statements that all pass such a test, inner ones too.
+abbrev pub TickKeepsEach : Type 0
+TickKeepsEach = (supply : Supply) (state : State) (test : Stmt-F Bool → Bool) → Lasts supply test → each_in test state.left ≡ true
+    → each_in test (tick supply state).left ≡ true
 
 -- A tick leaves numbers that are in range.
 abbrev pub TickKeepsNumbers : Type 0

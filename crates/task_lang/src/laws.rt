@@ -1,11 +1,17 @@
 //! Laws of the definitions. Each is the contract of a function with an empty body.
 
-ghost use Rattle.task_lang.specs.TickLaws.{TickLowersWorst, TickKeepsNumbers};
+ghost use Rattle.task_lang.specs.TickLaws.{TickLowersWorst, TickKeepsEach, TickKeepsNumbers};
 
 /// A tick of a list of statements lowers its worst case by at least one, where its numbers are in range, it is not empty, and
 /// the script gives no demand more than its most.
 pub fn tick_lowers_worst()
     ensures { TickLowersWorst }
+{}
+
+/// A tick leaves statements that all pass a test, inner ones too, where a statement that passes leaves one that passes. Such are
+/// the tests of names, of expressions, and of who may have a statement.
+pub fn tick_keeps_each()
+    ensures { TickKeepsEach }
 {}
 
 /// A tick leaves numbers that are in range, where the script gives no demand more than its most.

@@ -1,6 +1,6 @@
 //! The variables.
 
-ghost use Rattle.std.specs.Prelude.{◌≡◌, ◌<◌, [], ◌∷◌, ◌++◌, length, Some, OnOk, OnErr, slice_get, slice_set};
+ghost use Rattle.std.specs.Prelude.{◌≡◌, ◌<◌, [], ◌∷◌, ◌++◌, length, Some, IfOk, OnOk, OnErr, slice_get, slice_set};
 
 use std::alloc::Global;
 use std::marker::Model;
@@ -37,6 +37,16 @@ impl Vars {
     {
         match self.values.push(value) {
             Ok(()) => Ok(()),
+            Err(_) => Err(Memory),
+        }
+    }
+
+    /// A copy of the variables.
+    pub fn copy(&self, alloc: Global) -> Result<Vars, Memory>
+        ensures { IfOk result (λ vars. vars ≡ self.now) }
+    {
+        match Vec::from_slice(alloc, self.as_slice()) {
+            Ok(values) => Ok(Vars { values }),
             Err(_) => Err(Memory),
         }
     }
