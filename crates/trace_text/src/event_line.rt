@@ -9,8 +9,9 @@ ghost use Rattle.trace_text.specs.Lines.{IsNamed, IsNamedCall, IsNamedOwner, cal
 use crate::line::Line;
 use tt_base::{Call, Declared, Event, ModeNo, Names, Owner, TaskNo, Tick};
 
+/// The line of an event, its LF included: at most 96 bytes. Its stamp in ticks comes first, and one space stands between
+/// words. All that the event speaks of has a name. The words are the bench's own.
 #[tactic(auto, unfolding(crate::specs::Lines::line_of))]
-/// The line of an event, its LF included. All that the event speaks of has a name.
 pub fn line_of(event: &Event, names: &Names) -> Line
     requires { IsNamed names.now event.now }
     ensures line { result ≡ line_of names.now event.now }
@@ -29,14 +30,25 @@ pub fn line_of(event: &Event, names: &Names) -> Line
         Event::Run { at, who } => with_owner(at, b"run", names, who),
         Event::End { at, owner } => with_owner(at, b"end", names, owner),
         Event::Out { at, owner, value } => out(at, names, owner, value),
-        Event::Called { at, owner, call, result: answer } => called(at, names, owner, call, answer),
-        Event::ErrorHook { at, task } => with_name(at, b"hook ttErrorHook", names, Declared::Task(task)),
+        Event::Called {
+            at,
+            owner,
+            call,
+            result: answer,
+        } => called(at, names, owner, call, answer),
+        Event::ErrorHook { at, task } => with_name(
+            at,
+            b"hook ttErrorHook",
+            names,
+            Declared::Task(task),
+        ),
         Event::ShutdownHook { at } => plain(at, b"hook ttShutdownHook"),
         Event::Shutdown { at } => plain(at, b"shutdown"),
         Event::Stop { at } => plain(at, b"stop"),
     }
 }
 
+/// A stamp and fixed words.
 fn plain(at: Tick, words: &[u8]) -> Line
     requires { length words.now ≤ 20 }
     ensures line { result ≡ line (decimal at ∷ words.now ∷ []) }
@@ -48,6 +60,7 @@ fn plain(at: Tick, words: &[u8]) -> Line
     line
 }
 
+/// A stamp, fixed words and the name of a thing.
 fn with_name(at: Tick, words: &[u8], names: &Names, which: Declared) -> Line
     requires declared { IsDeclared names.now which }
     requires short { length words.now ≤ 20 }
@@ -61,6 +74,7 @@ fn with_name(at: Tick, words: &[u8], names: &Names, which: Declared) -> Line
     line
 }
 
+/// A stamp, a fixed word and the name of an owner.
 fn with_owner(at: Tick, word: &[u8], names: &Names, owner: Owner) -> Line
     requires named { IsNamedOwner names.now owner }
     requires short { length word.now ≤ 20 }
@@ -74,6 +88,7 @@ fn with_owner(at: Tick, word: &[u8], names: &Names, owner: Owner) -> Line
     line
 }
 
+/// A dispatcher round begins.
 fn round(at: Tick, number: u32, names: &Names, mode: ModeNo) -> Line
     requires { IsDeclared names.now (Which.Mode mode) }
     ensures line { result ≡ line (decimal at ∷ codes "round" ∷ decimal number ∷ name_of names.now (Which.Mode mode) ∷ []) }
@@ -87,6 +102,7 @@ fn round(at: Tick, number: u32, names: &Names, mode: ModeNo) -> Line
     line
 }
 
+/// A round gets longer or shorter.
 fn correct(at: Tick, by: i64) -> Line
     ensures line { result ≡ line (decimal at ∷ codes "correct" ∷ correction by ∷ []) }
     ensures few { length result ≤ 96 }
@@ -98,6 +114,7 @@ fn correct(at: Tick, by: i64) -> Line
     line
 }
 
+/// Deadline monitoring looks at a task.
 fn check(at: Tick, names: &Names, task: TaskNo, met: bool) -> Line
     requires { IsDeclared names.now (Which.Task task) }
     ensures line { result ≡ line (decimal at ∷ codes "check" ∷ name_of names.now (Which.Task task) ∷ (if met then codes "met" else codes "missed") ∷ []) }
@@ -111,6 +128,7 @@ fn check(at: Tick, names: &Names, task: TaskNo, met: bool) -> Line
     line
 }
 
+/// A body puts out a value.
 fn out(at: Tick, names: &Names, owner: Owner, value: i32) -> Line
     requires { IsNamedOwner names.now owner }
     ensures line { result ≡ line (decimal at ∷ codes "out" ∷ owner_name names.now owner ∷ signed_decimal value ∷ []) }
@@ -124,6 +142,7 @@ fn out(at: Tick, names: &Names, owner: Owner, value: i32) -> Line
     line
 }
 
+/// A body calls a service.
 fn called(at: Tick, names: &Names, owner: Owner, call: Call, answer: u8) -> Line
     requires caller { IsNamedOwner names.now owner }
     requires argument { IsNamedCall names.now call }
@@ -138,3 +157,6 @@ fn called(at: Tick, names: &Names, owner: Owner, call: Call, answer: u8) -> Line
     line.end();
     line
 }
+
+#[cfg(test)]
+mod tests;

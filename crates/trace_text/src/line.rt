@@ -10,7 +10,7 @@ use std::marker::Model;
 use tt_base::{Call, Declared, Names, Owner, Tick};
 
 /// How many bytes a line has at most, its LF included.
-pub const LINE_BYTES: usize = 96;
+const LINE_BYTES: usize = 96;
 
 /// A line of a trace. Contracts see it as the list of its bytes.
 #[derive(Debug, Drop)]
@@ -142,6 +142,7 @@ impl Line {
         self.text(b"\n");
     }
 
+    /// Appends bytes.
     fn text(&mut self, text: &[u8])
         requires { length self.old + length text.now ≤ 96 }
         ensures { self.new ≡ self.old ++ text.now }
@@ -149,6 +150,7 @@ impl Line {
         let _ = self.bytes.try_extend_from_slice(text);
     }
 
+    /// Appends a number in decimal.
     fn digits<I: Integer>(&mut self, number: I)
         requires { length self.old + I.MAX_STR_LEN ≤ 96 }
         ensures text { self.new ≡ self.old ++ I.text number }

@@ -1,4 +1,4 @@
-use Rattle.std.proofs.Common.{◌++◌, ◌∷◌, ap, sym, ◌∙◌}
+use Rattle.std.proofs.Common.{◌++◌, ap, sym, ◌∙◌}
 use Rattle.trace_text.specs.Lines.{call_words, spaced}
 use Rattle.trace_text.proofs.Words.{spaced_two}
 use Rattle.trace_text.proofs.line.Line.call.Goals as goal

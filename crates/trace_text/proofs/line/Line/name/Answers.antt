@@ -1,5 +1,4 @@
 use Rattle.std.proofs.Common.{◌≡◌, Some, ◌∙◌, rules, ◌++◌, ◌∷◌, ap}
-use Rattle.std.proofs.lemmas.Grind.{common_steps}
 use Rattle.tt_base.specs.Names.{name_of}
 use Rattle.tt_base.proofs.NamesLemmas.{get_name-declared}
 use Rattle.trace_text.proofs.line.Line.name.Goals as goal
