@@ -10,7 +10,7 @@ use Rattle.tt_base.specs.declared.event.Event.{Event}
 use Rattle.tt_base.specs.declared.event.Event.TheVariants as On
 use Rattle.tt_base.specs.declared.event.Owner.{Owner}
 use Rattle.tt_base.specs.declared.event.Owner.TheVariants as By
-use Rattle.tt_base.specs.Names.{IsDeclared, name_of}
+use Rattle.tt_base.specs.Names.{name_of}
 use Rattle.tt_doc.specs.Words.{joined}
 
 -- the name of an owner of ticks
@@ -73,42 +73,3 @@ line_of names event = line (words_of_event names event)
 -- the text of a trace: the lines of its events
 unfoldable pub text_of : List NameEntry → List Event → List ℕ
 text_of names events = flat_map (line_of names) events
-
--- an owner has a name
-abbrev pub IsNamedOwner : List NameEntry → Owner → Type 0
-IsNamedOwner names (By.Task task) = IsDeclared names (Which.Task task)
-IsNamedOwner names (By.Isr isr) = IsDeclared names (Which.Isr isr)
-IsNamedOwner names (By.Osek task) = IsDeclared names (Which.Osek task)
-IsNamedOwner names (By.Oisr isr) = IsDeclared names (Which.Oisr isr)
-IsNamedOwner names By.ErrorHook = Unit {0}
-IsNamedOwner names By.ShutdownHook = Unit {0}
-IsNamedOwner names By.Idle = Unit {0}
-
--- the argument of a service has a name
-abbrev pub IsNamedCall : List NameEntry → Call → Type 0
-IsNamedCall names (Service.Switch mode) = IsDeclared names (Which.Mode mode)
-IsNamedCall names Service.Sync = Unit {0}
-IsNamedCall names Service.Shutdown = Unit {0}
-IsNamedCall names (Service.Activate task) = IsDeclared names (Which.Osek task)
-IsNamedCall names (Service.Chain task) = IsDeclared names (Which.Osek task)
-IsNamedCall names Service.Terminate = Unit {0}
-
--- all that an event speaks of has a name
-abbrev pub IsNamed : List NameEntry → Event → Type 0
-IsNamed names (On.OsStart at mode) = IsDeclared names (Which.Mode mode)
-IsNamed names (On.Round at number mode) = IsDeclared names (Which.Mode mode)
-IsNamed names (On.Correct at by) = Unit {0}
-IsNamed names (On.Check at task met) = IsDeclared names (Which.Task task)
-IsNamed names (On.Enable at isr) = IsDeclared names (Which.Isr isr)
-IsNamed names (On.Arrive at source) = IsNamedOwner names source
-IsNamed names (On.Merge at source) = IsNamedOwner names source
-IsNamed names (On.Accept at source) = IsNamedOwner names source
-IsNamed names (On.Activate at task) = IsDeclared names (Which.Task task)
-IsNamed names (On.Run at who) = IsNamedOwner names who
-IsNamed names (On.End at owner) = IsNamedOwner names owner
-IsNamed names (On.Out at owner value) = IsNamedOwner names owner
-IsNamed names (On.Called at owner call result) = IsNamedOwner names owner × IsNamedCall names call
-IsNamed names (On.ErrorHook at task) = IsDeclared names (Which.Task task)
-IsNamed names (On.ShutdownHook at) = Unit {0}
-IsNamed names (On.Shutdown at) = Unit {0}
-IsNamed names (On.Stop at) = Unit {0}

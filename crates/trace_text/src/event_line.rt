@@ -3,8 +3,8 @@
 ghost use Rattle.std.specs.Prelude.{◌≡◌, ◌≤◌, [], ◌∷◌, ◌++◌, length, codes, decimal, if◌then◌else◌};
 ghost use Rattle.std.specs.Fmt.{signed_decimal};
 ghost use Rattle.tt_base.specs.declared.names.Declared.TheVariants as Which;
-ghost use Rattle.tt_base.specs.Names.{IsDeclared, name_of};
-ghost use Rattle.trace_text.specs.Lines.{IsNamed, IsNamedCall, IsNamedOwner, call_words, correction, line, line_of, owner_name};
+ghost use Rattle.tt_base.specs.Names.{name_of};
+ghost use Rattle.trace_text.specs.Lines.{call_words, correction, line, line_of, owner_name};
 
 use crate::line::Line;
 use tt_base::{Call, Declared, Event, ModeNo, Names, Owner, TaskNo, Tick};
@@ -13,7 +13,6 @@ use tt_base::{Call, Declared, Event, ModeNo, Names, Owner, TaskNo, Tick};
 /// words. All that the event speaks of has a name. The words are the bench's own.
 #[tactic(auto, unfolding(crate::specs::Lines::line_of))]
 pub fn line_of(event: &Event, names: &Names) -> Line
-    requires { IsNamed names.now event.now }
     ensures line { result ≡ line_of names.now event.now }
     ensures few { length result ≤ 96 }
 {
@@ -62,8 +61,7 @@ fn plain(at: Tick, words: &[u8]) -> Line
 
 /// A stamp, fixed words and the name of a thing.
 fn with_name(at: Tick, words: &[u8], names: &Names, which: Declared) -> Line
-    requires declared { IsDeclared names.now which }
-    requires short { length words.now ≤ 20 }
+    requires { length words.now ≤ 20 }
     ensures line { result ≡ line (decimal at ∷ words.now ∷ name_of names.now which ∷ []) }
     ensures few { length result ≤ 96 }
 {
@@ -76,8 +74,7 @@ fn with_name(at: Tick, words: &[u8], names: &Names, which: Declared) -> Line
 
 /// A stamp, a fixed word and the name of an owner.
 fn with_owner(at: Tick, word: &[u8], names: &Names, owner: Owner) -> Line
-    requires named { IsNamedOwner names.now owner }
-    requires short { length word.now ≤ 20 }
+    requires { length word.now ≤ 20 }
     ensures line { result ≡ line (decimal at ∷ word.now ∷ owner_name names.now owner ∷ []) }
     ensures few { length result ≤ 96 }
 {
@@ -90,7 +87,6 @@ fn with_owner(at: Tick, word: &[u8], names: &Names, owner: Owner) -> Line
 
 /// A dispatcher round begins.
 fn round(at: Tick, number: u32, names: &Names, mode: ModeNo) -> Line
-    requires { IsDeclared names.now (Which.Mode mode) }
     ensures line { result ≡ line (decimal at ∷ codes "round" ∷ decimal number ∷ name_of names.now (Which.Mode mode) ∷ []) }
     ensures few { length result ≤ 96 }
 {
@@ -116,7 +112,6 @@ fn correct(at: Tick, by: i64) -> Line
 
 /// Deadline monitoring looks at a task.
 fn check(at: Tick, names: &Names, task: TaskNo, met: bool) -> Line
-    requires { IsDeclared names.now (Which.Task task) }
     ensures line { result ≡ line (decimal at ∷ codes "check" ∷ name_of names.now (Which.Task task) ∷ (if met then codes "met" else codes "missed") ∷ []) }
     ensures few { length result ≤ 96 }
 {
@@ -130,7 +125,6 @@ fn check(at: Tick, names: &Names, task: TaskNo, met: bool) -> Line
 
 /// A body puts out a value.
 fn out(at: Tick, names: &Names, owner: Owner, value: i32) -> Line
-    requires { IsNamedOwner names.now owner }
     ensures line { result ≡ line (decimal at ∷ codes "out" ∷ owner_name names.now owner ∷ signed_decimal value ∷ []) }
     ensures few { length result ≤ 96 }
 {
@@ -144,8 +138,6 @@ fn out(at: Tick, names: &Names, owner: Owner, value: i32) -> Line
 
 /// A body calls a service.
 fn called(at: Tick, names: &Names, owner: Owner, call: Call, answer: u8) -> Line
-    requires caller { IsNamedOwner names.now owner }
-    requires argument { IsNamedCall names.now call }
     ensures line { result ≡ line (decimal at ∷ codes "call" ∷ owner_name names.now owner ∷ call_words names.now call ++ decimal answer ∷ []) }
     ensures few { length result ≤ 96 }
 {

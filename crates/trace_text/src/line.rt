@@ -1,8 +1,8 @@
 //! A line of a trace, and what is appended to it word by word.
 
 ghost use Rattle.std.specs.Prelude.{◌≡◌, ◌+◌, ◌≤◌, [], ◌∷◌, ◌++◌, length, decimal};
-ghost use Rattle.tt_base.specs.Names.{IsDeclared, name_of};
-ghost use Rattle.trace_text.specs.Lines.{IsNamedCall, IsNamedOwner, call_words, correction, owner_name, spaced};
+ghost use Rattle.tt_base.specs.Names.{name_of};
+ghost use Rattle.trace_text.specs.Lines.{call_words, correction, owner_name, spaced};
 
 use arrayvec::ArrayVec;
 use itoa::{Buffer, Integer};
@@ -79,21 +79,21 @@ impl Line {
         self.digits(by);
     }
 
-    /// One more word: the name of a declared thing.
+    /// One more word: the name of a declared thing, an empty word where it has none.
     pub(crate) fn name(&mut self, names: &Names, which: Declared)
-        requires declared { IsDeclared names.now which }
-        requires room { length self.old + 17 ≤ 96 }
+        requires { length self.old + 17 ≤ 96 }
         ensures text { self.new ≡ self.old ++ 32 ∷ name_of names.now which }
         ensures few { length self.new ≤ length self.old + 17 }
     {
-        let name = names.get(which).unwrap();
-        self.word(name.as_bytes());
+        match names.get(which) {
+            Some(name) => self.word(name.as_bytes()),
+            None => self.word(b""),
+        }
     }
 
     /// One more word: the name of an owner.
     pub(crate) fn owner(&mut self, names: &Names, owner: Owner)
-        requires named { IsNamedOwner names.now owner }
-        requires room { length self.old + 17 ≤ 96 }
+        requires { length self.old + 17 ≤ 96 }
         ensures text { self.new ≡ self.old ++ 32 ∷ owner_name names.now owner }
         ensures few { length self.new ≤ length self.old + 17 }
     {
@@ -110,8 +110,7 @@ impl Line {
 
     /// One or two more words: a service, and its argument where it has one.
     pub(crate) fn call(&mut self, names: &Names, call: Call)
-        requires named { IsNamedCall names.now call }
-        requires room { length self.old + 33 ≤ 96 }
+        requires { length self.old + 33 ≤ 96 }
         ensures text { self.new ≡ self.old ++ spaced (call_words names.now call) }
         ensures few { length self.new ≤ length self.old + 33 }
     {

@@ -1,10 +1,5 @@
 //! Each kind of event against the text of the format.
 
-ghost use Rattle.std.specs.Prelude.{IfOk};
-ghost use Rattle.tt_base.specs.declared.names.Declared.TheVariants as Which;
-ghost use Rattle.tt_base.specs.Names.{IsDeclared};
-ghost use Rattle.trace_text.specs.Lines.{IsNamed};
-
 use super::*;
 use std::alloc::Global;
 use std::process::Abort;
@@ -21,13 +16,7 @@ const OSEK: OsekNo = OsekNo(0);
 
 const OISR: OisrNo = OisrNo(0);
 
-fn example(alloc: Global) -> Result<Names, Fail>
-    ensures mode { IfOk result (λ names. IsDeclared names (Which.Mode (record { 0 = 0 }))) }
-    ensures task { IfOk result (λ names. IsDeclared names (Which.Task (record { 0 = 0 }))) }
-    ensures isr { IfOk result (λ names. IsDeclared names (Which.Isr (record { 0 = 0 }))) }
-    ensures osek { IfOk result (λ names. IsDeclared names (Which.Osek (record { 0 = 0 }))) }
-    ensures oisr { IfOk result (λ names. IsDeclared names (Which.Oisr (record { 0 = 0 }))) }
-{
+fn example(alloc: Global) -> Result<Names, Fail> {
     let mut names = Names::new(alloc);
     names.add(NameKind::Mode, Name::new(b"run").ok_or("no name")?)?;
     names.add(
@@ -40,9 +29,7 @@ fn example(alloc: Global) -> Result<Names, Fail>
     Ok(names)
 }
 
-fn shows(rt: &impl Abort, names: &Names, event: Event, text: &[u8])
-    requires { IsNamed names.now event }
-{
+fn shows(rt: &impl Abort, names: &Names, event: Event, text: &[u8]) {
     assert_eq!(rt; line_of(&event, names).as_bytes(), text);
 }
 

@@ -1,0 +1,4 @@
+pub mod Body
+pub mod NineRows
+pub mod Told
+pub mod EventLines

@@ -1,0 +1,14 @@
+//! The commands of the bench: what is written for the words of a command line and a document, and the status.
+#![tactic(auto)]
+
+mod command;
+mod document;
+mod form;
+mod runner;
+mod status;
+mod trace;
+mod words;
+
+pub use command::{MOST_BYTES, serve};
+pub use status::Status;
+pub use words::{Command, Words};

@@ -1,0 +1,45 @@
+//! How a command ends.
+
+ghost use Rattle.std.specs.Prelude.{◌≡◌};
+ghost use Rattle.osektime_core.specs.Status.{code_of};
+
+use tt_read::FormKind;
+
+/// How a command ends. The program's exit status is its code.
+#[derive(Clone, Copy, Debug, PartialEq, Eq)]
+pub enum Status {
+    /// 0: the command's text is written, and a run has ended with its last round.
+    Done,
+    /// 1: want of memory. Nothing was written.
+    Memory,
+    /// 2: the words are no command. Nothing was read or written.
+    Usage,
+    /// 3: a read failed. Nothing was written.
+    ReadFault,
+    /// 4: a write failed. What was written is a part of the text, from its beginning.
+    WriteFault,
+    /// 5: the document has more than 2^20 bytes. Nothing was written.
+    TooLong,
+    /// 6: a line of the document is faulty: the first such line, and its least fault.
+    Form { line: u32, kind: FormKind },
+    /// 11: the document is read, and has rows that this stage of the bench does not run. Nothing was written.
+    NotBuilt,
+}
+
+impl Status {
+    /// The exit status.
+    pub fn code(&self) -> u8
+        ensures { result ≡ code_of self.now }
+    {
+        match self {
+            Status::Done => 0,
+            Status::Memory => 1,
+            Status::Usage => 2,
+            Status::ReadFault => 3,
+            Status::WriteFault => 4,
+            Status::TooLong => 5,
+            Status::Form { line: _, kind: _ } => 6,
+            Status::NotBuilt => 11,
+        }
+    }
+}

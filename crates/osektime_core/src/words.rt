@@ -1,0 +1,81 @@
+//! The words of a command line.
+
+ghost use Rattle.std.specs.Prelude.{◌≡◌, [], ◌∷◌, ◌++◌, OnOk, OnErr};
+ghost use Rattle.osektime_core.specs.Words.{command_of};
+
+use std::alloc::Global;
+use std::marker::Model;
+use tt_base::Memory;
+
+/// What a user asks for.
+#[derive(Clone, Copy, Debug, PartialEq, Eq)]
+pub enum Command {
+    /// `trace`: the lines of the schedule.
+    Trace,
+    /// `show`: the document in its canonical text.
+    Show,
+}
+
+/// The words of a command line, without the program's name. Contracts see them as a list of byte lists.
+#[derive(Drop)]
+pub struct Words {
+    alloc: Global,
+    words: Vec<Vec<u8>>,
+}
+
+impl Model for Words {
+    ghost use Rattle.std.specs.Prelude.{List, ℕ};
+    ghost use Rattle.osektime_core.specs.Words.{bytes_of_each};
+
+    ghost Value = { List (List ℕ) };
+
+    ghost view = { λ w. bytes_of_each w.words.items };
+}
+
+impl Words {
+    /// No words. It takes no memory.
+    pub fn new(alloc: Global) -> Words
+        ensures { result ≡ [] }
+    {
+        Words {
+            alloc,
+            words: Vec::new(alloc),
+        }
+    }
+
+    /// Appends a word. On want of memory the list is unchanged.
+    pub fn push(&mut self, word: &[u8]) -> Result<(), Memory>
+        ensures ok { OnOk result (self.new ≡ self.old ++ word.now ∷ []) }
+        ensures err { OnErr result (self.new ≡ self.old) }
+    {
+        let Ok(copy) = word.to_vec(self.alloc) else {
+            return Err(Memory);
+        };
+        if self.words.push(copy).is_err() {
+            return Err(Memory);
+        }
+        Ok(())
+    }
+
+    /// The command that the words are. None exactly where they are none.
+    pub fn command(&self) -> Option<Command>
+        ensures { result ≡ command_of self.now }
+    {
+        match self.words.as_slice() {
+            [word] => command_named(word.as_slice()),
+            _ => None,
+        }
+    }
+}
+
+fn command_named(word: &[u8]) -> Option<Command>
+    ensures { result ≡ command_of (word.now ∷ []) }
+{
+    if word == b"trace".as_slice() {
+        return Some(Command::Trace);
+    }
+    if word == b"show".as_slice() {
+        return Some(Command::Show);
+    }
+    None
+}

@@ -1,0 +1,4 @@
+pub mod Spells
+pub mod Reading
+pub mod Document
+pub mod FormFault

@@ -1,0 +1,4 @@
+use Rattle.std.specs.Prelude.{ℕ, List, Option, None}
+use Rattle.tt_config.specs.declared.row.Row.{Row}
+unfoldable pub row_of : List (List ℕ) → Option Row
+row_of words = None
