@@ -1,4 +1,3 @@
 pub mod Spells
 pub mod Reading
 pub mod Document
-pub mod FormFault

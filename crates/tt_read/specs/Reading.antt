@@ -1,4 +1,6 @@
+-- stub
 use Rattle.std.specs.Prelude.{ℕ, List, Option, None}
 use Rattle.tt_config.specs.declared.row.Row.{Row}
-unfoldable pub row_of : List (List ℕ) → Option Row
+
+abbrev pub row_of : List (List ℕ) → Option Row
 row_of words = None

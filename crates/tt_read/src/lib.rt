@@ -2,7 +2,5 @@
 #![tactic(auto)]
 
 mod form;
-mod reading;
-pub use reading::read;
 
 pub use form::{FormFault, FormKind};
