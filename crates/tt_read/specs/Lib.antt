@@ -1,3 +1,4 @@
 pub mod Spells
+pub mod Keywords
 pub mod Reading
 pub mod Document

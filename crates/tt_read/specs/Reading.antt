@@ -1,6 +1,156 @@
--- stub
-use Rattle.std.specs.Prelude.{ℕ, List, Option, None}
+-- The row that the words of a line are, read from left to right.
+use Rattle.std.specs.Prelude.{ℕ, ℤ, nat_le, List, [], ◌∷◌, length, Option, Some, None, if◌then◌else◌, find}
+use Rattle.std.specs.Str.{bytes_eq}
+use Rattle.task_lang.specs.declared.syntax.Op.{Op}
+use Rattle.task_lang.specs.declared.syntax.Op.TheVariants.{Add, Sub, Mul, Less, AtMost, Same, Differ}
+use Rattle.tt_base.specs.Name.{is_name}
+use Rattle.tt_doc.specs.Numbers.{number_of, integer_of}
+use Rattle.tt_doc.specs.Words.{joined}
+use Rattle.tt_config.specs.declared.row.Term.{Term}
+use Rattle.tt_config.specs.declared.row.Term.TheVariants as term
 use Rattle.tt_config.specs.declared.row.Row.{Row}
+use Rattle.tt_config.specs.declared.row.Row.TheVariants as r
+use Rattle.tt_config.specs.Spelling.{op_word}
+use Rattle.tt_config.specs.Sound.{are_expressions}
+use Rattle.tt_read.specs.declared.keyword.Keyword.{Keyword}
+use Rattle.tt_read.specs.declared.keyword.Keyword.TheVariants as k
+use Rattle.tt_read.specs.Keywords.{keyword_of}
 
-abbrev pub row_of : List (List ℕ) → Option Row
-row_of words = None
+abbrev pub ops : List Op
+ops = Add ∷ Sub ∷ Mul ∷ Less ∷ AtMost ∷ Same ∷ Differ ∷ []
+
+-- the operator that a word is
+unfoldable pub op_of : List ℕ → Option Op
+op_of text = find (λ op. bytes_eq text (op_word op)) ops
+
+abbrev pub op_or_operand : Option Op → Option ℤ → List ℕ → Option Term
+op_or_operand (Some op) integer text = Some (term.Op op)
+op_or_operand None (Some value) text = Some (term.Int value)
+op_or_operand None None text = if is_name text then Some (term.Name text) else None
+
+-- the term that a word is: an operator, an integer or a name
+unfoldable pub term_of : List ℕ → Option Term
+term_of text = op_or_operand (op_of text) (integer_of text) text
+
+abbrev pub term_in_front : Option Term → Option (List Term) → Option (List Term)
+term_in_front (Some term) (Some terms) = Some (term ∷ terms)
+term_in_front (Some term) None = None
+term_in_front None terms = None
+
+-- the terms that words are
+abbrev pub terms_of : List (List ℕ) → Option (List Term)
+terms_of [] = Some []
+terms_of (word ∷ words) = term_in_front (term_of word) (terms_of words)
+
+-- gives the row that words are, if they are one
+abbrev pub Reader : Type 0
+Reader = List (List ℕ) → Option Row
+
+-- nothing more
+unfoldable pub stop : Row → List (List ℕ) → Option Row
+stop row [] = Some row
+stop row (word ∷ words) = None
+
+-- nothing more, or something
+unfoldable pub stop_or : Row → Reader → List (List ℕ) → Option Row
+stop_or row next [] = Some row
+stop_or row next (word ∷ words) = next (word ∷ words)
+
+abbrev pub with_some : {A : Type 0} → (A → Reader) → Option A → Reader
+with_some next None words = None
+with_some next (Some value) words = next value words
+
+-- a word of the language
+unfoldable pub keyword : (Keyword → Reader) → List (List ℕ) → Option Row
+keyword next [] = None
+keyword next (word ∷ words) = with_some next (keyword_of word) words
+
+unfoldable pub number : (ℕ → Reader) → List (List ℕ) → Option Row
+number next [] = None
+number next (word ∷ words) = with_some next (number_of word) words
+
+unfoldable pub integer : (ℤ → Reader) → List (List ℕ) → Option Row
+integer next [] = None
+integer next (word ∷ words) = with_some next (integer_of word) words
+
+unfoldable pub name : (List ℕ → Reader) → List (List ℕ) → Option Row
+name next [] = None
+name next (word ∷ words) = if is_name word then next word words else None
+
+abbrev pub built : (List Term → Row) → Option (List Term) → Option Row
+built build None = None
+built build (Some terms) = if are_expressions 1 terms then Some (build terms) else None
+
+-- all words are an expression
+unfoldable pub expression : (List Term → Row) → List (List ℕ) → Option Row
+expression build words = built build (terms_of words)
+
+unfoldable pub fail : List (List ℕ) → Option Row
+fail words = None
+
+abbrev pub after_hook : Keyword → Reader
+after_hook k.Error = stop r.HookError
+after_hook k.Shutdown = stop r.HookShutdown
+after_hook _ = fail
+
+abbrev pub after_deadline : ℕ → List ℕ → List ℕ → ℕ → Keyword → Reader
+after_deadline offset mode task deadline k.Stringent = stop (r.AtStringent offset mode task deadline)
+after_deadline offset mode task deadline k.Nonstringent = stop (r.AtNonstringent offset mode task deadline)
+after_deadline offset mode task deadline _ = fail
+
+abbrev pub after_mode : ℕ → List ℕ → Keyword → Reader
+after_mode offset mode k.Activate = name (λ task. number (λ deadline. keyword (after_deadline offset mode task deadline)))
+after_mode offset mode k.Enable = name (λ isr. stop (r.AtEnable offset mode isr))
+after_mode offset mode _ = fail
+
+abbrev pub after_one : Keyword → Reader
+after_one k.One = stop r.Header
+after_one _ = fail
+
+abbrev pub after_priority : List ℕ → ℕ → Keyword → Reader
+after_priority task priority k.Auto = stop (r.OsekAuto task priority)
+after_priority task priority _ = fail
+
+-- what may follow the first word of a row
+abbrev pub after_first : Keyword → Reader
+after_first k.Osektime = keyword after_one
+after_first k.Round = number (λ length. stop (r.Round length))
+after_first k.Adjust = number (λ most. stop (r.Adjust most))
+after_first k.Mode = name (λ mode. stop (r.Mode mode))
+after_first k.Var = name (λ var. integer (λ value. stop (r.Var var value)))
+after_first k.Demand = name (λ demand. number (λ most. number (λ usual. stop (r.Demand demand most usual))))
+after_first k.Task = name (λ task. number (λ stack. stop (r.Task task stack)))
+after_first k.Isr =
+    name (λ isr. number (λ level. number (λ stack. stop_or (r.Isr isr level stack) (number (λ distance. stop (r.IsrFar isr level stack distance))))))
+after_first k.Osek = name (λ task. number (λ priority. stop_or (r.Osek task priority) (keyword (after_priority task priority))))
+after_first k.Oisr = name (λ oisr. number (λ priority. stop (r.Oisr oisr priority)))
+after_first k.Hook = keyword after_hook
+after_first k.At = number (λ offset. name (λ mode. keyword (after_mode offset mode)))
+after_first k.Start = name (λ mode. stop (r.Start mode))
+after_first k.Rounds = number (λ count. stop (r.Rounds count))
+after_first k.Value = name (λ demand. number (λ value. stop (r.Value demand value)))
+after_first k.Arrive = name (λ source. number (λ tick. stop (r.Arrive source tick)))
+after_first k.Time = number (λ global. stop (r.Time global))
+after_first k.Work = number (λ ticks. stop (r.Work ticks))
+after_first k.Take = name (λ demand. stop (r.Take demand))
+after_first k.Set = name (λ var. expression (λ terms. r.Set var terms))
+after_first k.If = expression (λ terms. r.If terms)
+after_first k.Else = stop r.Else
+after_first k.Repeat = number (λ turns. stop (r.Repeat turns))
+after_first k.End = stop r.End
+after_first k.Out = expression (λ terms. r.Out terms)
+after_first k.Switch = name (λ mode. stop (r.Switch mode))
+after_first k.Sync = stop r.Sync
+after_first k.Shutdown = stop r.Shutdown
+after_first k.Activate = name (λ task. stop (r.Activate task))
+after_first k.Chain = name (λ task. stop (r.Chain task))
+after_first k.Terminate = stop r.Terminate
+after_first _ = fail
+
+-- the row that words are, however long its line is
+abbrev pub row_by_words : List (List ℕ) → Option Row
+row_by_words words = keyword after_first words
+
+-- the row that the words of a line are
+unfoldable pub row_of : List (List ℕ) → Option Row
+row_of words = if nat_le (length (joined words)) 200 then row_by_words words else None

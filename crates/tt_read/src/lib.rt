@@ -2,5 +2,7 @@
 #![tactic(auto)]
 
 mod form;
+mod keyword;
+pub mod laws;
 
 pub use form::{FormFault, FormKind};

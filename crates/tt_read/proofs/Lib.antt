@@ -1,0 +1,4 @@
+pub mod Terms
+pub mod Found
+pub mod Complete
+pub mod RowLaws

@@ -1,0 +1,54 @@
+-- The words of the language, and how each is spelled.
+use Rattle.std.specs.Prelude.{ℕ, List, [], ◌∷◌, Option, codes, find}
+use Rattle.std.specs.Str.{bytes_eq}
+use Rattle.tt_read.specs.declared.keyword.Keyword.{Keyword}
+use Rattle.tt_read.specs.declared.keyword.Keyword.TheVariants as k
+
+abbrev pub keyword_text : Keyword → List ℕ
+keyword_text k.Osektime = codes "osektime"
+keyword_text k.One = codes "1"
+keyword_text k.Round = codes "round"
+keyword_text k.Adjust = codes "adjust"
+keyword_text k.Mode = codes "mode"
+keyword_text k.Var = codes "var"
+keyword_text k.Demand = codes "demand"
+keyword_text k.Task = codes "task"
+keyword_text k.Isr = codes "isr"
+keyword_text k.Osek = codes "osek"
+keyword_text k.Auto = codes "auto"
+keyword_text k.Oisr = codes "oisr"
+keyword_text k.Hook = codes "hook"
+keyword_text k.Error = codes "error"
+keyword_text k.Shutdown = codes "shutdown"
+keyword_text k.At = codes "at"
+keyword_text k.Activate = codes "activate"
+keyword_text k.Stringent = codes "stringent"
+keyword_text k.Nonstringent = codes "nonstringent"
+keyword_text k.Enable = codes "enable"
+keyword_text k.Start = codes "start"
+keyword_text k.Rounds = codes "rounds"
+keyword_text k.Value = codes "value"
+keyword_text k.Arrive = codes "arrive"
+keyword_text k.Time = codes "time"
+keyword_text k.Work = codes "work"
+keyword_text k.Take = codes "take"
+keyword_text k.Set = codes "set"
+keyword_text k.If = codes "if"
+keyword_text k.Else = codes "else"
+keyword_text k.Repeat = codes "repeat"
+keyword_text k.End = codes "end"
+keyword_text k.Out = codes "out"
+keyword_text k.Switch = codes "switch"
+keyword_text k.Sync = codes "sync"
+keyword_text k.Chain = codes "chain"
+keyword_text k.Terminate = codes "terminate"
+
+abbrev pub keywords : List Keyword
+keywords =
+    k.Osektime ∷ k.One ∷ k.Round ∷ k.Adjust ∷ k.Mode ∷ k.Var ∷ k.Demand ∷ k.Task ∷ k.Isr ∷ k.Osek ∷ k.Auto ∷ k.Oisr ∷ k.Hook ∷ k.Error
+    ∷ k.Shutdown ∷ k.At ∷ k.Activate ∷ k.Stringent ∷ k.Nonstringent ∷ k.Enable ∷ k.Start ∷ k.Rounds ∷ k.Value ∷ k.Arrive ∷ k.Time ∷ k.Work
+    ∷ k.Take ∷ k.Set ∷ k.If ∷ k.Else ∷ k.Repeat ∷ k.End ∷ k.Out ∷ k.Switch ∷ k.Sync ∷ k.Chain ∷ k.Terminate ∷ []
+
+-- the word of the language that a text is
+unfoldable pub keyword_of : List ℕ → Option Keyword
+keyword_of text = find (λ keyword. bytes_eq text (keyword_text keyword)) keywords
