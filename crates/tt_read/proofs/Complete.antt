@@ -1,10 +1,12 @@
 -- Nothing of the grammar is refused: the words that spell a sound row are read as that row.
-use Rattle.std.proofs.Common.{◌≡◌, ℕ, ◌^◌, true, ◌&&◌, List, [], ◌∷◌, map, length, Some, None, ℤ, refl, sym, ap, ◌∙◌}
-use Rattle.std.specs.Prelude.{nat_le, nat_lt}
+use Rattle.std.proofs.Common.{◌≡◌, ℕ, ◌^◌, true, ◌&&◌, List, [], ◌∷◌, ◌++◌, map, length, Option, Some, None, ℤ, refl, sym, ap, ◌∙◌}
+use Rattle.std.specs.Prelude.{nat_le, nat_lt, option_map}
 use Rattle.std.specs.List.{list_all, flat_map}
+use Rattle.std.specs.Fmt.{decimal, signed_decimal}
 use Rattle.std.proofs.lemmas.Bool.{cond-true, and_parts, ltb-true}
 use Rattle.std.proofs.lemmas.List.{append-nil}
 use Rattle.tt_base.specs.Name.{is_name}
+use Rattle.tt_doc.specs.Numbers.{number_of, integer_of}
 use Rattle.tt_doc.proofs.NumberLaws.{number_of-decimal, integer_of-signed_decimal}
 use Rattle.tt_config.specs.declared.row.Term.{Term}
 use Rattle.tt_config.specs.declared.row.Row.{Row}
@@ -14,7 +16,7 @@ use Rattle.tt_config.specs.Sound.{is_integer, is_sound_term, is_sound_item, are_
 use Rattle.tt_read.specs.declared.keyword.Keyword.{Keyword}
 use Rattle.tt_read.specs.declared.keyword.Keyword.TheVariants as k
 use Rattle.tt_read.specs.Keywords.{keyword_text, keyword_of}
-use Rattle.tt_read.specs.Reading.{Reader, terms_of, stop, stop_or, with_some, keyword, number, integer, name, built, expression, after_first, row_by_words, row_of}
+use Rattle.tt_read.specs.Reading.{Reader, terms_of, stop, stop_or, first_by, rest_of, with_some, one, name_of, keyword, number, integer, name, expression_of, expression, after_first, row_by_words, row_of}
 use Rattle.tt_read.specs.Spells.{Spells}
 use Rattle.tt_read.proofs.Terms.{terms_of-words, fits_from_integer}
 
@@ -70,65 +72,65 @@ reads_end : (row : Row) (next : Reader) → Reads (stop_or row next) [] row
 unfolding stop_or
 reads_end row next = record { at = λ sound. refl }
 
+reads_one : {A : Type 0} (read : List ℕ → Option A) (next : A → Reader) (word : List ℕ) (a : A) (words : List (List ℕ)) (row : Row)
+    → read word ≡ Some a → next a words ≡ Some row → one read next (word ∷ words) ≡ Some row
+unfolding one
+reads_one read next word a words row is later = ap (λ o. with_some next o words) is ∙ later
+
 reads_keyword : (next : Keyword → Reader) (key : Keyword) (items : List Item) (row : Row) → Reads (next key) items row
     → Reads (keyword next) (Key (keyword_text key) ∷ items) row
-unfolding keyword
 reads_keyword next key items row later = record {
-  at = λ sound.
-      ap (λ o. with_some next o (flat_map words_of_item items)) (keyword_of-text key) ∙ later.at sound;
+  at = λ sound. reads_one keyword_of next (keyword_text key) key (flat_map words_of_item items) row (keyword_of-text key) (later.at sound);
 }
-
--- where something follows, the reader of what follows goes on
-reads_keyword_on : (before : Row) (next : Keyword → Reader) (key : Keyword) (items : List Item) (row : Row) → Reads (next key) items row
-    → Reads (stop_or before (keyword next)) (Key (keyword_text key) ∷ items) row
-unfolding stop_or
-reads_keyword_on before next key items row later = record { at = (reads_keyword next key items row later).at }
 
 reads_number : (next : ℕ → Reader) (n : ℕ) (items : List Item) (row : Row) → Reads (next n) items row → Reads (number next) (Number n ∷ items) row
-unfolding number
 reads_number next n items row later = record {
   at = λ sound.
-      let parts = and_parts (nat_lt n (10 ^ 12)) (list_all is_sound_item items) sound in
-      ap (λ o. with_some next o (flat_map words_of_item items)) (number_of-decimal n (ltb-true n (10 ^ 12) parts.0)) ∙ later.at parts.1;
+    let parts = and_parts (nat_lt n (10 ^ 12)) (list_all is_sound_item items) sound in
+    reads_one number_of next (decimal n) n (flat_map words_of_item items) row (number_of-decimal n (ltb-true n (10 ^ 12) parts.0)) (later.at parts.1);
 }
-
-reads_number_on : (before : Row) (next : ℕ → Reader) (n : ℕ) (items : List Item) (row : Row) → Reads (next n) items row
-    → Reads (stop_or before (number next)) (Number n ∷ items) row
-unfolding stop_or
-reads_number_on before next n items row later = record { at = (reads_number next n items row later).at }
 
 reads_integer : (next : ℤ → Reader) (value : ℤ) (items : List Item) (row : Row) → Reads (next value) items row
     → Reads (integer next) (Integer value ∷ items) row
-unfolding integer
 reads_integer next value items row later = record {
   at = λ sound.
-      let parts = and_parts (is_integer value) (list_all is_sound_item items) sound in
-      ap (λ o. with_some next o (flat_map words_of_item items)) (integer_of-signed_decimal value (fits_from_integer value parts.0)) ∙ later.at parts.1;
+    let parts = and_parts (is_integer value) (list_all is_sound_item items) sound in
+    reads_one integer_of next (signed_decimal value) value (flat_map words_of_item items) row
+    (integer_of-signed_decimal value (fits_from_integer value parts.0)) (later.at parts.1);
 }
 
 reads_name : (next : List ℕ → Reader) (text : List ℕ) (items : List Item) (row : Row) → Reads (next text) items row
     → Reads (name next) (Named text ∷ items) row
-unfolding name
 reads_name next text items row later = record {
   at = λ sound.
-      let parts = and_parts (is_name text) (list_all is_sound_item items) sound in
-      cond-true (is_name text) (next text (flat_map words_of_item items)) None parts.0 ∙ later.at parts.1;
+    let parts = and_parts (is_name text) (list_all is_sound_item items) sound in
+    reads_one name_of next text text (flat_map words_of_item items) row (cond-true (is_name text) (Some text) None parts.0) (later.at parts.1);
+}
+
+-- where something follows, the reader of what follows goes on
+reads_on : (before : Row) (next : Reader) (item : Item) (word : List ℕ) (items : List Item) (row : Row) → words_of_item item ≡ word ∷ []
+    → Reads next (item ∷ items) row → Reads (stop_or before next) (item ∷ items) row
+unfolding stop_or
+reads_on before next item word items row is later = record {
+  at = λ sound.
+    ap (λ ws. stop_or before next (ws ++ flat_map words_of_item items)) is
+    ∙ ap (λ ws. next (ws ++ flat_map words_of_item items)) (sym is) ∙ later.at sound;
 }
 
 reads_expression : (build : List Term → Row) (terms : List Term) → Reads (expression build) (Expression terms ∷ []) (build terms)
 unfolding expression
 reads_expression build terms = record {
   at = λ sound.
-      let parts = and_parts (list_all is_sound_term terms && are_expressions 1 terms) true sound in
-      let two = and_parts (list_all is_sound_term terms) (are_expressions 1 terms) parts.0 in
-      ap (λ ws. built build (terms_of ws)) (append-nil (map term_word terms))
-      ∙ ap (built build) (terms_of-words terms two.0)
-      ∙ cond-true (are_expressions 1 terms) (Some (build terms)) None two.1;
+    let parts = and_parts (list_all is_sound_term terms && are_expressions 1 terms) true sound in
+    let two = and_parts (list_all is_sound_term terms) (are_expressions 1 terms) parts.0 in
+    ap (λ ws. option_map build (expression_of (terms_of ws))) (append-nil (map term_word terms))
+    ∙ ap (λ o. option_map build (expression_of o)) (terms_of-words terms two.0)
+    ∙ ap (option_map build) (cond-true (are_expressions 1 terms) (Some terms) None two.1);
 }
 
 reads_row : (row : Row) → Reads row_by_words (items_of row) row
 reads_row r.Header = reads_keyword after_first k.Osektime _ _ (reads_keyword _ k.One _ _ (reads_stop _))
-reads_row (r.Round length) = reads_keyword after_first k.Round _ _ (reads_number _ _ _ _ (reads_stop _))
+reads_row (r.Round ticks) = reads_keyword after_first k.Round _ _ (reads_number _ _ _ _ (reads_stop _))
 reads_row (r.Adjust most) = reads_keyword after_first k.Adjust _ _ (reads_number _ _ _ _ (reads_stop _))
 reads_row (r.Mode mode) = reads_keyword after_first k.Mode _ _ (reads_name _ _ _ _ (reads_stop _))
 reads_row (r.Var var value) = reads_keyword after_first k.Var _ _ (reads_name _ _ _ _ (reads_integer _ _ _ _ (reads_stop _)))
@@ -138,10 +140,10 @@ reads_row (r.Task task stack) = reads_keyword after_first k.Task _ _ (reads_name
 reads_row (r.Isr isr level stack) =
     reads_keyword after_first k.Isr _ _ (reads_name _ _ _ _ (reads_number _ _ _ _ (reads_number _ _ _ _ (reads_end _ _))))
 reads_row (r.IsrFar isr level stack distance) =
-    reads_keyword after_first k.Isr _ _ (reads_name _ _ _ _ (reads_number _ _ _ _ (reads_number _ _ _ _ (reads_number_on _ _ _ _ _ (reads_stop _)))))
+    reads_keyword after_first k.Isr _ _ (reads_name _ _ _ _ (reads_number _ _ _ _ (reads_number _ _ _ _ (reads_on _ _ _ _ _ _ refl (reads_number _ _ _ _ (reads_stop _))))))
 reads_row (r.Osek task priority) = reads_keyword after_first k.Osek _ _ (reads_name _ _ _ _ (reads_number _ _ _ _ (reads_end _ _)))
 reads_row (r.OsekAuto task priority) =
-    reads_keyword after_first k.Osek _ _ (reads_name _ _ _ _ (reads_number _ _ _ _ (reads_keyword_on _ _ k.Auto _ _ (reads_stop _))))
+    reads_keyword after_first k.Osek _ _ (reads_name _ _ _ _ (reads_number _ _ _ _ (reads_on _ _ _ _ _ _ refl (reads_keyword _ k.Auto _ _ (reads_stop _)))))
 reads_row (r.Oisr oisr priority) = reads_keyword after_first k.Oisr _ _ (reads_name _ _ _ _ (reads_number _ _ _ _ (reads_stop _)))
 reads_row r.HookError = reads_keyword after_first k.Hook _ _ (reads_keyword _ k.Error _ _ (reads_stop _))
 reads_row r.HookShutdown = reads_keyword after_first k.Hook _ _ (reads_keyword _ k.Shutdown _ _ (reads_stop _))

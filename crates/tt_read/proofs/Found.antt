@@ -1,6 +1,6 @@
 -- What is read is in the grammar: a row that a reader gives is spelled by the words that it was given.
 use Rattle.std.proofs.Common.{◌≡◌, ℕ, ◌^◌, true, List, [], ◌∷◌, ◌++◌, map, length, Option, Some, None, ℤ, refl, sym, ap, ◌∙◌, subst, inl, inr}
-use Rattle.std.specs.Prelude.{nat_le}
+use Rattle.std.specs.Prelude.{nat_le, option_map}
 use Rattle.std.specs.List.{list_all, flat_map}
 use Rattle.std.proofs.lemmas.Bool.{cond-true, cond-false, and_from, cases_Bool, lt-ltb}
 use Rattle.std.proofs.lemmas.List.{append-nil}
@@ -15,7 +15,7 @@ use Rattle.tt_config.specs.Sound.{is_sound_term, is_sound_item, are_expressions}
 use Rattle.tt_read.specs.declared.keyword.Keyword.{Keyword}
 use Rattle.tt_read.specs.declared.keyword.Keyword.TheVariants as k
 use Rattle.tt_read.specs.Keywords.{keyword_text, keyword_of}
-use Rattle.tt_read.specs.Reading.{Reader, terms_of, stop, stop_or, with_some, keyword, number, integer, name, built, expression, fail, after_hook, after_deadline, after_mode, after_one, after_priority, after_first, row_by_words, row_of}
+use Rattle.tt_read.specs.Reading.{Reader, terms_of, stop, stop_or, first_by, rest_of, with_some, one, name_of, keyword, number, integer, name, expression_of, expression, fail, after_hook, after_deadline, after_mode, after_one, after_priority, after_first, row_by_words, row_of}
 use Rattle.tt_read.specs.Spells.{Spells}
 use Rattle.tt_read.proofs.Terms.{keyword_of-spelled, terms_of-spelled, integer_from_fits}
 
@@ -66,90 +66,83 @@ pub finds_stop_or : (front : List Item → List Item) (row : Row) (next : Reader
 finds_stop_or front row next whole finds = record { at = stop_or_at front row next whole finds }
 
 -- a word is read as a value, and the value's item is spelled by that word
-with_some_at : {A : Type 0} (front : List Item → List Item) (item : A → Item) (next : A → Reader) (o : Option A) (word : List ℕ)
-    → ((a : A) → o ≡ Some a → (words_of_item (item a) ≡ word ∷ []) × (is_sound_item (item a) ≡ true))
-    → ((a : A) → Finds (λ items. front (item a ∷ items)) (next a))
-    → (words : List (List ℕ)) (found : Row) → with_some next o words ≡ Some found → Found front (word ∷ words) found
-with_some_at front item next None word good finds words found h = cc
-with_some_at front item next (Some a) word good finds words found h =
-    let parts = good a refl in found_in_front front (item a) word words found parts.0 parts.1 ((finds a).at words found h)
+record Holds {A : Type 0} (read : List ℕ → Option A) (item : A → Item) : Type 0 where
+  at : (word : List ℕ) (a : A) → read word ≡ Some a → (words_of_item (item a) ≡ word ∷ []) × (is_sound_item (item a) ≡ true)
 
-keyword_at : (front : List Item → List Item) (next : Keyword → Reader) → ((key : Keyword) → Finds (λ items. front (Key (keyword_text key) ∷ items)) (next key))
-    → (words : List (List ℕ)) (found : Row) → keyword next words ≡ Some found → Found front words found
-unfolding keyword
-keyword_at front next finds [] found h = cc
-keyword_at front next finds (word ∷ words) found h =
-    with_some_at front (λ key. Key (keyword_text key)) next (keyword_of word) word
-    (λ key is. (ap (λ w. w ∷ []) (sym (keyword_of-spelled word key is)), refl)) finds words found h
+with_some_at : {A : Type 0} (front : List Item → List Item) (read : List ℕ → Option A) (item : A → Item) (next : A → Reader) (o : Option A) (word : List ℕ)
+    → Holds read item → read word ≡ o → ((a : A) → Finds (λ items. front (item a ∷ items)) (next a))
+    → (words : List (List ℕ)) (found : Row) → with_some next o words ≡ Some found → Found front (word ∷ words) found
+with_some_at front read item next None word holds is finds words found h = cc
+with_some_at front read item next (Some a) word holds is finds words found h =
+    let parts = holds.at word a is in found_in_front front (item a) word words found parts.0 parts.1 ((finds a).at words found h)
+
+one_at : {A : Type 0} (front : List Item → List Item) (read : List ℕ → Option A) (item : A → Item) (next : A → Reader)
+    → Holds read item → ((a : A) → Finds (λ items. front (item a ∷ items)) (next a))
+    → (words : List (List ℕ)) (found : Row) → one read next words ≡ Some found → Found front words found
+unfolding one
+one_at front read item next holds finds [] found h = cc
+one_at front read item next holds finds (word ∷ words) found h =
+    with_some_at front read item next (read word) word holds refl finds words found h
 
 pub finds_keyword : (front : List Item → List Item) (next : Keyword → Reader) → ((key : Keyword) → Finds (λ items. front (Key (keyword_text key) ∷ items)) (next key))
     → Finds front (keyword next)
-finds_keyword front next finds = record { at = keyword_at front next finds }
-
-number_at : (front : List Item → List Item) (next : ℕ → Reader) → ((n : ℕ) → Finds (λ items. front (Number n ∷ items)) (next n))
-    → (words : List (List ℕ)) (found : Row) → number next words ≡ Some found → Found front words found
-unfolding number
-number_at front next finds [] found h = cc
-number_at front next finds (word ∷ words) found h =
-    with_some_at front Number next (number_of word) word
-    (λ n is. let parts = number_of-spelled word n is in (ap (λ w. w ∷ []) (sym parts.0), lt-ltb n (10 ^ 12) parts.1)) finds words found h
+finds_keyword front next finds = record {
+  at = one_at front keyword_of (λ key. Key (keyword_text key)) next
+      (record { at = λ word key is. (ap (λ w. w ∷ []) (sym (keyword_of-spelled word key is)), refl) }) finds;
+}
 
 pub finds_number : (front : List Item → List Item) (next : ℕ → Reader) → ((n : ℕ) → Finds (λ items. front (Number n ∷ items)) (next n)) → Finds front (number next)
-finds_number front next finds = record { at = number_at front next finds }
-
-integer_at : (front : List Item → List Item) (next : ℤ → Reader) → ((value : ℤ) → Finds (λ items. front (Integer value ∷ items)) (next value))
-    → (words : List (List ℕ)) (found : Row) → integer next words ≡ Some found → Found front words found
-unfolding integer
-integer_at front next finds [] found h = cc
-integer_at front next finds (word ∷ words) found h =
-    with_some_at front Integer next (integer_of word) word
-    (λ value is. let parts = integer_of-spelled word value is in (ap (λ w. w ∷ []) (sym parts.0), integer_from_fits value parts.1)) finds words found h
+finds_number front next finds = record {
+  at = one_at front number_of Number next
+      (record { at = λ word n is. let parts = number_of-spelled word n is in (ap (λ w. w ∷ []) (sym parts.0), lt-ltb n (10 ^ 12) parts.1) }) finds;
+}
 
 pub finds_integer : (front : List Item → List Item) (next : ℤ → Reader) → ((value : ℤ) → Finds (λ items. front (Integer value ∷ items)) (next value))
     → Finds front (integer next)
-finds_integer front next finds = record { at = integer_at front next finds }
+finds_integer front next finds = record {
+  at = one_at front integer_of Integer next
+      (record { at = λ word value is. let parts = integer_of-spelled word value is in (ap (λ w. w ∷ []) (sym parts.0), integer_from_fits value parts.1) }) finds;
+}
 
-name_at : (front : List Item → List Item) (next : List ℕ → Reader) → ((text : List ℕ) → Finds (λ items. front (Named text ∷ items)) (next text))
-    → (words : List (List ℕ)) (found : Row) → name next words ≡ Some found → Found front words found
-unfolding name
-name_at front next finds [] found h = cc
-name_at front next finds (word ∷ words) found h =
+name_of-named : (word text : List ℕ) → name_of word ≡ Some text → (word ≡ text) × (is_name text ≡ true)
+name_of-named word text is =
     elim (cases_Bool (is_name word)) [
-      | inl e ↦ found_in_front front (Named word) word words found refl e
-          ((finds word).at words found (sym (cond-true (is_name word) (next word words) None e) ∙ h))
-      | inr e ↦ let none : None ≡ Some found = sym (cond-false (is_name word) (next word words) None e) ∙ h in cc
+      | inl e ↦
+        let same : Some word ≡ Some text = sym (cond-true (is_name word) (Some word) None e) ∙ is in
+        let one : word ≡ text = cc in
+        (one, ap is_name (sym one) ∙ e)
+      | inr e ↦ let none : None ≡ Some text = sym (cond-false (is_name word) (Some word) None e) ∙ is in cc
     ]
 
 pub finds_name : (front : List Item → List Item) (next : List ℕ → Reader) → ((text : List ℕ) → Finds (λ items. front (Named text ∷ items)) (next text))
     → Finds front (name next)
-finds_name front next finds = record { at = name_at front next finds }
-
-built_at : (front : List Item → List Item) (build : List Term → Row) → ((terms : List Term) → items_of (build terms) ≡ front (Expression terms ∷ []))
-    → (words : List (List ℕ)) (o : Option (List Term)) (found : Row) → terms_of words ≡ o → built build o ≡ Some found → Found front words found
-built_at front build whole words None found is h = cc
-built_at front build whole words (Some terms) found is h =
-    elim (cases_Bool (are_expressions 1 terms)) [
-      | inl e ↦
-          let same : Some (build terms) ≡ Some found = sym (cond-true (are_expressions 1 terms) (Some (build terms)) None e) ∙ h in
-          let one : build terms ≡ found = cc in
-          let spells = terms_of-spelled words terms is in
-          subst (Found front words) one (record {
-            items = Expression terms ∷ [];
-            whole = whole terms;
-            spelled = append-nil (map _ terms) ∙ spells.spelled;
-            sound = and_from (is_sound_item (Expression terms)) true (and_from (list_all is_sound_term terms) (are_expressions 1 terms) spells.sound e) refl;
-          })
-      | inr e ↦ let none : None ≡ Some found = sym (cond-false (are_expressions 1 terms) (Some (build terms)) None e) ∙ h in cc
-    ]
+finds_name front next finds = record {
+  at = one_at front name_of Named next
+      (record { at = λ word text is. let parts = name_of-named word text is in (ap (λ w. w ∷ []) (sym parts.0), parts.1) }) finds;
+}
 
 expression_at : (front : List Item → List Item) (build : List Term → Row) → ((terms : List Term) → items_of (build terms) ≡ front (Expression terms ∷ []))
-    → (words : List (List ℕ)) (found : Row) → expression build words ≡ Some found → Found front words found
-unfolding expression
-expression_at front build whole words found h = built_at front build whole words (terms_of words) found refl h
+    → (words : List (List ℕ)) (o : Option (List Term)) (found : Row) → terms_of words ≡ o → option_map build (expression_of o) ≡ Some found → Found front words found
+expression_at front build whole words None found is h = cc
+expression_at front build whole words (Some terms) found is h =
+    elim (cases_Bool (are_expressions 1 terms)) [
+      | inl e ↦
+        let same : Some (build terms) ≡ Some found = sym (ap (option_map build) (cond-true (are_expressions 1 terms) (Some terms) None e)) ∙ h in
+        let one : build terms ≡ found = cc in
+        let spells = terms_of-spelled words terms is in
+        subst (Found front words) one (record {
+          items = Expression terms ∷ [];
+          whole = whole terms;
+          spelled = append-nil (map _ terms) ∙ spells.spelled;
+          sound = and_from (is_sound_item (Expression terms)) true (and_from (list_all is_sound_term terms) (are_expressions 1 terms) spells.sound e) refl;
+        })
+      | inr e ↦ let none : None ≡ Some found = sym (ap (option_map build) (cond-false (are_expressions 1 terms) (Some terms) None e)) ∙ h in cc
+    ]
 
 pub finds_expression : (front : List Item → List Item) (build : List Term → Row) → ((terms : List Term) → items_of (build terms) ≡ front (Expression terms ∷ []))
     → Finds front (expression build)
-finds_expression front build whole = record { at = expression_at front build whole }
+unfolding expression
+finds_expression front build whole = record { at = λ words found h. expression_at front build whole words (terms_of words) found refl h }
 
 abbrev behind : (List Item → List Item) → Keyword → List Item → List Item
 behind front key items = front (Key (keyword_text key) ∷ items)

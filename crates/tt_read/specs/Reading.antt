@@ -1,5 +1,5 @@
 -- The row that the words of a line are, read from left to right.
-use Rattle.std.specs.Prelude.{ℕ, ℤ, nat_le, List, [], ◌∷◌, length, Option, Some, None, if◌then◌else◌, find}
+use Rattle.std.specs.Prelude.{ℕ, ℤ, nat_le, List, [], ◌∷◌, length, Option, Some, None, option_map, if◌then◌else◌, find}
 use Rattle.std.specs.Str.{bytes_eq}
 use Rattle.task_lang.specs.declared.syntax.Op.{Op}
 use Rattle.task_lang.specs.declared.syntax.Op.TheVariants.{Add, Sub, Mul, Less, AtMost, Same, Differ}
@@ -46,47 +46,62 @@ terms_of (word ∷ words) = term_in_front (term_of word) (terms_of words)
 abbrev pub Reader : Type 0
 Reader = List (List ℕ) → Option Row
 
--- nothing more
+-- no row
+unfoldable pub fail : List (List ℕ) → Option Row
+fail words = None
+
+-- this row, where nothing more follows
 unfoldable pub stop : Row → List (List ℕ) → Option Row
 stop row [] = Some row
 stop row (word ∷ words) = None
 
--- nothing more, or something
+-- this row, where nothing more follows, and else what the next reader gives
 unfoldable pub stop_or : Row → Reader → List (List ℕ) → Option Row
 stop_or row next [] = Some row
 stop_or row next (word ∷ words) = next (word ∷ words)
+
+-- what the first word is
+abbrev pub first_by : {A : Type 0} → (List ℕ → Option A) → List (List ℕ) → Option A
+first_by read [] = None
+first_by read (word ∷ words) = read word
+
+-- the words behind the first
+abbrev pub rest_of : List (List ℕ) → List (List ℕ)
+rest_of [] = []
+rest_of (word ∷ words) = words
 
 abbrev pub with_some : {A : Type 0} → (A → Reader) → Option A → Reader
 with_some next None words = None
 with_some next (Some value) words = next value words
 
--- a word of the language
-unfoldable pub keyword : (Keyword → Reader) → List (List ℕ) → Option Row
-keyword next [] = None
-keyword next (word ∷ words) = with_some next (keyword_of word) words
+-- one word, and what may follow it
+unfoldable pub one : {A : Type 0} → (List ℕ → Option A) → (A → Reader) → List (List ℕ) → Option Row
+one read next words = with_some next (first_by read words) (rest_of words)
 
-unfoldable pub number : (ℕ → Reader) → List (List ℕ) → Option Row
-number next [] = None
-number next (word ∷ words) = with_some next (number_of word) words
+-- the name that a word is
+abbrev pub name_of : List ℕ → Option (List ℕ)
+name_of word = if is_name word then Some word else None
 
-unfoldable pub integer : (ℤ → Reader) → List (List ℕ) → Option Row
-integer next [] = None
-integer next (word ∷ words) = with_some next (integer_of word) words
+abbrev pub keyword : (Keyword → Reader) → Reader
+keyword next = one keyword_of next
 
-unfoldable pub name : (List ℕ → Reader) → List (List ℕ) → Option Row
-name next [] = None
-name next (word ∷ words) = if is_name word then next word words else None
+abbrev pub number : (ℕ → Reader) → Reader
+number next = one number_of next
 
-abbrev pub built : (List Term → Row) → Option (List Term) → Option Row
-built build None = None
-built build (Some terms) = if are_expressions 1 terms then Some (build terms) else None
+abbrev pub integer : (ℤ → Reader) → Reader
+integer next = one integer_of next
 
--- all words are an expression
+abbrev pub name : (List ℕ → Reader) → Reader
+name next = one name_of next
+
+-- terms that are one expression
+abbrev pub expression_of : Option (List Term) → Option (List Term)
+expression_of None = None
+expression_of (Some terms) = if are_expressions 1 terms then Some terms else None
+
+-- all words are one expression
 unfoldable pub expression : (List Term → Row) → List (List ℕ) → Option Row
-expression build words = built build (terms_of words)
-
-unfoldable pub fail : List (List ℕ) → Option Row
-fail words = None
+expression build words = option_map build (expression_of (terms_of words))
 
 abbrev pub after_hook : Keyword → Reader
 after_hook k.Error = stop r.HookError
