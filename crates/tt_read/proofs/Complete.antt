@@ -18,7 +18,7 @@ use Rattle.tt_read.specs.declared.keyword.Keyword.TheVariants as k
 use Rattle.tt_read.specs.Keywords.{keyword_text, keyword_of}
 use Rattle.tt_read.specs.Reading.{Reader, terms_of, stop, stop_or, first_by, rest_of, with_some, one, name_of, keyword, number, integer, name, expression_of, expression, after_first, row_by_words, row_of}
 use Rattle.tt_read.specs.Spells.{Spells}
-use Rattle.tt_read.proofs.Terms.{terms_of-words, fits_from_integer}
+use Rattle.tt_read.proofs.TermLaws.{terms_of-words, fits_from_integer}
 
 -- from sound items a reader gives this row
 pub record Reads (reader : Reader) (items : List Item) (row : Row) : Type 0 where

@@ -17,7 +17,7 @@ use Rattle.tt_read.specs.declared.keyword.Keyword.TheVariants as k
 use Rattle.tt_read.specs.Keywords.{keyword_text, keyword_of}
 use Rattle.tt_read.specs.Reading.{Reader, terms_of, stop, stop_or, first_by, rest_of, with_some, one, name_of, keyword, number, integer, name, expression_of, expression, fail, after_hook, after_deadline, after_mode, after_one, after_priority, after_first, row_by_words, row_of}
 use Rattle.tt_read.specs.Spells.{Spells}
-use Rattle.tt_read.proofs.Terms.{keyword_of-spelled, terms_of-spelled, integer_from_fits}
+use Rattle.tt_read.proofs.TermLaws.{keyword_of-spelled, terms_of-spelled, integer_from_fits}
 
 -- a row has these items behind its first ones, and these words spell them
 pub record Found (front : List Item → List Item) (words : List (List ℕ)) (row : Row) : Type 0 where

@@ -1,4 +1,5 @@
-pub mod Terms
+pub mod TermLaws
 pub mod Found
 pub mod Complete
 pub mod RowLaws
+pub mod ExpressionLaws

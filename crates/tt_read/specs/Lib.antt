@@ -1,4 +1,5 @@
 pub mod Spells
 pub mod Keywords
 pub mod Reading
+pub mod Inside
 pub mod Document

@@ -1,5 +1,5 @@
 -- The row that the words of a line are, read from left to right.
-use Rattle.std.specs.Prelude.{ℕ, ℤ, nat_le, List, [], ◌∷◌, length, Option, Some, None, option_map, if◌then◌else◌, find}
+use Rattle.std.specs.Prelude.{ℕ, ◌+◌, ◌-◌, ℤ, nat_le, List, [], ◌∷◌, length, Option, Some, None, option_map, if◌then◌else◌, find}
 use Rattle.std.specs.Str.{bytes_eq}
 use Rattle.task_lang.specs.declared.syntax.Op.{Op}
 use Rattle.task_lang.specs.declared.syntax.Op.TheVariants.{Add, Sub, Mul, Less, AtMost, Same, Differ}
@@ -60,6 +60,11 @@ unfoldable pub stop_or : Row → Reader → List (List ℕ) → Option Row
 stop_or row next [] = Some row
 stop_or row next (word ∷ words) = next (word ∷ words)
 
+-- the row, if there is one, where nothing more follows
+abbrev pub finish : Option Row → List (List ℕ) → Option Row
+finish None words = None
+finish (Some row) words = stop row words
+
 -- what the first word is
 abbrev pub first_by : {A : Type 0} → (List ℕ → Option A) → List (List ℕ) → Option A
 first_by read [] = None
@@ -94,6 +99,12 @@ integer next = one integer_of next
 abbrev pub name : (List ℕ → Reader) → Reader
 name next = one name_of next
 
+-- how many expressions are still to come behind a term, where so many were to come with it
+abbrev pub expected_after : Term → ℕ → ℕ
+expected_after (term.Int value) expected = expected - 1
+expected_after (term.Name name) expected = expected - 1
+expected_after (term.Op op) expected = expected + 1
+
 -- terms that are one expression
 abbrev pub expression_of : Option (List Term) → Option (List Term)
 expression_of None = None
@@ -126,41 +137,45 @@ abbrev pub after_priority : List ℕ → ℕ → Keyword → Reader
 after_priority task priority k.Auto = stop (r.OsekAuto task priority)
 after_priority task priority _ = fail
 
+-- what may follow the first word of a row without an expression
+abbrev pub plain_after : Keyword → Reader
+plain_after k.Osektime = keyword after_one
+plain_after k.Round = number (λ length. stop (r.Round length))
+plain_after k.Adjust = number (λ most. stop (r.Adjust most))
+plain_after k.Mode = name (λ mode. stop (r.Mode mode))
+plain_after k.Var = name (λ var. integer (λ value. stop (r.Var var value)))
+plain_after k.Demand = name (λ demand. number (λ most. number (λ usual. stop (r.Demand demand most usual))))
+plain_after k.Task = name (λ task. number (λ stack. stop (r.Task task stack)))
+plain_after k.Isr =
+    name (λ isr. number (λ level. number (λ stack. stop_or (r.Isr isr level stack) (number (λ distance. stop (r.IsrFar isr level stack distance))))))
+plain_after k.Osek = name (λ task. number (λ priority. stop_or (r.Osek task priority) (keyword (after_priority task priority))))
+plain_after k.Oisr = name (λ oisr. number (λ priority. stop (r.Oisr oisr priority)))
+plain_after k.Hook = keyword after_hook
+plain_after k.At = number (λ offset. name (λ mode. keyword (after_mode offset mode)))
+plain_after k.Start = name (λ mode. stop (r.Start mode))
+plain_after k.Rounds = number (λ count. stop (r.Rounds count))
+plain_after k.Value = name (λ demand. number (λ value. stop (r.Value demand value)))
+plain_after k.Arrive = name (λ source. number (λ tick. stop (r.Arrive source tick)))
+plain_after k.Time = number (λ global. stop (r.Time global))
+plain_after k.Work = number (λ ticks. stop (r.Work ticks))
+plain_after k.Take = name (λ demand. stop (r.Take demand))
+plain_after k.Else = stop r.Else
+plain_after k.Repeat = number (λ turns. stop (r.Repeat turns))
+plain_after k.End = stop r.End
+plain_after k.Switch = name (λ mode. stop (r.Switch mode))
+plain_after k.Sync = stop r.Sync
+plain_after k.Shutdown = stop r.Shutdown
+plain_after k.Activate = name (λ task. stop (r.Activate task))
+plain_after k.Chain = name (λ task. stop (r.Chain task))
+plain_after k.Terminate = stop r.Terminate
+plain_after _ = fail
+
 -- what may follow the first word of a row
 abbrev pub after_first : Keyword → Reader
-after_first k.Osektime = keyword after_one
-after_first k.Round = number (λ length. stop (r.Round length))
-after_first k.Adjust = number (λ most. stop (r.Adjust most))
-after_first k.Mode = name (λ mode. stop (r.Mode mode))
-after_first k.Var = name (λ var. integer (λ value. stop (r.Var var value)))
-after_first k.Demand = name (λ demand. number (λ most. number (λ usual. stop (r.Demand demand most usual))))
-after_first k.Task = name (λ task. number (λ stack. stop (r.Task task stack)))
-after_first k.Isr =
-    name (λ isr. number (λ level. number (λ stack. stop_or (r.Isr isr level stack) (number (λ distance. stop (r.IsrFar isr level stack distance))))))
-after_first k.Osek = name (λ task. number (λ priority. stop_or (r.Osek task priority) (keyword (after_priority task priority))))
-after_first k.Oisr = name (λ oisr. number (λ priority. stop (r.Oisr oisr priority)))
-after_first k.Hook = keyword after_hook
-after_first k.At = number (λ offset. name (λ mode. keyword (after_mode offset mode)))
-after_first k.Start = name (λ mode. stop (r.Start mode))
-after_first k.Rounds = number (λ count. stop (r.Rounds count))
-after_first k.Value = name (λ demand. number (λ value. stop (r.Value demand value)))
-after_first k.Arrive = name (λ source. number (λ tick. stop (r.Arrive source tick)))
-after_first k.Time = number (λ global. stop (r.Time global))
-after_first k.Work = number (λ ticks. stop (r.Work ticks))
-after_first k.Take = name (λ demand. stop (r.Take demand))
 after_first k.Set = name (λ var. expression (λ terms. r.Set var terms))
 after_first k.If = expression (λ terms. r.If terms)
-after_first k.Else = stop r.Else
-after_first k.Repeat = number (λ turns. stop (r.Repeat turns))
-after_first k.End = stop r.End
 after_first k.Out = expression (λ terms. r.Out terms)
-after_first k.Switch = name (λ mode. stop (r.Switch mode))
-after_first k.Sync = stop r.Sync
-after_first k.Shutdown = stop r.Shutdown
-after_first k.Activate = name (λ task. stop (r.Activate task))
-after_first k.Chain = name (λ task. stop (r.Chain task))
-after_first k.Terminate = stop r.Terminate
-after_first _ = fail
+after_first key = plain_after key
 
 -- the row that words are, however long its line is
 abbrev pub row_by_words : List (List ℕ) → Option Row

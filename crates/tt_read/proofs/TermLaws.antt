@@ -1,11 +1,12 @@
 -- Keywords, operators, terms and expressions: each is spelled in one way.
-use Rattle.std.proofs.Common.{◌≡◌, ℕ, ◌==◌, length, ◌^◌, Bool, true, false, cond, ◌&&◌, ◌||◌, List, [], ◌∷◌, map, Option, Some, None, ℤ, pos, negsuc, refl, sym, ap, ◌∙◌, subst, arith, w32, inl, inr, ◌≤◌}
+use Rattle.std.proofs.Common.{◌≡◌, ℕ, ◌+◌, ◌<◌, drop, get_or, ◌==◌, length, ◌^◌, Bool, true, false, cond, ◌&&◌, ◌||◌, List, [], ◌∷◌, map, Option, Some, None, ℤ, pos, negsuc, refl, sym, ap, ◌∙◌, subst, arith, w32, inl, inr, ◌≤◌}
 use Rattle.std.specs.Prelude.{find, FitsSigned, nat_le}
 use Rattle.std.specs.List.{list_all}
 use Rattle.std.specs.Str.{bytes_eq}
 use Rattle.std.specs.Fmt.{signed_decimal}
 use Rattle.std.specs.Char.{is_ascii_digit}
 use Rattle.std.proofs.lemmas.Bool.{cond-true, cond-false, and_parts, and_from, cases_Bool, false≢true, lt-ltb, ltb-true, or_cases, and_right, lt-leb, leb-true, eqb-true, ne_eqb}
+use Rattle.std.proofs.lemmas.List.{drop_more}
 use Rattle.std.proofs.lemmas.Slice.Eq.{bytes_eq-Decides}
 use Rattle.task_lang.specs.declared.syntax.Op.{Op}
 use Rattle.task_lang.specs.declared.syntax.Op.TheVariants.{Add, Sub, Mul, Less, AtMost, Same, Differ}
@@ -31,6 +32,12 @@ passes_from test x rest found later h =
 pub find-passes : {X : Type 0} (test : X → Bool) (xs : List X) (found : X) → find test xs ≡ Some found → test found ≡ true
 find-passes test [] found h = cc
 find-passes test (x ∷ xs) found h = passes_from test x (find test xs) found (find-passes test xs found) h
+
+-- an element that does not pass is passed over
+pub find-drop_more : {X : Type 0} (test : X → Bool) (xs : List X) (i : ℕ) (d : X) → i < length xs → test (get_or xs i d) ≡ false
+    → find test (drop i xs) ≡ find test xs → find test (drop (i + 1) xs) ≡ find test xs
+find-drop_more test xs i d inside fails before =
+    sym (ap (find test) (drop_more xs i d inside) ∙ cond-false (test (get_or xs i d)) (Some (get_or xs i d)) (find test (drop (i + 1) xs)) fails) ∙ before
 
 pub keyword_of-spelled : (text : List ℕ) (keyword : Keyword) → keyword_of text ≡ Some keyword → text ≡ keyword_text keyword
 unfolding keyword_of

@@ -1,0 +1,155 @@
+//! The fields of a row behind its first word.
+#![tactic(auto, unfolding(crate::specs::Reading::one, crate::specs::Reading::fail, crate::specs::Reading::stop, crate::specs::Reading::stop_or, crate::specs::Reading::expression))]
+
+ghost use Rattle.std.specs.Prelude.{◌≡◌, ◌≤◌, length, IfOk};
+ghost use Rattle.tt_read.specs.Reading.{finish, stop, plain_after, after_first, after_one, after_priority, after_hook, after_mode, after_deadline, row_by_words};
+
+use crate::cursor::Cursor;
+use crate::expression::expression;
+use crate::keyword::Keyword;
+use std::alloc::Global;
+use tt_base::{Memory, Name};
+use tt_config::Row;
+
+/// The row of a first word and the fields behind it, where they are one. Words may be left behind the fields.
+fn plain_row(first: Keyword, words: &mut Cursor) -> Option<Row>
+    ensures { finish result words.new ≡ plain_after first words.old }
+{
+    match first {
+        Keyword::Osektime => header(words),
+        Keyword::Round => Some(Row::Round(words.number()?)),
+        Keyword::Adjust => Some(Row::Adjust(words.number()?)),
+        Keyword::Mode => Some(Row::Mode(words.name()?)),
+        Keyword::Var => Some(Row::Var(words.name()?, words.integer()?)),
+        Keyword::Demand => Some(Row::Demand(words.name()?, words.number()?, words.number()?)),
+        Keyword::Task => Some(Row::Task(words.name()?, words.number()?)),
+        Keyword::Isr => isr(words),
+        Keyword::Osek => osek(words),
+        Keyword::Oisr => Some(Row::Oisr(words.name()?, words.number()?)),
+        Keyword::Hook => hook(words),
+        Keyword::At => at(words),
+        Keyword::Start => Some(Row::Start(words.name()?)),
+        Keyword::Rounds => Some(Row::Rounds(words.number()?)),
+        Keyword::Value => Some(Row::Value(words.name()?, words.number()?)),
+        Keyword::Arrive => Some(Row::Arrive(words.name()?, words.number()?)),
+        Keyword::Time => Some(Row::Time(words.number()?)),
+        Keyword::Work => Some(Row::Work(words.number()?)),
+        Keyword::Take => Some(Row::Take(words.name()?)),
+        Keyword::Else => Some(Row::Else),
+        Keyword::Repeat => Some(Row::Repeat(words.number()?)),
+        Keyword::End => Some(Row::End),
+        Keyword::Switch => Some(Row::Switch(words.name()?)),
+        Keyword::Sync => Some(Row::Sync),
+        Keyword::Shutdown => Some(Row::Shutdown),
+        Keyword::Activate => Some(Row::Activate(words.name()?)),
+        Keyword::Chain => Some(Row::Chain(words.name()?)),
+        Keyword::Terminate => Some(Row::Terminate),
+        _ => None,
+    }
+}
+
+fn header(words: &mut Cursor) -> Option<Row>
+    ensures { finish result words.new ≡ after_first Keyword.Osektime words.old }
+{
+    match words.keyword()? {
+        Keyword::One => Some(Row::Header),
+        _ => None,
+    }
+}
+
+fn isr(words: &mut Cursor) -> Option<Row>
+    ensures { finish result words.new ≡ after_first Keyword.Isr words.old }
+{
+    let name = words.name()?;
+    let level = words.number()?;
+    let stack = words.number()?;
+    if words.is_empty() {
+        Some(Row::Isr(name, level, stack))
+    } else {
+        Some(Row::IsrFar(name, level, stack, words.number()?))
+    }
+}
+
+fn osek(words: &mut Cursor) -> Option<Row>
+    ensures { finish result words.new ≡ after_first Keyword.Osek words.old }
+{
+    let name = words.name()?;
+    let priority = words.number()?;
+    if words.is_empty() {
+        return Some(Row::Osek(name, priority));
+    }
+    match words.keyword()? {
+        Keyword::Auto => Some(Row::OsekAuto(name, priority)),
+        _ => None,
+    }
+}
+
+fn hook(words: &mut Cursor) -> Option<Row>
+    ensures { finish result words.new ≡ after_first Keyword.Hook words.old }
+{
+    match words.keyword()? {
+        Keyword::Error => Some(Row::HookError),
+        Keyword::Shutdown => Some(Row::HookShutdown),
+        _ => None,
+    }
+}
+
+fn at(words: &mut Cursor) -> Option<Row>
+    ensures { finish result words.new ≡ after_first Keyword.At words.old }
+{
+    let offset = words.number()?;
+    let mode = words.name()?;
+    match words.keyword()? {
+        Keyword::Activate => activation(offset, mode, words),
+        Keyword::Enable => Some(Row::AtEnable(offset, mode, words.name()?)),
+        _ => None,
+    }
+}
+
+fn activation(offset: u64, mode: Name, words: &mut Cursor) -> Option<Row>
+    ensures { finish result words.new ≡ after_mode offset mode Keyword.Activate words.old }
+{
+    let task = words.name()?;
+    let deadline = words.number()?;
+    match words.keyword()? {
+        Keyword::Stringent => Some(Row::AtStringent(offset, mode, task, deadline)),
+        Keyword::Nonstringent => Some(Row::AtNonstringent(offset, mode, task, deadline)),
+        _ => None,
+    }
+}
+
+fn set(alloc: Global, words: &mut Cursor) -> Result<Option<Row>, Memory>
+    requires { length words.old ≤ 100 }
+    ensures { IfOk result (λ row. finish row words.new ≡ after_first Keyword.Set words.old) }
+{
+    let Some(var) = words.name() else {
+        return Ok(None);
+    };
+    let terms = expression(alloc, words)?;
+    Ok(terms.map(|terms| Row::Set(var, terms)))
+}
+
+/// The row of a first word and the fields behind it, where they are one. Words may be left behind the fields.
+fn row(alloc: Global, first: Keyword, words: &mut Cursor) -> Result<Option<Row>, Memory>
+    requires { length words.old ≤ 100 }
+    ensures { IfOk result (λ row. finish row words.new ≡ after_first first words.old) }
+{
+    match first {
+        Keyword::Set => set(alloc, words),
+        Keyword::If => Ok(expression(alloc, words)?.map(Row::If)),
+        Keyword::Out => Ok(expression(alloc, words)?.map(Row::Out)),
+        _ => Ok(plain_row(first, words)),
+    }
+}
+
+/// The row that words are, where they are one.
+pub fn row_of(alloc: Global, words: &mut Cursor) -> Result<Option<Row>, Memory>
+    requires { length words.old ≤ 100 }
+    ensures { IfOk result (λ row. row ≡ row_by_words words.old) }
+{
+    let Some(first) = words.keyword() else {
+        return Ok(None);
+    };
+    let row = row(alloc, first, words)?;
+    if words.is_empty() { Ok(row) } else { Ok(None) }
+}
