@@ -1,10 +1,10 @@
--- A fact for a fault of the form.
-use Rattle.std.specs.Prelude.{ℕ, Result, Ok, Err, ⊤}
+-- A fact for the fault of a form.
+use Rattle.std.specs.Prelude.{⊤, ℕ}
 use Rattle.tt_read.specs.declared.form.FormKind.{FormKind}
 use Rattle.tt_read.specs.declared.form.FormFault.{FormFault}
 use Rattle.tt_read.specs.declared.form.FormFault.TheVariants.{Memory, Form}
+use Rattle.tt_read.specs.Document.{Fault}
 
-abbrev pub IfForm : {T : Type 0} → Result T FormFault → (ℕ → FormKind → Type 0) → Type 0
-IfForm (Ok x) P = ⊤
-IfForm (Err Memory) P = ⊤
-IfForm (Err (Form line kind)) P = P line kind
+abbrev pub IfForm : FormFault → (Fault → Type 0) → Type 0
+IfForm Memory P = ⊤
+IfForm (Form line kind) P = P (record { line = line; kind = kind })

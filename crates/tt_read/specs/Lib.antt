@@ -3,3 +3,5 @@ pub mod Keywords
 pub mod Reading
 pub mod Inside
 pub mod Document
+pub mod Content
+pub mod FormFault

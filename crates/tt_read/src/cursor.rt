@@ -3,18 +3,26 @@
 ghost use Rattle.std.specs.Prelude.{◌≡◌, ◌≤◌, [], ◌∷◌, MatchOption, IsTrue, ◌↔◌, All, map, length};
 ghost use Rattle.tt_doc.specs.Numbers.{number_of, integer_of};
 ghost use Rattle.tt_doc.specs.Span.{text_of};
+ghost use Rattle.tt_read.specs.Document.{is_comment};
 ghost use Rattle.tt_read.specs.Inside.{IsInside};
 ghost use Rattle.tt_read.specs.Keywords.{keyword_of};
 ghost use Rattle.tt_read.specs.Reading.{first_by, rest_of, name_of};
 
-use arrayvec::ArrayVec;
 use crate::keyword::Keyword;
 use tt_doc::{integer, number};
+use arrayvec::ArrayVec;
 use std::marker::Model;
 use tt_base::Name;
 use tt_doc::Span;
 
+fn begins_with_number_sign(word: &[u8]) -> bool
+    ensures { result ≡ is_comment (word.now ∷ []) }
+{
+    matches!(word, [b'#', ..])
+}
+
 /// The words of a line that are not read yet. Contracts see it as the list of their texts.
+#[derive(Drop)]
 pub struct Cursor<'a> {
     bytes: &'a [u8],
     words: &'a [Span],
@@ -23,7 +31,8 @@ pub struct Cursor<'a> {
 impl<'a> Model for Cursor<'a> {
     ghost use Rattle.std.specs.Prelude.{List, ℕ, map, ◌≤◌, length, All};
     ghost use Rattle.tt_doc.specs.Span.{text_of};
-    ghost use Rattle.tt_read.specs.Inside.{IsInside};
+    ghost use Rattle.tt_read.specs.Document.{is_comment};
+ghost use Rattle.tt_read.specs.Inside.{IsInside};
 
     ghost Value = { List (List ℕ) };
 
@@ -42,6 +51,16 @@ impl<'a> Cursor<'a> {
         Cursor {
             bytes,
             words: words.as_slice(),
+        }
+    }
+
+    /// Whether no word is left, or the next one begins with `#`.
+    pub fn is_comment(&self) -> bool
+        ensures { result ≡ is_comment self.now }
+    {
+        match self.words.first() {
+            None => true,
+            Some(word) => begins_with_number_sign(&self.bytes[word.start..word.end]),
         }
     }
 

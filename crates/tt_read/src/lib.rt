@@ -2,8 +2,9 @@
 #![tactic(auto)]
 
 mod cursor;
-mod fields;
+mod document;
 mod expression;
+mod fields;
 mod form;
 mod keyword;
 
