@@ -3,3 +3,5 @@ pub mod Found
 pub mod Complete
 pub mod RowLaws
 pub mod ExpressionLaws
+pub mod LineContent
+pub mod ReadLaws

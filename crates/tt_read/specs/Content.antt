@@ -4,7 +4,7 @@ use Rattle.tt_config.specs.declared.row.Row.{Row}
 use Rattle.tt_read.specs.declared.document.Content.{Content}
 use Rattle.tt_read.specs.declared.document.Content.TheVariants as content
 use Rattle.tt_read.specs.Document.{is_comment}
-use Rattle.tt_read.specs.Reading.{row_by_words}
+use Rattle.tt_read.specs.Reading.{row_of}
 
 abbrev pub content_by : Bool → Option Row → Content
 content_by true row = content.Nothing
@@ -13,4 +13,4 @@ content_by false (Some row) = content.OneRow row
 
 -- no words or a comment, a row, or neither
 abbrev pub content_of : List (List ℕ) → Content
-content_of words = content_by (is_comment words) (row_by_words words)
+content_of words = content_by (is_comment words) (row_of words)

@@ -1,7 +1,6 @@
 -- The rows of a document, or the first fault of its form.
 use Rattle.std.specs.Prelude.{ℕ, ◌+◌, ◌==◌, Bool, true, false, List, [], ◌∷◌, ◌++◌, flat_map, Option, Some, None, if◌then◌else◌, is_some}
 use Rattle.tt_doc.specs.declared.lines.LineKind.{LineKind}
-use Rattle.tt_doc.specs.declared.lines.LineKind.TheVariants as line_kind
 use Rattle.tt_doc.specs.Lines.{Line, lines_of, fault_of}
 use Rattle.tt_doc.specs.Words.{words_of}
 use Rattle.tt_config.specs.declared.row.Row.{Row}
@@ -9,6 +8,7 @@ use Rattle.tt_config.specs.declared.row.NumberedRow.{NumberedRow}
 use Rattle.tt_config.specs.Spelling.{line_of_row}
 use Rattle.tt_read.specs.declared.form.FormKind.{FormKind}
 use Rattle.tt_read.specs.declared.form.FormKind.TheVariants as kind
+use Rattle.tt_read.specs.FormKind.{kind_of}
 use Rattle.tt_read.specs.Reading.{row_of}
 
 -- the words of a line that is no row: there is none, or the first begins with `#`
@@ -17,18 +17,16 @@ is_comment [] = true
 is_comment ([] ∷ words) = false
 is_comment ((first ∷ rest) ∷ words) = first == 35
 
--- the row of a line, where it is one
-abbrev pub row_of_line : Line → Option Row
-row_of_line line = if is_comment (words_of line.text) then None else row_of (words_of line.text)
+-- the row of a line's words, where they are one
+abbrev pub row_of_words : List (List ℕ) → Option Row
+row_of_words words = if is_comment words then None else row_of words
 
 -- a line without a fault of its bytes is faulty where its words are no row and no comment
 abbrev pub word_fault : List (List ℕ) → Option FormKind
 word_fault words = if is_comment words then None else (if is_some (row_of words) then None else Some kind.Row)
 
 abbrev pub fault_by : Option LineKind → List (List ℕ) → Option FormKind
-fault_by (Some line_kind.Byte) words = Some kind.Byte
-fault_by (Some line_kind.Long) words = Some kind.Long
-fault_by (Some line_kind.Cut) words = Some kind.Cut
+fault_by (Some kind) words = Some (kind_of kind)
 fault_by None words = word_fault words
 
 -- the least kind of fault that a line has
@@ -56,7 +54,7 @@ row_then n (Some row) rows = record { line = n; row = row } ∷ rows
 -- the rows of lines that are numbered from this one on
 abbrev pub rows_of : ℕ → List Line → List NumberedRow
 rows_of n [] = []
-rows_of n (line ∷ lines) = row_then n (row_of_line line) (rows_of (n + 1) lines)
+rows_of n (line ∷ lines) = row_then n (row_of_words (words_of line.text)) (rows_of (n + 1) lines)
 
 -- what a document is: rows, or a fault
 pub data Document : Type 0 where

@@ -1,11 +1,11 @@
 //! Reading documents.
 
-ghost use Rattle.std.specs.Prelude.{◌≡◌, ◌+◌, ◌<◌, ◌≤◌, ◌^◌, ◌++◌, [], length, true, None, IfOk, IfErr, OnOk};
+ghost use Rattle.std.specs.Prelude.{◌≡◌, ◌+◌, ◌<◌, ◌≤◌, ◌^◌, ◌++◌, [], length, true, Some, None, IfOk, IfErr, OnOk};
 ghost use Rattle.tt_doc.specs.Span.{text_of};
 ghost use Rattle.tt_doc.specs.Words.{words_of};
 ghost use Rattle.tt_config.specs.Sound.{AreSound};
 ghost use Rattle.tt_read.specs.Content.{content_of};
-ghost use Rattle.tt_read.specs.Document.{document_of, row_then, row_of_line, word_fault};
+ghost use Rattle.tt_read.specs.Document.{Document, document_of, row_then, row_of_words, word_fault};
 ghost use Rattle.tt_read.specs.FormFault.{IfForm};
 
 use crate::cursor::Cursor;
@@ -28,6 +28,7 @@ enum Content {
 }
 
 /// What the words of a line are.
+#[tactic(auto, using(crate::proofs::LineContent::row_of_line))]
 fn content_at(alloc: Global, bytes: &[u8], span: Span) -> Result<Content, Memory>
     requires ordered { span.start ≤ span.end }
     requires short { span.end ≤ span.start + 200 }
@@ -42,5 +43,58 @@ fn content_at(alloc: Global, bytes: &[u8], span: Span) -> Result<Content, Memory
     match row_of(alloc, &mut cursor)? {
         Some(row) => Ok(Content::OneRow(row)),
         None => Ok(Content::NoRow),
+    }
+}
+
+/// Appends the row of a line that has no fault of its bytes, where it has a row.
+fn read_line(alloc: Global, bytes: &[u8], span: Span, line: u32, rows: &mut Rows) -> Result<(), FormFault>
+    requires ordered { span.start ≤ span.end }
+    requires short { span.end ≤ span.start + 200 }
+    requires inside { span.end ≤ length bytes.now }
+
+    ensures good { OnOk result (word_fault (words_of (text_of bytes.now span)) ≡ None) }
+    ensures appended { OnOk result (rows.new ≡ rows.old ++ row_then line (row_of_words (words_of (text_of bytes.now span))) []) }
+
+    ensures form { IfErr result (λ fault. IfForm fault (λ form. (form ≡ record { line = line; kind = FormKind.Row })
+        × (word_fault (words_of (text_of bytes.now span)) ≡ Some FormKind.Row))) }
+{
+    match content_at(alloc, bytes, span)? {
+        Content::Nothing => Ok(()),
+        Content::OneRow(row) => Ok(rows.push(NumberedRow { line, row })?),
+        Content::NoRow => Err(FormFault::Form { line, kind: FormKind::Row }),
+    }
+}
+
+/// The rows of a document, or what is wrong with its form.
+///
+/// A document is a list of lines, each of which a LF ends. A line has words with spaces around them. Where it has none, or
+/// the first begins with `#`, it is no row, and else its words are a row. What is wrong is the first line that has a
+/// fault, with its least kind. The rows come with the numbers of their lines, counted from 1.
+pub fn read(alloc: Global, bytes: &[u8]) -> Result<Rows, FormFault>
+    requires { length bytes.now < 2 ^ 32 }
+
+    ensures rows { IfOk result (λ rows. document_of bytes.now ≡ Document.Rows rows) }
+    ensures sound { IfOk result AreSound }
+
+    ensures form { IfErr result (λ fault. IfForm fault (λ form. document_of bytes.now ≡ Document.Faulty form)) }
+{
+    let mut rows = Rows::new(alloc);
+    let mut at = 0;
+    let mut line = 0;
+    loop {
+        match next_line(bytes, at) {
+            LineStep::End => return Ok(rows),
+            LineStep::Fault(kind) => {
+                return Err(FormFault::Form {
+                    line: line + 1,
+                    kind: kind.into(),
+                });
+            }
+            LineStep::Line(span, next) => {
+                line += 1;
+                read_line(alloc, bytes, span, line, &mut rows)?;
+                at = next;
+            }
+        }
     }
 }

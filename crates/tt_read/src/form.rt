@@ -1,6 +1,12 @@
 //! What can be wrong with the form of a document.
 
+ghost use Rattle.std.specs.Prelude.{◌≡◌};
+ghost use Rattle.tt_read.specs.declared.form.FormFault.TheVariants.{Memory as memory_fault};
+ghost use Rattle.tt_read.specs.FormKind.{kind_of};
+
 use thiserror::Error;
+use tt_base::Memory;
+use tt_doc::LineKind;
 
 /// What a line has wrong. Where it has several faults, the first of this order counts.
 #[derive(Clone, Copy, Debug, PartialEq, Eq)]
@@ -24,4 +30,24 @@ pub enum FormFault {
     /// The first line that has a fault, counted from 1, and its least kind.
     #[error("line {line} is not of the form")]
     Form { line: u32, kind: FormKind },
+}
+
+impl From<Memory> for FormFault {
+    ghost from_gives = { λ _ fault. fault ≡ memory_fault };
+
+    fn from(_memory: Memory) -> FormFault {
+        FormFault::Memory
+    }
+}
+
+impl From<LineKind> for FormKind {
+    ghost from_gives = { λ kind result. result ≡ kind_of kind };
+
+    fn from(kind: LineKind) -> FormKind {
+        match kind {
+            LineKind::Byte => FormKind::Byte,
+            LineKind::Long => FormKind::Long,
+            LineKind::Cut => FormKind::Cut,
+        }
+    }
 }

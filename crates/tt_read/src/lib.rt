@@ -10,4 +10,5 @@ mod keyword;
 
 pub mod laws;
 
+pub use document::read;
 pub use form::{FormFault, FormKind};
