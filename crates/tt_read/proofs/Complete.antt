@@ -16,7 +16,7 @@ use Rattle.tt_config.specs.Sound.{is_integer, is_sound_term, is_sound_item, are_
 use Rattle.tt_read.specs.declared.keyword.Keyword.{Keyword}
 use Rattle.tt_read.specs.declared.keyword.Keyword.TheVariants as k
 use Rattle.tt_read.specs.Keywords.{keyword_text, keyword_of}
-use Rattle.tt_read.specs.Reading.{Reader, terms_of, stop, stop_or, first_by, rest_of, with_some, one, name_of, keyword, number, integer, name, expression_of, expression, after_first, row_by_words, row_of}
+use Rattle.tt_read.specs.Reading.{Reader, terms_of, stop, stop_or, with_some, one, name_of, keyword, number, integer, name, expression_of, expression, after_first, row_by_words, row_of}
 use Rattle.tt_read.specs.Spells.{Spells}
 use Rattle.tt_read.proofs.TermLaws.{terms_of-words, fits_from_integer}
 
@@ -86,25 +86,25 @@ reads_keyword next key items row later = record {
 reads_number : (next : ℕ → Reader) (n : ℕ) (items : List Item) (row : Row) → Reads (next n) items row → Reads (number next) (Number n ∷ items) row
 reads_number next n items row later = record {
   at = λ sound.
-    let parts = and_parts (nat_lt n (10 ^ 12)) (list_all is_sound_item items) sound in
-    reads_one number_of next (decimal n) n (flat_map words_of_item items) row (number_of-decimal n (ltb-true n (10 ^ 12) parts.0)) (later.at parts.1);
+      let parts = and_parts (nat_lt n (10 ^ 12)) (list_all is_sound_item items) sound in
+      reads_one number_of next (decimal n) n (flat_map words_of_item items) row (number_of-decimal n (ltb-true n (10 ^ 12) parts.0)) (later.at parts.1);
 }
 
 reads_integer : (next : ℤ → Reader) (value : ℤ) (items : List Item) (row : Row) → Reads (next value) items row
     → Reads (integer next) (Integer value ∷ items) row
 reads_integer next value items row later = record {
   at = λ sound.
-    let parts = and_parts (is_integer value) (list_all is_sound_item items) sound in
-    reads_one integer_of next (signed_decimal value) value (flat_map words_of_item items) row
-    (integer_of-signed_decimal value (fits_from_integer value parts.0)) (later.at parts.1);
+      let parts = and_parts (is_integer value) (list_all is_sound_item items) sound in
+      reads_one integer_of next (signed_decimal value) value (flat_map words_of_item items) row
+      (integer_of-signed_decimal value (fits_from_integer value parts.0)) (later.at parts.1);
 }
 
 reads_name : (next : List ℕ → Reader) (text : List ℕ) (items : List Item) (row : Row) → Reads (next text) items row
     → Reads (name next) (Named text ∷ items) row
 reads_name next text items row later = record {
   at = λ sound.
-    let parts = and_parts (is_name text) (list_all is_sound_item items) sound in
-    reads_one name_of next text text (flat_map words_of_item items) row (cond-true (is_name text) (Some text) None parts.0) (later.at parts.1);
+      let parts = and_parts (is_name text) (list_all is_sound_item items) sound in
+      reads_one name_of next text text (flat_map words_of_item items) row (cond-true (is_name text) (Some text) None parts.0) (later.at parts.1);
 }
 
 -- where something follows, the reader of what follows goes on
@@ -113,19 +113,19 @@ reads_on : (before : Row) (next : Reader) (item : Item) (word : List ℕ) (items
 unfolding stop_or
 reads_on before next item word items row is later = record {
   at = λ sound.
-    ap (λ ws. stop_or before next (ws ++ flat_map words_of_item items)) is
-    ∙ ap (λ ws. next (ws ++ flat_map words_of_item items)) (sym is) ∙ later.at sound;
+      ap (λ ws. stop_or before next (ws ++ flat_map words_of_item items)) is
+      ∙ ap (λ ws. next (ws ++ flat_map words_of_item items)) (sym is) ∙ later.at sound;
 }
 
 reads_expression : (build : List Term → Row) (terms : List Term) → Reads (expression build) (Expression terms ∷ []) (build terms)
 unfolding expression
 reads_expression build terms = record {
   at = λ sound.
-    let parts = and_parts (list_all is_sound_term terms && are_expressions 1 terms) true sound in
-    let two = and_parts (list_all is_sound_term terms) (are_expressions 1 terms) parts.0 in
-    ap (λ ws. option_map build (expression_of (terms_of ws))) (append-nil (map term_word terms))
-    ∙ ap (λ o. option_map build (expression_of o)) (terms_of-words terms two.0)
-    ∙ ap (option_map build) (cond-true (are_expressions 1 terms) (Some terms) None two.1);
+      let parts = and_parts (list_all is_sound_term terms && are_expressions 1 terms) true sound in
+      let two = and_parts (list_all is_sound_term terms) (are_expressions 1 terms) parts.0 in
+      ap (λ ws. option_map build (expression_of (terms_of ws))) (append-nil (map term_word terms))
+      ∙ ap (λ o. option_map build (expression_of o)) (terms_of-words terms two.0)
+      ∙ ap (option_map build) (cond-true (are_expressions 1 terms) (Some terms) None two.1);
 }
 
 reads_row : (row : Row) → Reads row_by_words (items_of row) row

@@ -1,5 +1,5 @@
 -- An expression as it is read term by term.
-use Rattle.std.proofs.Common.{◌≡◌, ℕ, zero, suc, ◌+◌, ◌-◌, ◌≤◌, ◌<◌, Bool, true, false, cond, List, [], ◌∷◌, ◌++◌, length, Option, Some, None, refl, sym, ap, ◌∙◌, subst, arith}
+use Rattle.std.proofs.Common.{◌≡◌, ℕ, zero, suc, ◌+◌, ◌-◌, ◌≤◌, ◌<◌, List, [], ◌∷◌, ◌++◌, length, Option, Some, None, refl, sym, ap, ◌∙◌, subst, arith}
 use Rattle.std.specs.Prelude.{option_map}
 use Rattle.std.proofs.lemmas.Bool.{cond-true, cond-false}
 use Rattle.std.proofs.lemmas.List.{append-nil, append_assoc}
@@ -41,11 +41,11 @@ more_terms : (all : List (List ℕ)) (terms : List Term) (expected : ℕ) (word 
     → Parsed all terms expected (word ∷ left) → 0 < expected → term_of word ≡ Some t → Parsed all (terms ++ t ∷ []) (expected_after t expected) left
 more_terms all terms expected word left t parsed some is = record {
   read =
-    parsed.read
-    ∙ ap (λ o. option_map (λ later. terms ++ later) (term_in_front o (terms_of left))) is
-    ∙ in_front_again terms t (terms_of left);
+      parsed.read
+      ∙ ap (λ o. option_map (λ later. terms ++ later) (term_in_front o (terms_of left))) is
+      ∙ in_front_again terms t (terms_of left);
   whole = λ later.
-    ap (are_expressions 1) (append_assoc terms (t ∷ []) later) ∙ parsed.whole (t ∷ later) ∙ after_term t expected later some;
+      ap (are_expressions 1) (append_assoc terms (t ∷ []) later) ∙ parsed.whole (t ∷ later) ∙ after_term t expected later some;
   few = fewer t expected (length left) (length all) some (omega (arith, parsed.few));
 }
 

@@ -15,7 +15,7 @@ use Rattle.tt_config.specs.Sound.{is_sound_term, is_sound_item, are_expressions}
 use Rattle.tt_read.specs.declared.keyword.Keyword.{Keyword}
 use Rattle.tt_read.specs.declared.keyword.Keyword.TheVariants as k
 use Rattle.tt_read.specs.Keywords.{keyword_text, keyword_of}
-use Rattle.tt_read.specs.Reading.{Reader, terms_of, stop, stop_or, first_by, rest_of, with_some, one, name_of, keyword, number, integer, name, expression_of, expression, fail, after_hook, after_deadline, after_mode, after_one, after_priority, after_first, row_by_words, row_of}
+use Rattle.tt_read.specs.Reading.{Reader, terms_of, stop, stop_or, with_some, one, name_of, keyword, number, integer, name, expression_of, expression, fail, after_hook, after_deadline, after_mode, after_one, after_priority, after_first, row_by_words, row_of}
 use Rattle.tt_read.specs.Spells.{Spells}
 use Rattle.tt_read.proofs.TermLaws.{keyword_of-spelled, terms_of-spelled, integer_from_fits}
 
@@ -108,9 +108,9 @@ name_of-named : (word text : List ℕ) → name_of word ≡ Some text → (word 
 name_of-named word text is =
     elim (cases_Bool (is_name word)) [
       | inl e ↦
-        let same : Some word ≡ Some text = sym (cond-true (is_name word) (Some word) None e) ∙ is in
-        let one : word ≡ text = cc in
-        (one, ap is_name (sym one) ∙ e)
+          let same : Some word ≡ Some text = sym (cond-true (is_name word) (Some word) None e) ∙ is in
+          let one : word ≡ text = cc in
+          (one, ap is_name (sym one) ∙ e)
       | inr e ↦ let none : None ≡ Some text = sym (cond-false (is_name word) (Some word) None e) ∙ is in cc
     ]
 
@@ -127,15 +127,15 @@ expression_at front build whole words None found is h = cc
 expression_at front build whole words (Some terms) found is h =
     elim (cases_Bool (are_expressions 1 terms)) [
       | inl e ↦
-        let same : Some (build terms) ≡ Some found = sym (ap (option_map build) (cond-true (are_expressions 1 terms) (Some terms) None e)) ∙ h in
-        let one : build terms ≡ found = cc in
-        let spells = terms_of-spelled words terms is in
-        subst (Found front words) one (record {
-          items = Expression terms ∷ [];
-          whole = whole terms;
-          spelled = append-nil (map _ terms) ∙ spells.spelled;
-          sound = and_from (is_sound_item (Expression terms)) true (and_from (list_all is_sound_term terms) (are_expressions 1 terms) spells.sound e) refl;
-        })
+          let same : Some (build terms) ≡ Some found = sym (ap (option_map build) (cond-true (are_expressions 1 terms) (Some terms) None e)) ∙ h in
+          let one : build terms ≡ found = cc in
+          let spells = terms_of-spelled words terms is in
+          subst (Found front words) one (record {
+            items = Expression terms ∷ [];
+            whole = whole terms;
+            spelled = append-nil (map _ terms) ∙ spells.spelled;
+            sound = and_from (is_sound_item (Expression terms)) true (and_from (list_all is_sound_term terms) (are_expressions 1 terms) spells.sound e) refl;
+          })
       | inr e ↦ let none : None ≡ Some found = sym (ap (option_map build) (cond-false (are_expressions 1 terms) (Some terms) None e)) ∙ h in cc
     ]
 

@@ -5,3 +5,4 @@ pub mod RowLaws
 pub mod ExpressionLaws
 pub mod LineContent
 pub mod ReadLaws
+pub mod CanonicalLaws

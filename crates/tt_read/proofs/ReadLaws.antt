@@ -1,19 +1,15 @@
 -- A document as it is read line by line.
-use Rattle.std.proofs.Common.{◌≡◌, ℕ, zero, suc, ◌+◌, ◌≤◌, ◌<◌, Bool, true, false, ◌&&◌, cond, List, [], ◌∷◌, ◌++◌, length, drop, Option, Some, None, refl, sym, ap, ◌∙◌, subst, arith}
+use Rattle.std.proofs.Common.{◌≡◌, ℕ, suc, ◌+◌, ◌≤◌, Bool, true, false, cond, List, [], ◌∷◌, ◌++◌, length, drop, Option, Some, None, refl, ap, ◌∙◌, subst, arith}
 use Rattle.std.specs.Prelude.{nat_le}
 use Rattle.std.specs.List.{list_all}
-use Rattle.std.proofs.lemmas.Bool.{and_from, cases_Bool, cond-true, cond-false, le-leb}
-use Rattle.std.proofs.lemmas.List.{append-nil, append_assoc, drop_all}
-use Rattle.tt_doc.specs.declared.lines.LineKind.{LineKind}
-use Rattle.tt_doc.specs.Lines.{Line, lines_of, fault_of}
-use Rattle.tt_doc.specs.LineStep.{BeginsWithFault}
+use Rattle.std.proofs.lemmas.Bool.{and_from, le-leb}
+use Rattle.std.proofs.lemmas.List.{append-nil, drop_all}
+use Rattle.tt_doc.specs.Lines.{Line, lines_of}
 use Rattle.tt_doc.specs.Words.{words_of}
 use Rattle.tt_config.specs.declared.row.Row.{Row}
 use Rattle.tt_config.specs.declared.row.NumberedRow.{NumberedRow}
 use Rattle.tt_config.specs.Sound.{is_sound_row, ascend_from, AreSound}
-use Rattle.tt_read.specs.declared.form.FormKind.{FormKind}
-use Rattle.tt_read.specs.FormKind.{kind_of}
-use Rattle.tt_read.specs.Document.{row_of_words, is_comment, word_fault, fault_by, fault_of_line, Fault, fault_or, first_fault, row_then, rows_of, Document, Rows, Faulty, document_by, document_of}
+use Rattle.tt_read.specs.Document.{row_of_words, is_comment, Fault, first_fault, row_then, rows_of, Rows, document_by, document_of}
 use Rattle.tt_read.specs.Reading.{row_of}
 use Rattle.tt_read.proofs.Found.{row_of-spells}
 

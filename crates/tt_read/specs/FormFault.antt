@@ -1,6 +1,5 @@
 -- A fact for the fault of a form.
-use Rattle.std.specs.Prelude.{⊤, ℕ}
-use Rattle.tt_read.specs.declared.form.FormKind.{FormKind}
+use Rattle.std.specs.Prelude.{⊤}
 use Rattle.tt_read.specs.declared.form.FormFault.{FormFault}
 use Rattle.tt_read.specs.declared.form.FormFault.TheVariants.{Memory, Form}
 use Rattle.tt_read.specs.Document.{Fault}

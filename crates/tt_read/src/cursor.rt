@@ -9,11 +9,10 @@ ghost use Rattle.tt_read.specs.Keywords.{keyword_of};
 ghost use Rattle.tt_read.specs.Reading.{first_by, rest_of, name_of};
 
 use crate::keyword::Keyword;
-use tt_doc::{integer, number};
 use arrayvec::ArrayVec;
 use std::marker::Model;
 use tt_base::Name;
-use tt_doc::Span;
+use tt_doc::{Span, integer, number};
 
 fn begins_with_number_sign(word: &[u8]) -> bool
     ensures { result ≡ is_comment (word.now ∷ []) }
@@ -32,7 +31,7 @@ impl<'a> Model for Cursor<'a> {
     ghost use Rattle.std.specs.Prelude.{List, ℕ, map, ◌≤◌, length, All};
     ghost use Rattle.tt_doc.specs.Span.{text_of};
     ghost use Rattle.tt_read.specs.Document.{is_comment};
-ghost use Rattle.tt_read.specs.Inside.{IsInside};
+    ghost use Rattle.tt_read.specs.Inside.{IsInside};
 
     ghost Value = { List (List ℕ) };
 

@@ -47,7 +47,13 @@ fn content_at(alloc: Global, bytes: &[u8], span: Span) -> Result<Content, Memory
 }
 
 /// Appends the row of a line that has no fault of its bytes, where it has a row.
-fn read_line(alloc: Global, bytes: &[u8], span: Span, line: u32, rows: &mut Rows) -> Result<(), FormFault>
+fn read_line(
+    alloc: Global,
+    bytes: &[u8],
+    span: Span,
+    line: u32,
+    rows: &mut Rows,
+) -> Result<(), FormFault>
     requires ordered { span.start ≤ span.end }
     requires short { span.end ≤ span.start + 200 }
     requires inside { span.end ≤ length bytes.now }
@@ -61,7 +67,10 @@ fn read_line(alloc: Global, bytes: &[u8], span: Span, line: u32, rows: &mut Rows
     match content_at(alloc, bytes, span)? {
         Content::Nothing => Ok(()),
         Content::OneRow(row) => Ok(rows.push(NumberedRow { line, row })?),
-        Content::NoRow => Err(FormFault::Form { line, kind: FormKind::Row }),
+        Content::NoRow => Err(FormFault::Form {
+            line,
+            kind: FormKind::Row,
+        }),
     }
 }
 

@@ -4,11 +4,11 @@ ghost use Rattle.std.specs.Prelude.{◌≡◌, ◌<◌, ◌≤◌, [], length, I
 ghost use Rattle.tt_read.specs.Reading.{op_of, term_of, terms_of, expected_after, expression_of};
 
 use crate::cursor::Cursor;
-use tt_doc::integer;
 use std::alloc::Global;
 use task_lang::Op;
 use tt_base::{Memory, Name};
 use tt_config::{Term, Terms};
+use tt_doc::integer;
 
 /// The operator that a word is.
 #[tactic(auto, unfolding(crate::specs::Reading::op_of))]

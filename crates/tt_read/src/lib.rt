@@ -7,7 +7,6 @@ mod expression;
 mod fields;
 mod form;
 mod keyword;
-
 pub mod laws;
 
 pub use document::read;
