@@ -9,6 +9,8 @@ ghost use Rattle.osektime_core.specs.FirstForm.{form_of};
 ghost use Rattle.osektime_core.specs.Answer.{document_answer, rows_answer, trace_answer, refusal_line, kind_word};
 
 use crate::form::first_form;
+use crate::runner::run;
+use crate::trace::{names_of_form, put_events};
 use crate::{Command, Status};
 use std::alloc::Global;
 use tt_base::Memory;
@@ -68,7 +70,16 @@ fn trace<O: Sink>(alloc: Global, rows: &Rows, output: &mut O) -> Status
     ensures cause { result ≡ Status.WriteFault → Rose (O.faults output.old) (O.faults output.new) }
     ensures never_falls { O.faults output.old ≤ O.faults output.new }
 {
-    Status::Memory
+    let Some(form) = first_form(rows.as_slice()) else {
+        return Status::NotBuilt;
+    };
+    let Ok(names) = names_of_form(alloc, &form) else {
+        return Status::Memory;
+    };
+    let Ok(events) = run(alloc, &form) else {
+        return Status::Memory;
+    };
+    status_after(put_events(&names, events.as_slice(), output), Status::Done)
 }
 
 /// Answers a command for rows.
