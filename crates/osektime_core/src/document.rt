@@ -79,7 +79,10 @@ fn trace<O: Sink>(alloc: Global, rows: &Rows, output: &mut O) -> Status
     let Ok(events) = run(alloc, &form) else {
         return Status::Memory;
     };
-    status_after(put_events(&names, events.as_slice(), output), Status::Done)
+    match put_events(&names, events.as_slice(), output) {
+        Ok(()) => Status::Done,
+        Err(_) => Status::WriteFault,
+    }
 }
 
 /// Answers a command for rows.

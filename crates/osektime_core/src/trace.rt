@@ -24,7 +24,11 @@ pub(crate) fn names_of_form(alloc: Global, form: &FirstForm) -> Result<Names, Me
 }
 
 /// Writes the lines of events, in pieces of the buffer's size.
-pub(crate) fn put_events<O: Sink>(names: &Names, events: &[Event], output: &mut O) -> Result<(), WriteFault>
+pub(crate) fn put_events<O: Sink>(
+    names: &Names,
+    events: &[Event],
+    output: &mut O,
+) -> Result<(), WriteFault>
     ensures ok { OnOk result (Appends (O.written output.old) (O.written output.new) (text_of names.now events.now)) }
     ensures part { OnErr result (AppendsPart (O.written output.old) (O.written output.new) (text_of names.now events.now)) }
     ensures cause { OnErr result (Rose (O.faults output.old) (O.faults output.new)) }

@@ -1,16 +1,24 @@
 -- A run ends: its last instant is the one at the round's length.
-use Rattle.std.proofs.Common.{ℕ, zero, suc, ◌≡◌, ◌<◌, ◌≤◌, ◌+◌, false, ◌++◌, nat_eq, refl, ap, sym, ◌∙◌, arith, add-one, cond}
+use Rattle.std.proofs.Common.{ℕ, zero, suc, ◌≡◌, ◌<◌, ◌≤◌, ◌+◌, true, false, List, [], ◌++◌, nat_eq, refl, ap, sym, ◌∙◌, arith, add-one, cond}
 use Rattle.std.proofs.lemmas.Bool.Decides.{nat_tests}
+use Rattle.tt_base.specs.declared.event.Event.{Event}
 use Rattle.tt_world.specs.declared.form.FirstForm.{FirstForm}
-use Rattle.tt_world.specs.Moved.{World, followed, is_over}
+use Rattle.tt_world.specs.declared.statement.Outcome.{Outcome}
+use Rattle.tt_world.specs.declared.statement.Outcome.TheVariants.{GoesOn, Stopped}
+use Rattle.tt_world.specs.Moved.{World, Gives, followed, is_over}
 use Rattle.tt_world.specs.Opening.{opening, round_end, rows, checks, activation}
 use Rattle.tt_world.specs.Step.{step}
-use Rattle.tt_world.specs.Schedule.{instant, instant_at, world_at, events_before, ends_at, IsLast, last_from, last_instant, schedule}
+use Rattle.tt_world.specs.Schedule.{instant, instant_at, world_at, events_before, ends_at, IsLast, last_from, last_instant, schedule, first_world}
 
 -- which instants end a run
 over_is : (f : FirstForm) (w : World) → 2 ≤ f.round → is_over (instant f w).end ≡ nat_eq w.tick f.round
 unfolding instant opening round_end rows checks activation step followed
 over_is f w long = grind (arith, nat_tests)
+
+-- what comes before the tick leaves the tick
+pub opening_tick : (f : FirstForm) (w : World) → (opening f w).world.tick ≡ w.tick
+unfolding opening round_end rows checks activation followed
+opening_tick f w = grind (arith, nat_tests)
 
 -- an instant that does not end a run takes one tick
 tick_is : (f : FirstForm) (w : World) → 2 ≤ f.round → nat_eq w.tick f.round ≡ false → (instant f w).world.tick ≡ w.tick + 1
@@ -59,3 +67,36 @@ world_next f n = ap (world_at f) (sym (add-one n))
 pub events_next : (f : FirstForm) (n : ℕ) → events_before f n ++ (instant f (world_at f n)).events ≡ events_before f (n + 1)
 unfolding events_before instant_at
 events_next f n = ap (events_before f) (sym (add-one n))
+
+-- what a runner keeps from instant to instant: its world and its events are those of the schedule at the world's tick
+pub record AtTick (f : FirstForm) (w : World) (noted : List Event) : Type 0 where
+  pub world : w ≡ world_at f w.tick
+  pub events : noted ≡ events_before f w.tick
+  pub within : w.tick ≤ f.round
+
+pub at_first : (f : FirstForm) → AtTick f first_world []
+unfolding world_at events_before
+at_first f = record { world = refl; events = refl; within = omega arith }
+
+pub at_next : (f : FirstForm) (v w : World) (events more : List Event) (end : Outcome) → 2 ≤ f.round → AtTick f v events
+    → Gives events more w end (instant f v) → end ≡ GoesOn → (w.tick ≡ v.tick + 1) × (v.tick < f.round) × AtTick f w more
+at_next f v w events more end long at gives going =
+    let inside : nat_eq v.tick f.round ≡ false = sym (over_is f v long) ∙ ap is_over (sym gives.end_is ∙ going) in
+    let less : v.tick < f.round = grind (arith, nat_tests, at.within) in
+    let next : w.tick ≡ v.tick + 1 = ap (λ (u : World). u.tick) gives.world_is ∙ tick_is f v long inside in
+    (next, less, record {
+      world = gives.world_is ∙ ap (λ u. (instant f u).world) at.world ∙ world_next f v.tick ∙ ap (world_at f) (sym next);
+      events = gives.events_are ∙ ap (λ u. events ++ (instant f u).events) at.world ∙ ap (λ l. l ++ (instant f (world_at f v.tick)).events) at.events
+          ∙ events_next f v.tick ∙ ap (events_before f) (sym next);
+      within = rw next (omega arith)
+    })
+
+pub at_end : (f : FirstForm) (v w : World) (events more : List Event) (end : Outcome) → 2 ≤ f.round → AtTick f v events
+    → Gives events more w end (instant f v) → end ≡ Stopped → more ≡ schedule f
+at_end f v w events more end long at gives stopped =
+    let over : nat_eq v.tick f.round ≡ true = sym (over_is f v long) ∙ ap is_over (sym gives.end_is ∙ stopped) in
+    let here : v.tick ≡ f.round = grind (arith, nat_tests) in
+    gives.events_are
+    ∙ ap (λ u. events ++ (instant f u).events) (at.world ∙ ap (world_at f) here)
+    ∙ ap (λ l. l ++ (instant f (world_at f f.round)).events) (at.events ∙ ap (events_before f) here)
+    ∙ sym (schedule_is f long)
