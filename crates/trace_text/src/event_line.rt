@@ -10,7 +10,7 @@ use crate::line::Line;
 use tt_base::{Call, Declared, Event, ModeNo, Names, Owner, TaskNo, Tick};
 
 /// The line of an event, its LF included: at most 96 bytes. Its stamp in ticks comes first, and one space stands between
-/// words. All that the event speaks of has a name. The words are the bench's own.
+/// words. A thing that the names do not have stands as an empty word. The words are the bench's own.
 #[tactic(auto, unfolding(crate::specs::Lines::line_of))]
 pub fn line_of(event: &Event, names: &Names) -> Line
     ensures line { result ≡ line_of names.now event.now }
