@@ -11,8 +11,8 @@ use Rattle.task_lang.specs.declared.syntax.Stmt.TheFolds.{map-Stmt, fold_out-Stm
 use Rattle.task_lang.specs.declared.syntax.Stmt.TheVariants as s
 use Rattle.task_lang.specs.Limits.{AreNumbersInRange, AreMostsInRange, AreUsualsInRange, each_of, each_in, inner_pass, is_number_in_range}
 use Rattle.task_lang.specs.Opening.{fold-Work, fold-Repeat}
-use Rattle.task_lang.specs.Tick.{Supply, State, work_then, repeat_then, branch, usual_of, values_of, given, tick, tick_by, tick_list}
-use Rattle.task_lang.specs.TickLaws.{KeepsMost, AreValuesKept, Lasts, TickLowersWorst, TickKeepsEach, TickKeepsNumbers}
+use Rattle.task_lang.specs.Tick.{Supply, State, work_then, repeat_then, branch, usual_of, values_of, given, tick, tick_by, tick_list, ticks}
+use Rattle.task_lang.specs.TickLaws.{KeepsMost, AreValuesKept, LastsThroughTicks, TickLowersWorst, TickKeepsEach, TickKeepsNumbers, TicksEnd}
 use Rattle.task_lang.specs.Value.{value_of}
 use Rattle.task_lang.specs.Worst.{most_of, worst_of, worst_in, worst_step}
 use Rattle.task_lang.proofs.Numbers.{and_left, and_right, from_nat_le, most_small}
@@ -147,7 +147,7 @@ module _ (test : Stmt-F Bool → Bool) where
   each-branch (pos (suc n)) first second one other = one
   each-branch (negsuc n) first second one other = one
 
-  keeps_by : (supply : Supply) (state : State) (front : Stmt-F Stmt) (rest : List Stmt) → Lasts supply test
+  keeps_by : (supply : Supply) (state : State) (front : Stmt-F Stmt) (rest : List Stmt) → LastsThroughTicks supply test
       → test (map-Stmt Stmt Bool (each_of test) front) ≡ true → inner_pass (map-Stmt Stmt Bool (each_of test) front) ≡ true → each_in test rest ≡ true
       → each_in test (tick_by supply state front rest).left ≡ true
   keeps_by supply state (Stmt-F.Work ticks) rest lasts here inside there =
@@ -166,7 +166,7 @@ module _ (test : Stmt-F Bool → Bool) where
   keeps_by supply state (Stmt-F.Out expr) rest lasts here inside there = there
   keeps_by supply state (Stmt-F.Service call) rest lasts here inside there = there
 
-  keeps_list : (supply : Supply) (state : State) (list : List Stmt) → Lasts supply test → state.left ≡ list → each_in test list ≡ true → each_in test (tick_list supply state list).left ≡ true
+  keeps_list : (supply : Supply) (state : State) (list : List Stmt) → LastsThroughTicks supply test → state.left ≡ list → each_in test list ≡ true → each_in test (tick_list supply state list).left ≡ true
   keeps_list supply state [] lasts is passed = rw is passed
   keeps_list supply state (front ∷ rest) lasts is passed =
       let here = opened test front (and_left (each_of test front) _ passed) in
@@ -177,7 +177,7 @@ pub keeps_each : TickKeepsEach
 unfolding tick
 keeps_each supply state test lasts passed = keeps_list test supply state state.left lasts refl passed
 
-numbers_last : (supply : Supply) → KeepsMost supply → AreMostsInRange supply.demands → Lasts supply is_number_in_range
+numbers_last : (supply : Supply) → KeepsMost supply → AreMostsInRange supply.demands → LastsThroughTicks supply is_number_in_range
 numbers_last supply keeps mosts = record {
   work = λ n range. grind (arith, nat_tests, range);
   repeat = λ n body range. grind (arith, nat_tests, range);
@@ -188,3 +188,27 @@ numbers_last supply keeps mosts = record {
 
 pub keeps_numbers : TickKeepsNumbers
 keeps_numbers supply state keeps mosts numbers = keeps_each supply state is_number_in_range (numbers_last supply keeps mosts) numbers
+
+-- ---- to the end
+
+-- Nothing left stays nothing.
+stays_empty : (supply : Supply) (n : ℕ) (state : State) → state.left ≡ [] → (ticks supply n state).left ≡ []
+unfolding ticks tick
+stays_empty supply zero state is = is
+stays_empty supply (suc n) state is = stays_empty supply n (tick supply state) (rw is refl)
+
+front_is_some : (front : Stmt) (rest left : List Stmt) → left ≡ front ∷ rest → left ≢ []
+front_is_some front rest left is none = cc
+
+ends_by : (supply : Supply) (n : ℕ) (state : State) (left : List Stmt) → state.left ≡ left → KeepsMost supply → AreMostsInRange supply.demands
+    → AreNumbersInRange state.left → worst_in supply.demands state.left ≤ n → (ticks supply n state).left ≡ []
+unfolding ticks
+ends_by supply n state [] is keeps mosts numbers few = stays_empty supply n state is
+ends_by supply zero state (front ∷ rest) is keeps mosts numbers few =
+    absurd (omega (arith, lowers_worst supply state keeps numbers (front_is_some front rest state.left is)))
+ends_by supply (suc n) state (front ∷ rest) is keeps mosts numbers few =
+    ends_by supply n (tick supply state) (tick supply state).left refl keeps mosts (keeps_numbers supply state keeps mosts numbers)
+    (omega (arith, lowers_worst supply state keeps numbers (front_is_some front rest state.left is)))
+
+pub ends : TicksEnd
+ends supply state n keeps mosts numbers few = ends_by supply n state state.left refl keeps mosts numbers few

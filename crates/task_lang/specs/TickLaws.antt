@@ -1,10 +1,10 @@
--- What a tick does to the worst case and to the numbers of a list.
+-- What ticks do to the worst case of a list, and to what each of its statements has.
 use Rattle.std.specs.Prelude.{◌≡◌, ◌≢◌, ℕ, suc, ◌+◌, ◌≤◌, Bool, true, nat_le, IsTrue, List, [], slice_get}
 use Rattle.std.specs.List.{list_all}
 use Rattle.tt_base.specs.declared.number.DemandNo.{DemandNo}
 use Rattle.task_lang.specs.declared.syntax.Stmt.TheOpen.{Stmt-F}
 use Rattle.task_lang.specs.Limits.{AreNumbersInRange, AreMostsInRange, each_in}
-use Rattle.task_lang.specs.Tick.{Supply, State, values_of, given, tick}
+use Rattle.task_lang.specs.Tick.{Supply, State, values_of, given, tick, ticks}
 use Rattle.task_lang.specs.Worst.{most_of, worst_in}
 
 -- What a demand is given is at most its most, however many of its values were used.
@@ -22,17 +22,22 @@ TickLowersWorst = (supply : Supply) (state : State) → KeepsMost supply → Are
     → worst_in supply.demands (tick supply state).left + 1 ≤ worst_in supply.demands state.left
 
 -- A test that passes at a statement passes at what a tick makes of it.
-pub record Lasts (supply : Supply) (test : Stmt-F Bool → Bool) : Type 0 where
+pub record LastsThroughTicks (supply : Supply) (test : Stmt-F Bool → Bool) : Type 0 where
   pub work : (n : ℕ) → test (Stmt-F.Work (suc (suc n))) ≡ true → test (Stmt-F.Work (suc n)) ≡ true
   pub repeat : (n : ℕ) (body : List Bool) → test (Stmt-F.Repeat (suc (suc n)) body) ≡ true → test (Stmt-F.Repeat (suc n) body) ≡ true
   pub take : (demand : DemandNo) (used n : ℕ) → given supply demand.0 used ≡ suc n → test (Stmt-F.Take demand) ≡ true → test (Stmt-F.Work (suc n)) ≡ true
 
 -- A tick leaves statements that all pass such a test, inner ones too.
 abbrev pub TickKeepsEach : Type 0
-TickKeepsEach = (supply : Supply) (state : State) (test : Stmt-F Bool → Bool) → Lasts supply test → each_in test state.left ≡ true
+TickKeepsEach = (supply : Supply) (state : State) (test : Stmt-F Bool → Bool) → LastsThroughTicks supply test → each_in test state.left ≡ true
     → each_in test (tick supply state).left ≡ true
 
 -- A tick leaves numbers that are in range.
 abbrev pub TickKeepsNumbers : Type 0
 TickKeepsNumbers = (supply : Supply) (state : State) → KeepsMost supply → AreMostsInRange supply.demands → AreNumbersInRange state.left
     → AreNumbersInRange (tick supply state).left
+
+-- After as many ticks as the worst case nothing is left.
+abbrev pub TicksEnd : Type 0
+TicksEnd = (supply : Supply) (state : State) (n : ℕ) → KeepsMost supply → AreMostsInRange supply.demands → AreNumbersInRange state.left
+    → worst_in supply.demands state.left ≤ n → (ticks supply n state).left ≡ []

@@ -1,6 +1,6 @@
 //! Execution demands, what a script gives for them, and how much of it was used.
 
-ghost use Rattle.std.specs.Prelude.{◌≡◌, ◌+◌, ◌^◌, ◌<◌, min, [], length, replicate, IfOk, slice_get, slice_index, slice_index_or, slice_set};
+ghost use Rattle.std.specs.Prelude.{◌≡◌, ◌+◌, min, replicate, IfOk, slice_index, slice_set};
 
 use std::alloc::Global;
 use std::marker::Model;
@@ -57,7 +57,8 @@ impl Cursors {
     /// there has none.
     pub(crate) fn use_one(&mut self, demand: DemandNo, values: usize) -> usize
         ensures before { result ≡ slice_index self.old demand.0 }
-        ensures after { self.new ≡ slice_set self.old demand.0 (min (slice_index self.old demand.0 + 1) values) }
+        ensures after { self.new
+            ≡ slice_set self.old demand.0 (min (slice_index self.old demand.0 + 1) values) }
     {
         match self.used.get_mut(demand.0 as usize) {
             Some(place) => {

@@ -1,6 +1,6 @@
 //! Laws of the definitions. Each is the contract of a function with an empty body.
 
-ghost use Rattle.task_lang.specs.TickLaws.{TickLowersWorst, TickKeepsEach, TickKeepsNumbers};
+ghost use Rattle.task_lang.specs.TickLaws.{TickLowersWorst, TickKeepsEach, TickKeepsNumbers, TicksEnd};
 
 /// A tick of a list of statements lowers its worst case by at least one, where its numbers are in range, it is not empty, and
 /// the script gives no demand more than its most.
@@ -17,4 +17,10 @@ pub fn tick_keeps_each()
 /// A tick leaves numbers that are in range, where the script gives no demand more than its most.
 pub fn tick_keeps_numbers()
     ensures { TickKeepsNumbers }
+{}
+
+/// After as many ticks as the worst case of a list nothing is left of it, where its numbers are in range, and the script gives
+/// no demand more than its most.
+pub fn ticks_end()
+    ensures { TicksEnd }
 {}

@@ -87,7 +87,8 @@ impl Left {
         demands: &Demands,
         values: &Values,
     ) -> Result<Option<Effect>, Memory>
-        ensures ok { IfOk result (λ effect. state_of self.new vars.new cursors.new (option_to_list effect)
+        ensures ok { IfOk result (λ effect.
+            state_of self.new vars.new cursors.new (option_to_list effect)
             ≡ tick (supply_of demands.now values.now) (state_of self.old vars.old cursors.old [])) }
         ensures err_left { OnErr result (self.new ≡ self.old) }
         ensures err_vars { OnErr result (vars.new ≡ vars.old) }
@@ -119,9 +120,10 @@ fn tick_front(
     values: &Values,
 ) -> Result<Option<Effect>, Memory>
     requires { vec_len stack.old < vec_capacity stack.old }
-    ensures ok { IfOk result (λ effect. state_of (reverse stack.new.items) vars.new cursors.new (option_to_list effect)
-        ≡ tick_by (supply_of demands.now values.now) (state_of (front ∷ reverse stack.old.items) vars.old cursors.old [])
-        (out-Stmt front) (reverse stack.old.items)) }
+    ensures ok { let rest = reverse stack.old.items in IfOk result (λ effect.
+        state_of (reverse stack.new.items) vars.new cursors.new (option_to_list effect)
+        ≡ tick_by (supply_of demands.now values.now)
+        (state_of (front ∷ rest) vars.old cursors.old []) (out-Stmt front) rest) }
     ensures err_stack { OnErr result (stack.new.items ≡ stack.old.items ++ front ∷ []) }
     ensures err_vars { OnErr result (vars.new ≡ vars.old) }
     ensures err_cursors { OnErr result (cursors.new ≡ cursors.old) }
@@ -165,7 +167,8 @@ fn put_work(stack: &mut Vec<Stmt>, ticks: u64)
 
 /// How many ticks a demand is given now. It uses one of the script's values, if there is one.
 fn take(cursors: &mut Cursors, demand: DemandNo, demands: &Demands, values: &Values) -> u64
-    ensures given { result ≡ given (supply_of demands.now values.now) demand.0 (slice_index cursors.old demand.0) }
+    ensures given { result
+        ≡ given (supply_of demands.now values.now) demand.0 (slice_index cursors.old demand.0) }
     ensures used { cursors.new ≡ use_one (supply_of demands.now values.now) demand.0 cursors.old }
 {
     let list = values_of(values, demand);
@@ -204,7 +207,8 @@ fn put_branch(
     vars: &Vars,
 ) -> Result<(), Memory>
     requires { vec_len stack.old < vec_capacity stack.old }
-    ensures ok { OnOk result (reverse stack.new.items ≡ branch (value_of vars.now expr) first second ++ reverse stack.old.items) }
+    ensures ok { OnOk result (reverse stack.new.items
+        ≡ branch (value_of vars.now expr) first second ++ reverse stack.old.items) }
     ensures err { OnErr result (stack.new.items ≡ stack.old.items ++ s.If expr first second ∷ []) }
 {
     if stack.reserve(first.len().max(second.len())).is_err() {
@@ -222,7 +226,8 @@ fn put_branch(
 /// Puts one turn of a `repeat` in front, and behind it the turns that are left. `Memory`: the `repeat` is there again.
 fn put_turn(stack: &mut Vec<Stmt>, alloc: Global, turns: u64, body: Body) -> Result<(), Memory>
     requires { vec_len stack.old < vec_capacity stack.old }
-    ensures ok { OnOk result (reverse stack.new.items ≡ body ++ repeat_then (turns - 1) body (reverse stack.old.items)) }
+    ensures ok { OnOk result (reverse stack.new.items
+        ≡ body ++ repeat_then (turns - 1) body (reverse stack.old.items)) }
     ensures err { OnErr result (stack.new.items ≡ stack.old.items ++ s.Repeat turns body ∷ []) }
 {
     if stack.reserve(body.len() + 1).is_err() {

@@ -6,7 +6,8 @@ ghost use Rattle.task_lang.specs.Value.{value_of, result_of};
 use crate::syntax::{Expr, Op};
 use crate::vars::Vars;
 
-/// The value of an expression. A variable that `vars` does not have counts as 0.
+/// The value of an expression. A variable that `vars` does not have counts as 0. It calls itself once for each term, of which
+/// the rules allow 100.
 pub fn value(expr: &Expr, vars: &Vars) -> i32
     ensures { result ≡ value_of vars.now expr.now }
 {
