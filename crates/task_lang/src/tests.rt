@@ -64,6 +64,7 @@ fn a_variable_is_set_alone(rt: HostRuntime) -> Result<(), Fail> {
     for first in [5, -6, 7] {
         vars.push(first)?;
     }
+    assert_eq!(rt; vars.as_slice(), [5, -6, 7].as_slice());
     let first = vars.copy(rt.alloc())?;
     vars.set(VarNo(1), i32::MIN);
     assert_eq!(rt; vars.get(VarNo(1)), i32::MIN);
