@@ -6,3 +6,4 @@ pub mod ExpressionLaws
 pub mod LineContent
 pub mod ReadLaws
 pub mod CanonicalLaws
+pub mod Pieces

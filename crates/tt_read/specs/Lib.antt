@@ -6,3 +6,5 @@ pub mod FormKind
 pub mod Document
 pub mod Content
 pub mod FormFault
+pub mod Parts
+pub mod Puts

@@ -8,6 +8,8 @@ mod fields;
 mod form;
 mod keyword;
 pub mod laws;
+mod showing;
 
 pub use document::read;
 pub use form::{FormFault, FormKind};
+pub use showing::show;
