@@ -4,7 +4,7 @@ ghost use Rattle.std.specs.Io.KnownBytes.{Appends};
 ghost use Rattle.std.specs.Prelude.{◌≡◌, ◌≢◌, ◌≤◌, ◌<◌, ◌^◌, length, OnOk, OnErr, IfOk, string_bytes};
 ghost use Rattle.tt_io.specs.Count.{Rose};
 ghost use Rattle.tt_io.specs.Known.{AppendsPart};
-ghost use Rattle.tt_read.specs.Document.{document_of};
+ghost use Rattle.tt_read.specs.Document.{document_of, canonical_text};
 ghost use Rattle.osektime_core.specs.FirstForm.{form_of};
 ghost use Rattle.osektime_core.specs.Answer.{document_answer, rows_answer, trace_answer, refusal_line, kind_word};
 
@@ -16,7 +16,7 @@ use std::alloc::Global;
 use tt_base::Memory;
 use tt_config::Rows;
 use tt_io::{Sink, WriteFault, put_all};
-use tt_read::{FormFault, FormKind, read};
+use tt_read::{FormFault, FormKind, read, show};
 
 /// The status of a text that was to be written.
 fn status_after(written: Result<(), WriteFault>, status: Status) -> Status
@@ -85,6 +85,19 @@ fn trace<O: Sink>(alloc: Global, rows: &Rows, output: &mut O) -> Status
     }
 }
 
+/// Writes the canonical text of rows.
+fn shown<O: Sink>(rows: &Rows, output: &mut O) -> Status
+    ensures answered { result ≢ Status.WriteFault → (result ≡ Status.Done) × Appends (O.written output.old) (O.written output.new) (canonical_text rows.now) }
+    ensures part { result ≡ Status.WriteFault → AppendsPart (O.written output.old) (O.written output.new) (canonical_text rows.now) }
+    ensures cause { result ≡ Status.WriteFault → Rose (O.faults output.old) (O.faults output.new) }
+    ensures never_falls { O.faults output.old ≤ O.faults output.new }
+{
+    match show(rows, output) {
+        Ok(()) => Status::Done,
+        Err(_) => Status::WriteFault,
+    }
+}
+
 /// Answers a command for rows.
 fn respond_to_rows<O: Sink>(alloc: Global, command: Command, rows: &Rows, output: &mut O) -> Status
     ensures answered { result ≢ Status.Memory → result ≢ Status.WriteFault → (result ≡ (rows_answer command rows.now).status)
@@ -96,7 +109,7 @@ fn respond_to_rows<O: Sink>(alloc: Global, command: Command, rows: &Rows, output
 {
     match command {
         Command::Trace => trace(alloc, rows, output),
-        Command::Show => Status::Memory,
+        Command::Show => shown(rows, output),
     }
 }
 
