@@ -9,6 +9,8 @@ mod form;
 mod keyword;
 pub mod laws;
 mod showing;
+#[cfg(test)]
+mod tests;
 
 pub use document::read;
 pub use form::{FormFault, FormKind};
