@@ -1,7 +1,7 @@
 -- What a tick does to a body of some ticks of work.
 use Rattle.std.proofs.Common.{◌≡◌, ℕ, ◌-◌, zero, suc, Bool, not, ◌&&◌, nat_eq, refl, arith}
 use Rattle.std.proofs.lemmas.Bool.Decides.{nat_tests}
-use Rattle.tt_world.specs.Body.{ticked, is_done}
+use Rattle.tt_first.specs.Body.{ticked, is_done}
 use Rattle.osektime_core.specs.Runner.{body_of}
 
 pub after_body : (n : ℕ) → ticked (body_of n) ≡ body_of (n - 1)

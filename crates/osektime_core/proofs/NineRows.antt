@@ -1,7 +1,7 @@
 -- The nine rows of a document that runs at this stage.
 use Rattle.std.proofs.Common.{◌≡◌, ℕ, ◌<◌, ◌≤◌, List, [], ◌∷◌, Bool, true, false, ◌&&◌, cond, Option, None, length, get_or, refl, ap, sym, ◌∙◌, arith}
-use Rattle.tt_config.specs.declared.row.NumberedRow.{NumberedRow}
-use Rattle.tt_world.specs.declared.form.FirstForm.{FirstForm}
+use Rattle.tt_rows.specs.declared.row.NumberedRow.{NumberedRow}
+use Rattle.tt_first.specs.declared.form.FirstForm.{FirstForm}
 use Rattle.osektime_core.specs.FirstForm.{form_of, form_by, is_header, is_end, round_in, mode_in, task_in, work_in, activation_in, start_in, rounds_in}
 
 pub nine_rows : (rows : List NumberedRow) (a b c d e f g h i : NumberedRow) → 9 ≤ length rows → length rows < 10

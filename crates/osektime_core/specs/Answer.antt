@@ -2,11 +2,11 @@
 use Rattle.std.specs.Prelude.{◌≡◌, ℕ, List, [], ◌∷◌, ◌++◌, ◌^◌, nat_lt, codes, decimal, Option, Some, None, IfSome, if◌then◌else◌, ⊤, length}
 use Rattle.std.specs.Io.KnownBytes.{Appends}
 use Rattle.tt_doc.specs.Words.{joined}
-use Rattle.tt_config.specs.declared.row.NumberedRow.{NumberedRow}
+use Rattle.tt_rows.specs.declared.row.NumberedRow.{NumberedRow}
 use Rattle.tt_read.specs.declared.form.FormKind.{FormKind}
 use Rattle.tt_read.specs.declared.form.FormKind.TheVariants as kind
 use Rattle.tt_read.specs.Document.{Document, Rows, Faulty, Fault, document_of, canonical_text}
-use Rattle.tt_world.specs.declared.form.FirstForm.{FirstForm}
+use Rattle.tt_first.specs.declared.form.FirstForm.{FirstForm}
 use Rattle.osektime_core.specs.declared.words.Command.{Command}
 use Rattle.osektime_core.specs.declared.words.Command.TheVariants.{Trace, Show}
 use Rattle.osektime_core.specs.declared.status.Status.{Status}

@@ -1,8 +1,8 @@
 -- What the runner keeps, as a world.
 use Rattle.std.specs.Prelude.{ℕ, List, [], ◌∷◌, ◌==◌, if◌then◌else◌}
-use Rattle.tt_world.specs.declared.statement.Stmt.{Stmt}
-use Rattle.tt_world.specs.declared.statement.Stmt.TheVariants.{Work}
-use Rattle.tt_world.specs.Moved.{World}
+use Rattle.tt_first.specs.declared.statement.Stmt.{Stmt}
+use Rattle.tt_first.specs.declared.statement.Stmt.TheVariants.{Work}
+use Rattle.tt_first.specs.Moved.{World}
 use Rattle.osektime_core.specs.declared.runner.State.{State}
 
 -- a body of so many ticks of work

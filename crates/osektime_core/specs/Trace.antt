@@ -3,8 +3,8 @@ use Rattle.std.specs.Prelude.{ℕ, List, [], ◌∷◌}
 use Rattle.tt_base.specs.declared.names.NameKind.TheVariants as Kind
 use Rattle.tt_base.specs.declared.names.NameEntry.{NameEntry}
 use Rattle.trace_text.specs.Lines.{text_of}
-use Rattle.tt_world.specs.declared.form.FirstForm.{FirstForm}
-use Rattle.tt_world.specs.Schedule.{schedule}
+use Rattle.tt_first.specs.declared.form.FirstForm.{FirstForm}
+use Rattle.tt_first.specs.Schedule.{schedule}
 
 -- the names that a run speaks of
 abbrev pub names_of_form : FirstForm → List NameEntry

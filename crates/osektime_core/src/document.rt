@@ -14,9 +14,9 @@ use crate::trace::{names_of_form, put_events};
 use crate::{Command, Status};
 use std::alloc::Global;
 use tt_base::Memory;
-use tt_config::Rows;
 use tt_io::{Sink, WriteFault, put_all};
 use tt_read::{FormFault, FormKind, read, show};
+use tt_rows::Rows;
 
 /// The status of a text that was to be written.
 fn status_after(written: Result<(), WriteFault>, status: Status) -> Status

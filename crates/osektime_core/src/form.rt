@@ -2,12 +2,12 @@
 
 ghost use Rattle.std.specs.Prelude.{◌≡◌, true, IfSome};
 ghost use Rattle.std.specs.Str.{bytes_eq};
-ghost use Rattle.tt_world.specs.Form.{is_reserved, are_free, are_in_range, is_in_time, is_sound_form};
+ghost use Rattle.tt_first.specs.Form.{is_reserved, are_free, are_in_range, is_in_time, is_sound_form};
 ghost use Rattle.osektime_core.specs.FirstForm.{form_of, form_by, form_where, is_header, is_end, round_in, mode_in, task_in, work_in, activation_in, start_in, rounds_in};
 
 use tt_base::Name;
-use tt_config::{NumberedRow, Row};
-use tt_world::FirstForm;
+use tt_first::FirstForm;
+use tt_rows::{NumberedRow, Row};
 
 fn is_header(row: &Row) -> bool
     ensures { result ≡ is_header row.now }

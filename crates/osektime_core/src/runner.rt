@@ -1,16 +1,16 @@
 //! The run, instant by instant. It keeps all its events.
 
 ghost use Rattle.std.specs.Prelude.{◌≡◌, ◌<◌, ◌≤◌, ◌+◌, ◌++◌, ◌^◌, true, not, OnOk, IfOk, ◌==◌};
-ghost use Rattle.tt_world.specs.Form.{is_sound_form};
-ghost use Rattle.tt_world.specs.Moved.{Gives, event_if};
-ghost use Rattle.tt_world.specs.Opening.{head, round_end, checks, activation, rows, opening, check_of};
-ghost use Rattle.tt_world.specs.Step.{runner, same_owner, ran_before, step};
-ghost use Rattle.tt_world.specs.Schedule.{instant, schedule};
+ghost use Rattle.tt_first.specs.Form.{is_sound_form};
+ghost use Rattle.tt_first.specs.Moved.{Gives, event_if};
+ghost use Rattle.tt_first.specs.Opening.{head, round_end, checks, activation, rows, opening, check_of};
+ghost use Rattle.tt_first.specs.Step.{runner, same_owner, ran_before, step};
+ghost use Rattle.tt_first.specs.Schedule.{instant, schedule};
 ghost use Rattle.osektime_core.specs.Runner.{world_of};
 
 use std::alloc::Global;
 use tt_base::{Event, Memory, ModeNo, Owner, Series, TaskNo, Tick};
-use tt_world::{FirstForm, Outcome};
+use tt_first::{FirstForm, Outcome};
 
 const THE_MODE: ModeNo = ModeNo(0);
 
@@ -60,7 +60,7 @@ fn begin(state: &State, events: &mut Series<Event>) -> Result<(), Memory>
     Ok(())
 }
 
-#[tactic(auto, unfolding(tt_world::specs::Opening::round_end))]
+#[tactic(auto, unfolding(tt_first::specs::Opening::round_end))]
 fn end_round(form: &FirstForm, state: &State, events: &mut Series<Event>) -> Result<Outcome, Memory>
     ensures { IfOk result (λ end. Gives events.old events.new (world_of state.now) end (round_end form.now (world_of state.now))) }
 {
@@ -72,14 +72,14 @@ fn end_round(form: &FirstForm, state: &State, events: &mut Series<Event>) -> Res
     Ok(Outcome::Stopped)
 }
 
-#[tactic(auto, unfolding(tt_world::specs::Opening::checks))]
+#[tactic(auto, unfolding(tt_first::specs::Opening::checks))]
 fn check_deadline(form: &FirstForm, state: &State, events: &mut Series<Event>) -> Result<(), Memory>
     ensures { OnOk result (Gives events.old events.new (world_of state.now) Outcome.GoesOn (checks form.now (world_of state.now))) }
 {
     note_if(state.tick == form.deadline, check(state), events)
 }
 
-#[tactic(auto, unfolding(tt_world::specs::Opening::activation))]
+#[tactic(auto, unfolding(tt_first::specs::Opening::activation))]
 fn activate(form: &FirstForm, state: &mut State, events: &mut Series<Event>) -> Result<(), Memory>
     requires { 1 ≤ form.now.work }
     ensures { OnOk result (Gives events.old events.new (world_of state.new) Outcome.GoesOn (activation form.now (world_of state.old))) }
@@ -94,7 +94,7 @@ fn activate(form: &FirstForm, state: &mut State, events: &mut Series<Event>) -> 
     Ok(())
 }
 
-#[tactic(auto, unfolding(tt_world::specs::Opening::rows, tt_world::specs::Moved::followed))]
+#[tactic(auto, unfolding(tt_first::specs::Opening::rows, tt_first::specs::Moved::followed))]
 fn take_rows(form: &FirstForm, state: &mut State, events: &mut Series<Event>) -> Result<(), Memory>
     requires { 1 ≤ form.now.work }
     ensures { OnOk result (Gives events.old events.new (world_of state.new) Outcome.GoesOn (rows form.now (world_of state.old))) }
@@ -104,7 +104,7 @@ fn take_rows(form: &FirstForm, state: &mut State, events: &mut Series<Event>) ->
     Ok(())
 }
 
-#[tactic(auto, unfolding(tt_world::specs::Opening::opening, tt_world::specs::Moved::followed))]
+#[tactic(auto, unfolding(tt_first::specs::Opening::opening, tt_first::specs::Moved::followed))]
 fn open(form: &FirstForm, state: &mut State, events: &mut Series<Event>) -> Result<Outcome, Memory>
     requires { 1 ≤ form.now.work }
     ensures { IfOk result (λ end. Gives events.old events.new (world_of state.new) end (opening form.now (world_of state.old))) }
@@ -157,7 +157,7 @@ fn has_run(last: Option<Owner>, who: Owner) -> bool
     }
 }
 
-#[tactic(auto, using(crate::proofs::Body::after_body, crate::proofs::Body::ends_body), unfolding(tt_world::specs::Step::step))]
+#[tactic(auto, using(crate::proofs::Body::after_body, crate::proofs::Body::ends_body), unfolding(tt_first::specs::Step::step))]
 fn take_tick(state: &mut State, events: &mut Series<Event>) -> Result<(), Memory>
     requires { state.old.tick + 1 < 2 ^ 64 }
     ensures { OnOk result (Gives events.old events.new (world_of state.new) Outcome.GoesOn (step (world_of state.old))) }
@@ -179,7 +179,7 @@ fn take_tick(state: &mut State, events: &mut Series<Event>) -> Result<(), Memory
     Ok(())
 }
 
-#[tactic(auto, unfolding(tt_world::specs::Schedule::instant, tt_world::specs::Moved::followed))]
+#[tactic(auto, unfolding(tt_first::specs::Schedule::instant, tt_first::specs::Moved::followed))]
 fn pass(form: &FirstForm, state: &mut State, events: &mut Series<Event>) -> Result<Outcome, Memory>
     requires tick { state.old.tick + 1 < 2 ^ 64 }
     requires work { 1 ≤ form.now.work }

@@ -10,8 +10,8 @@ ghost use Rattle.osektime_core.specs.Trace.{names_of_form};
 use std::alloc::Global;
 use trace_text::line_of;
 use tt_base::{Event, Memory, NameKind, Names};
+use tt_first::FirstForm;
 use tt_io::{Buffer, Sink, WriteFault};
-use tt_world::FirstForm;
 
 /// The names that a run speaks of.
 pub(crate) fn names_of_form(alloc: Global, form: &FirstForm) -> Result<Names, Memory>

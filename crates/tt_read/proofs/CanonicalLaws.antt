@@ -14,13 +14,13 @@ use Rattle.tt_doc.specs.Words.{words_of, has_no_space, is_word}
 use Rattle.tt_doc.proofs.LineLaws.{lines_of-plain, fault_of-plain}
 use Rattle.tt_doc.proofs.WordLaws.{words_of-joined, plain-joined}
 use Rattle.tt_doc.proofs.NumberLaws.{decimal_is_plain, decimal_is_word, signed_decimal_is_plain, signed_decimal_is_word}
-use Rattle.tt_config.specs.declared.row.Term.{Term}
-use Rattle.tt_config.specs.declared.row.Term.TheVariants as term
-use Rattle.tt_config.specs.declared.row.Row.{Row}
-use Rattle.tt_config.specs.declared.row.Row.TheVariants as r
-use Rattle.tt_config.specs.declared.row.NumberedRow.{NumberedRow}
-use Rattle.tt_config.specs.Spelling.{Item, Key, Number, Named, Integer, Expression, items_of, op_word, term_word, words_of_item, spelling_of, line_of_row}
-use Rattle.tt_config.specs.Sound.{are_expressions, is_sound_term, is_sound_item, is_sound_row, AreSound}
+use Rattle.tt_rows.specs.declared.row.Term.{Term}
+use Rattle.tt_rows.specs.declared.row.Term.TheVariants as term
+use Rattle.tt_rows.specs.declared.row.Row.{Row}
+use Rattle.tt_rows.specs.declared.row.Row.TheVariants as r
+use Rattle.tt_rows.specs.declared.row.NumberedRow.{NumberedRow}
+use Rattle.tt_rows.specs.Spelling.{Item, Key, Number, Named, Integer, Expression, items_of, op_word, term_word, words_of_item, spelling_of, line_of_row}
+use Rattle.tt_rows.specs.Sound.{are_expressions, is_sound_term, is_sound_item, is_sound_row, AreSound}
 use Rattle.tt_read.specs.declared.form.FormKind.TheVariants as kind
 use Rattle.tt_read.specs.Reading.{row_of}
 use Rattle.tt_read.specs.Document.{is_comment, row_of_words, word_fault, fault_by, fault_of_line, fault_or, first_fault, row_then, rows_of, Rows, document_by, document_of, canonical_text, numbered_from}

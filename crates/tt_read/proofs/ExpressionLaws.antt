@@ -3,9 +3,9 @@ use Rattle.std.proofs.Common.{◌≡◌, ℕ, zero, suc, ◌+◌, ◌-◌, ◌�
 use Rattle.std.specs.Prelude.{option_map}
 use Rattle.std.proofs.lemmas.Bool.{cond-true, cond-false}
 use Rattle.std.proofs.lemmas.List.{append-nil, append_assoc}
-use Rattle.tt_config.specs.declared.row.Term.{Term}
-use Rattle.tt_config.specs.declared.row.Term.TheVariants as term
-use Rattle.tt_config.specs.Sound.{are_expressions}
+use Rattle.tt_rows.specs.declared.row.Term.{Term}
+use Rattle.tt_rows.specs.declared.row.Term.TheVariants as term
+use Rattle.tt_rows.specs.Sound.{are_expressions}
 use Rattle.tt_read.specs.Reading.{term_of, term_in_front, terms_of, expected_after, expression_of}
 
 -- of all words these terms were read, so many expressions are still to come, and these words are left

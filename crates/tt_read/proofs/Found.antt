@@ -8,10 +8,10 @@ use Rattle.tt_base.specs.Name.{is_name}
 use Rattle.tt_doc.specs.Numbers.{number_of, integer_of}
 use Rattle.tt_doc.specs.Words.{joined}
 use Rattle.tt_doc.proofs.NumberLaws.{number_of-spelled, integer_of-spelled}
-use Rattle.tt_config.specs.declared.row.Term.{Term}
-use Rattle.tt_config.specs.declared.row.Row.{Row}
-use Rattle.tt_config.specs.Spelling.{Item, Key, Number, Named, Integer, Expression, items_of, words_of_item, spelling_of, line_of_row}
-use Rattle.tt_config.specs.Sound.{is_sound_term, is_sound_item, are_expressions}
+use Rattle.tt_rows.specs.declared.row.Term.{Term}
+use Rattle.tt_rows.specs.declared.row.Row.{Row}
+use Rattle.tt_rows.specs.Spelling.{Item, Key, Number, Named, Integer, Expression, items_of, words_of_item, spelling_of, line_of_row}
+use Rattle.tt_rows.specs.Sound.{is_sound_term, is_sound_item, are_expressions}
 use Rattle.tt_read.specs.declared.keyword.Keyword.{Keyword}
 use Rattle.tt_read.specs.declared.keyword.Keyword.TheVariants as k
 use Rattle.tt_read.specs.Keywords.{keyword_text, keyword_of}

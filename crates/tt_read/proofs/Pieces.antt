@@ -9,9 +9,9 @@ use Rattle.tt_io.specs.declared.whole.WriteFault.{WriteFault}
 use Rattle.tt_io.specs.Known.{AppendsPart}
 use Rattle.tt_io.specs.Passes.{Passes}
 use Rattle.tt_io.proofs.Passing.{part_of_front, passes_none, passes_more, passes_part, passes_end_part}
-use Rattle.tt_config.specs.declared.row.Term.{Term}
-use Rattle.tt_config.specs.declared.row.Row.{Row}
-use Rattle.tt_config.specs.Spelling.{Item, Key, Expression, items_of, term_word, words_of_item, line_of_row}
+use Rattle.tt_rows.specs.declared.row.Term.{Term}
+use Rattle.tt_rows.specs.declared.row.Row.{Row}
+use Rattle.tt_rows.specs.Spelling.{Item, Key, Expression, items_of, term_word, words_of_item, line_of_row}
 use Rattle.tt_doc.specs.Words.{joined}
 use Rattle.tt_read.specs.declared.keyword.Keyword.{Keyword}
 use Rattle.tt_read.specs.Keywords.{keyword_text}

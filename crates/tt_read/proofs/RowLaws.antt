@@ -1,6 +1,6 @@
 -- What is read is what is spelled.
 use Rattle.std.proofs.Common.{◌≡◌, ◌↔◌, ℕ, List, Some}
-use Rattle.tt_config.specs.declared.row.Row.{Row}
+use Rattle.tt_rows.specs.declared.row.Row.{Row}
 use Rattle.tt_read.specs.Reading.{row_of}
 use Rattle.tt_read.specs.Spells.{Spells}
 use Rattle.tt_read.proofs.Found.{row_of-spells}

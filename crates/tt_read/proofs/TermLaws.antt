@@ -13,10 +13,10 @@ use Rattle.task_lang.specs.declared.syntax.Op.TheVariants.{Add, Sub, Mul, Less, 
 use Rattle.tt_base.specs.Name.{is_name, is_letter, is_rest_of_name}
 use Rattle.tt_doc.specs.Numbers.{has_no_leading_zero, value_of, number_of, positive_of, negative_of, integer_of}
 use Rattle.tt_doc.proofs.NumberLaws.{integer_of-spelled, integer_of-signed_decimal}
-use Rattle.tt_config.specs.declared.row.Term.{Term}
-use Rattle.tt_config.specs.declared.row.Term.TheVariants as term
-use Rattle.tt_config.specs.Spelling.{op_word, term_word}
-use Rattle.tt_config.specs.Sound.{is_integer, is_sound_term}
+use Rattle.tt_rows.specs.declared.row.Term.{Term}
+use Rattle.tt_rows.specs.declared.row.Term.TheVariants as term
+use Rattle.tt_rows.specs.Spelling.{op_word, term_word}
+use Rattle.tt_rows.specs.Sound.{is_integer, is_sound_term}
 use Rattle.tt_read.specs.declared.keyword.Keyword.{Keyword}
 use Rattle.tt_read.specs.Keywords.{keyword_text, keywords, keyword_of}
 use Rattle.tt_read.specs.Reading.{ops, op_of, op_or_operand, term_of, term_in_front, terms_of}

@@ -1,6 +1,6 @@
 -- What the words of a line are to a document.
 use Rattle.std.specs.Prelude.{ℕ, List, Bool, true, false, Option, Some, None}
-use Rattle.tt_config.specs.declared.row.Row.{Row}
+use Rattle.tt_rows.specs.declared.row.Row.{Row}
 use Rattle.tt_read.specs.declared.document.Content.{Content}
 use Rattle.tt_read.specs.declared.document.Content.TheVariants as content
 use Rattle.tt_read.specs.Document.{is_comment}

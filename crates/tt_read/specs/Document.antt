@@ -3,9 +3,9 @@ use Rattle.std.specs.Prelude.{ℕ, ◌+◌, ◌==◌, Bool, true, false, List, [
 use Rattle.tt_doc.specs.declared.lines.LineKind.{LineKind}
 use Rattle.tt_doc.specs.Lines.{Line, lines_of, fault_of}
 use Rattle.tt_doc.specs.Words.{words_of}
-use Rattle.tt_config.specs.declared.row.Row.{Row}
-use Rattle.tt_config.specs.declared.row.NumberedRow.{NumberedRow}
-use Rattle.tt_config.specs.Spelling.{line_of_row}
+use Rattle.tt_rows.specs.declared.row.Row.{Row}
+use Rattle.tt_rows.specs.declared.row.NumberedRow.{NumberedRow}
+use Rattle.tt_rows.specs.Spelling.{line_of_row}
 use Rattle.tt_read.specs.declared.form.FormKind.{FormKind}
 use Rattle.tt_read.specs.declared.form.FormKind.TheVariants as kind
 use Rattle.tt_read.specs.FormKind.{kind_of}

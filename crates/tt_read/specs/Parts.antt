@@ -1,8 +1,8 @@
 -- What is put of a row's line, part by part.
 use Rattle.std.specs.Prelude.{ℕ, List, ◌∷◌}
 use Rattle.std.specs.List.{flat_map}
-use Rattle.tt_config.specs.declared.row.Term.{Term}
-use Rattle.tt_config.specs.Spelling.{Item, Key, Number, Named, Integer, Expression, term_word, words_of_item}
+use Rattle.tt_rows.specs.declared.row.Term.{Term}
+use Rattle.tt_rows.specs.Spelling.{Item, Key, Number, Named, Integer, Expression, term_word, words_of_item}
 use Rattle.tt_read.specs.Keywords.{keyword_text}
 use Rattle.tt_read.specs.declared.showing.Part.{Part}
 use Rattle.tt_read.specs.declared.showing.Part.TheVariants as part

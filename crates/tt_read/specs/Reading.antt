@@ -6,12 +6,12 @@ use Rattle.task_lang.specs.declared.syntax.Op.TheVariants.{Add, Sub, Mul, Less, 
 use Rattle.tt_base.specs.Name.{is_name}
 use Rattle.tt_doc.specs.Numbers.{number_of, integer_of}
 use Rattle.tt_doc.specs.Words.{joined}
-use Rattle.tt_config.specs.declared.row.Term.{Term}
-use Rattle.tt_config.specs.declared.row.Term.TheVariants as term
-use Rattle.tt_config.specs.declared.row.Row.{Row}
-use Rattle.tt_config.specs.declared.row.Row.TheVariants as r
-use Rattle.tt_config.specs.Spelling.{op_word}
-use Rattle.tt_config.specs.Sound.{are_expressions}
+use Rattle.tt_rows.specs.declared.row.Term.{Term}
+use Rattle.tt_rows.specs.declared.row.Term.TheVariants as term
+use Rattle.tt_rows.specs.declared.row.Row.{Row}
+use Rattle.tt_rows.specs.declared.row.Row.TheVariants as r
+use Rattle.tt_rows.specs.Spelling.{op_word}
+use Rattle.tt_rows.specs.Sound.{are_expressions}
 use Rattle.tt_read.specs.declared.keyword.Keyword.{Keyword}
 use Rattle.tt_read.specs.declared.keyword.Keyword.TheVariants as k
 use Rattle.tt_read.specs.Keywords.{keyword_of}

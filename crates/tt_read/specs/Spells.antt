@@ -1,8 +1,8 @@
 -- Which row the words of a line are.
 use Rattle.std.specs.Prelude.{◌≡◌, ℕ, true, List}
-use Rattle.tt_config.specs.declared.row.Row.{Row}
-use Rattle.tt_config.specs.Spelling.{spelling_of}
-use Rattle.tt_config.specs.Sound.{is_sound_row}
+use Rattle.tt_rows.specs.declared.row.Row.{Row}
+use Rattle.tt_rows.specs.Spelling.{spelling_of}
+use Rattle.tt_rows.specs.Sound.{is_sound_row}
 
 -- these words are the row: they are its spelling, and a line can be the row
 pub record Spells (words : List (List ℕ)) (row : Row) : Type 0 where

@@ -3,7 +3,7 @@
 ghost use Rattle.std.specs.Prelude.{◌≡◌, ◌+◌, ◌<◌, ◌≤◌, ◌^◌, ◌++◌, [], length, true, Some, None, IfOk, IfErr, OnOk};
 ghost use Rattle.tt_doc.specs.Span.{text_of};
 ghost use Rattle.tt_doc.specs.Words.{words_of};
-ghost use Rattle.tt_config.specs.Sound.{AreSound};
+ghost use Rattle.tt_rows.specs.Sound.{AreSound};
 ghost use Rattle.tt_read.specs.Content.{content_of};
 ghost use Rattle.tt_read.specs.Document.{Document, document_of, row_then, row_of_words, word_fault};
 ghost use Rattle.tt_read.specs.FormFault.{IfForm};
@@ -13,8 +13,8 @@ use crate::fields::row_of;
 use crate::form::{FormFault, FormKind};
 use std::alloc::Global;
 use tt_base::Memory;
-use tt_config::{NumberedRow, Row, Rows};
 use tt_doc::{LineStep, Span, next_line, words};
+use tt_rows::{NumberedRow, Row, Rows};
 
 /// What the words of a line are to a document.
 #[derive(Drop)]

@@ -7,8 +7,8 @@ use crate::cursor::Cursor;
 use std::alloc::Global;
 use task_lang::Op;
 use tt_base::{Memory, Name};
-use tt_config::{Term, Terms};
 use tt_doc::integer;
+use tt_rows::{Term, Terms};
 
 /// The operator that a word is.
 #[tactic(auto, unfolding(crate::specs::Reading::op_of))]

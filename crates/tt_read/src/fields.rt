@@ -9,7 +9,7 @@ use crate::expression::expression;
 use crate::keyword::Keyword;
 use std::alloc::Global;
 use tt_base::{Memory, Name};
-use tt_config::Row;
+use tt_rows::Row;
 
 /// The row of a first word and the fields behind it, where they are one. Words may be left behind the fields.
 fn plain_row(first: Keyword, words: &mut Cursor) -> Option<Row>

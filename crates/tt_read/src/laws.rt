@@ -3,9 +3,9 @@
 #![tactic(auto)]
 
 ghost use Rattle.std.specs.Prelude.{◌≡◌, ◌↔◌, ℕ, List, Some};
-ghost use Rattle.tt_config.specs.Sound.{AreSound};
-ghost use Rattle.tt_config.specs.declared.row.NumberedRow.{NumberedRow};
-ghost use Rattle.tt_config.specs.declared.row.Row.{Row};
+ghost use Rattle.tt_rows.specs.Sound.{AreSound};
+ghost use Rattle.tt_rows.specs.declared.row.NumberedRow.{NumberedRow};
+ghost use Rattle.tt_rows.specs.declared.row.Row.{Row};
 ghost use Rattle.tt_read.specs.Document.{Document, document_of, canonical_text, numbered_from};
 ghost use Rattle.tt_read.specs.Reading.{row_of};
 ghost use Rattle.tt_read.specs.Spells.{Spells};

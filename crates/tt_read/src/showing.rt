@@ -4,7 +4,7 @@ ghost use Rattle.std.specs.Prelude.{◌≡◌, ◌∷◌, ◌++◌, [], ◌≤�
 ghost use Rattle.std.specs.Io.KnownBytes.{Appends};
 ghost use Rattle.tt_io.specs.Count.{Rose};
 ghost use Rattle.tt_io.specs.Known.{AppendsPart};
-ghost use Rattle.tt_config.specs.Spelling.{Key, Named, Number, items_of, line_of_row, op_word};
+ghost use Rattle.tt_rows.specs.Spelling.{Key, Named, Number, items_of, line_of_row, op_word};
 ghost use Rattle.tt_read.specs.Document.{canonical_text};
 ghost use Rattle.tt_read.specs.Keywords.{keyword_text};
 ghost use Rattle.tt_read.specs.Parts.{spaced, spaced_term, spaced_item, spaced_part};
@@ -13,8 +13,8 @@ ghost use Rattle.tt_read.specs.Puts.{Puts};
 use crate::keyword::Keyword;
 use task_lang::Op;
 use tt_base::Name;
-use tt_config::{NumberedRow, Row, Rows, Term, Terms};
 use tt_io::{Buffer, Sink, WriteFault};
+use tt_rows::{NumberedRow, Row, Rows, Term, Terms};
 
 /// A part of a row's line behind its first word.
 #[derive(Clone, Copy)]

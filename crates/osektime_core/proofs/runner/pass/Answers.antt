@@ -1,6 +1,6 @@
 use Rattle.std.proofs.Common.{◌≡◌, ◌+◌, ap, ◌∙◌, arith}
-use Rattle.tt_world.specs.Moved.{World}
-use Rattle.tt_world.proofs.Ends.{opening_tick}
+use Rattle.tt_first.specs.Moved.{World}
+use Rattle.tt_first.proofs.Ends.{opening_tick}
 use Rattle.osektime_core.specs.Runner.{world_of}
 use Rattle.osektime_core.proofs.runner.pass.Goals as goal
 

@@ -1,8 +1,8 @@
 use Rattle.std.proofs.Common.{◌≡◌, ◌<◌, ◌≤◌, ◌+◌, true, ◌&&◌, arith, sym, subst, ap, nat_le}
 use Rattle.std.proofs.lemmas.Bool.Decides.{nat_tests}
-use Rattle.tt_world.specs.declared.form.FirstForm.{FirstForm}
-use Rattle.tt_world.specs.Form.{is_sound_form}
-use Rattle.tt_world.proofs.Ends.{at_first, at_next, at_end}
+use Rattle.tt_first.specs.declared.form.FirstForm.{FirstForm}
+use Rattle.tt_first.specs.Form.{is_sound_form}
+use Rattle.tt_first.proofs.Ends.{at_first, at_next, at_end}
 use Rattle.osektime_core.proofs.runner.run.Goals as goal
 
 -- the limits that a run needs

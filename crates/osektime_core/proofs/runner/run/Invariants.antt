@@ -1,5 +1,5 @@
 use Rattle.std.proofs.Common.{◌+◌, ◌-◌}
-use Rattle.tt_world.proofs.Ends.{AtTick}
+use Rattle.tt_first.proofs.Ends.{AtTick}
 use Rattle.osektime_core.specs.Runner.{world_of}
 use Rattle.osektime_core.proofs.runner.run.Given as goal
 

@@ -1,7 +1,7 @@
 use Rattle.std.proofs.Common.{subst, sym, drop}
 use Rattle.std.specs.List.{flat_map}
-use Rattle.tt_config.specs.declared.row.Row.{Row}
-use Rattle.tt_config.specs.Spelling.{items_of}
+use Rattle.tt_rows.specs.declared.row.Row.{Row}
+use Rattle.tt_rows.specs.Spelling.{items_of}
 use Rattle.tt_read.specs.Parts.{spaced_item}
 use Rattle.tt_read.specs.Puts.{Puts}
 use Rattle.tt_read.proofs.showing.put_many_fields.Goals as goal

@@ -1,6 +1,6 @@
 use Rattle.std.proofs.Common.{◌≤◌, ◌++◌, ◌∷◌, []}
-use Rattle.tt_config.specs.declared.row.NumberedRow.{NumberedRow}
-use Rattle.tt_config.specs.Spelling.{line_of_row}
+use Rattle.tt_rows.specs.declared.row.NumberedRow.{NumberedRow}
+use Rattle.tt_rows.specs.Spelling.{line_of_row}
 use Rattle.tt_read.proofs.Pieces.{Put}
 use Rattle.tt_read.proofs.showing.put_rows.Given as goal
 

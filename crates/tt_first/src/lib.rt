@@ -1,4 +1,4 @@
-//! What a run is read from, and the definitions of a run: the world at an instant, the parts of an instant in their order,
+//! The definitions of a run of one round with one activation: the world at an instant, the parts of an instant in their order,
 //! and the schedule instant by instant.
 #![tactic(auto)]
 

@@ -1,4 +1,4 @@
-//! The rows of a document, and the rules that they meet.
+//! The rows of a document: how each is spelled, and which are sound.
 #![tactic(auto)]
 
 mod row;

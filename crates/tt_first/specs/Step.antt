@@ -3,9 +3,9 @@ use Rattle.std.specs.Prelude.{◌+◌, ◌==◌, ◌&&◌, not, Bool, true, fals
 use Rattle.tt_base.specs.declared.event.Event.TheVariants.{Run, End}
 use Rattle.tt_base.specs.declared.event.Owner.{Owner}
 use Rattle.tt_base.specs.declared.event.Owner.TheVariants as owner
-use Rattle.tt_world.specs.Body.{ticked, is_done}
-use Rattle.tt_world.specs.Moved.{World, Moved, goes_on, event_if}
-use Rattle.tt_world.specs.Opening.{the_task}
+use Rattle.tt_first.specs.Body.{ticked, is_done}
+use Rattle.tt_first.specs.Moved.{World, Moved, goes_on, event_if}
+use Rattle.tt_first.specs.Opening.{the_task}
 
 -- the activation where it has statements left, else nobody
 abbrev pub runner : World → Owner

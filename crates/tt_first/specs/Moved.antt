@@ -2,9 +2,9 @@
 use Rattle.std.specs.Prelude.{◌≡◌, ℕ, Bool, true, false, List, [], ◌∷◌, ◌++◌, Option}
 use Rattle.tt_base.specs.declared.event.Event.{Event}
 use Rattle.tt_base.specs.declared.event.Owner.{Owner}
-use Rattle.tt_world.specs.declared.statement.Stmt.{Stmt}
-use Rattle.tt_world.specs.declared.statement.Outcome.{Outcome}
-use Rattle.tt_world.specs.declared.statement.Outcome.TheVariants.{GoesOn, Stopped}
+use Rattle.tt_first.specs.declared.statement.Stmt.{Stmt}
+use Rattle.tt_first.specs.declared.statement.Outcome.{Outcome}
+use Rattle.tt_first.specs.declared.statement.Outcome.TheVariants.{GoesOn, Stopped}
 
 -- the present tick, what the activation of the round still has to do, and the owner of the tick before
 pub record World : Type 0 where

@@ -5,10 +5,10 @@ use Rattle.tt_base.specs.declared.number.TaskNo.{TaskNo}
 use Rattle.tt_base.specs.declared.number.ModeNo.{ModeNo}
 use Rattle.tt_base.specs.declared.event.Event.{Event}
 use Rattle.tt_base.specs.declared.event.Event.TheVariants.{OsStart, Round, Check, Activate, Stop}
-use Rattle.tt_world.specs.declared.form.FirstForm.{FirstForm}
-use Rattle.tt_world.specs.declared.statement.Stmt.TheVariants.{Work}
-use Rattle.tt_world.specs.Body.{is_done}
-use Rattle.tt_world.specs.Moved.{World, Moved, goes_on, stops, followed, event_if}
+use Rattle.tt_first.specs.declared.form.FirstForm.{FirstForm}
+use Rattle.tt_first.specs.declared.statement.Stmt.TheVariants.{Work}
+use Rattle.tt_first.specs.Body.{is_done}
+use Rattle.tt_first.specs.Moved.{World, Moved, goes_on, stops, followed, event_if}
 
 -- the mode and the task, each the first of its kind
 abbrev pub the_mode : ModeNo

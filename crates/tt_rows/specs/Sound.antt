@@ -3,11 +3,11 @@ use Rattle.std.specs.Prelude.{◌≡◌, ℕ, zero, suc, ◌+◌, ◌^◌, ◌<�
 use Rattle.std.specs.List.{list_all}
 use Rattle.task_lang.specs.declared.syntax.Op.{Op}
 use Rattle.tt_base.specs.Name.{is_name}
-use Rattle.tt_config.specs.declared.row.Term.{Term}
-use Rattle.tt_config.specs.declared.row.Term.TheVariants as term
-use Rattle.tt_config.specs.declared.row.Row.{Row}
-use Rattle.tt_config.specs.declared.row.NumberedRow.{NumberedRow}
-use Rattle.tt_config.specs.Spelling.{Item, Key, Number, Named, Integer, Expression, items_of, line_of_row}
+use Rattle.tt_rows.specs.declared.row.Term.{Term}
+use Rattle.tt_rows.specs.declared.row.Term.TheVariants as term
+use Rattle.tt_rows.specs.declared.row.Row.{Row}
+use Rattle.tt_rows.specs.declared.row.NumberedRow.{NumberedRow}
+use Rattle.tt_rows.specs.Spelling.{Item, Key, Number, Named, Integer, Expression, items_of, line_of_row}
 
 -- so many expressions in prefix form, one behind the other: an integer or a name is one, and an operator with the two
 -- expressions behind it is one

@@ -1,7 +1,7 @@
 -- The limits of a run of one round with one activation.
 use Rattle.std.specs.Prelude.{ℕ, ◌+◌, ◌&&◌, not, ◌||◌, nat_le, nat_lt, Bool, List, codes}
 use Rattle.std.specs.Str.{bytes_eq}
-use Rattle.tt_world.specs.declared.form.FirstForm.{FirstForm}
+use Rattle.tt_first.specs.declared.form.FirstForm.{FirstForm}
 
 -- a name that no document may declare
 abbrev pub is_reserved : List ℕ → Bool

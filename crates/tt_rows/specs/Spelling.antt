@@ -3,10 +3,10 @@ use Rattle.std.specs.Prelude.{ℕ, ℤ, List, [], ◌∷◌, ◌++◌, map, flat
 use Rattle.std.specs.Fmt.{signed_decimal}
 use Rattle.task_lang.specs.declared.syntax.Op.{Op}
 use Rattle.task_lang.specs.declared.syntax.Op.TheVariants.{Add, Sub, Mul, Less, AtMost, Same, Differ}
-use Rattle.tt_config.specs.declared.row.Term.{Term}
-use Rattle.tt_config.specs.declared.row.Term.TheVariants as term
-use Rattle.tt_config.specs.declared.row.Row.{Row}
-use Rattle.tt_config.specs.declared.row.Row.TheVariants as r
+use Rattle.tt_rows.specs.declared.row.Term.{Term}
+use Rattle.tt_rows.specs.declared.row.Term.TheVariants as term
+use Rattle.tt_rows.specs.declared.row.Row.{Row}
+use Rattle.tt_rows.specs.declared.row.Row.TheVariants as r
 use Rattle.tt_doc.specs.Words.{joined}
 
 -- a part of a row's line: a word of the language, a number, a name, an integer, or an expression by its terms

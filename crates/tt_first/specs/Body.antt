@@ -1,7 +1,7 @@
 -- What a body still has to do, and one tick of it.
 use Rattle.std.specs.Prelude.{◌-◌, nat_le, Bool, true, false, List, [], ◌∷◌, if◌then◌else◌}
-use Rattle.tt_world.specs.declared.statement.Stmt.{Stmt}
-use Rattle.tt_world.specs.declared.statement.Stmt.TheVariants.{Work}
+use Rattle.tt_first.specs.declared.statement.Stmt.{Stmt}
+use Rattle.tt_first.specs.declared.statement.Stmt.TheVariants.{Work}
 
 -- what one tick from the front of a list of statements leaves
 abbrev pub ticked : List Stmt → List Stmt

@@ -2,13 +2,13 @@
 use Rattle.std.proofs.Common.{ℕ, zero, suc, ◌≡◌, ◌<◌, ◌≤◌, ◌+◌, true, false, List, [], ◌++◌, nat_eq, refl, ap, sym, ◌∙◌, arith, add-one, cond}
 use Rattle.std.proofs.lemmas.Bool.Decides.{nat_tests}
 use Rattle.tt_base.specs.declared.event.Event.{Event}
-use Rattle.tt_world.specs.declared.form.FirstForm.{FirstForm}
-use Rattle.tt_world.specs.declared.statement.Outcome.{Outcome}
-use Rattle.tt_world.specs.declared.statement.Outcome.TheVariants.{GoesOn, Stopped}
-use Rattle.tt_world.specs.Moved.{World, Gives, followed, is_over}
-use Rattle.tt_world.specs.Opening.{opening, round_end, rows, checks, activation}
-use Rattle.tt_world.specs.Step.{step}
-use Rattle.tt_world.specs.Schedule.{instant, instant_at, world_at, events_before, ends_at, IsLast, last_from, last_instant, schedule, first_world}
+use Rattle.tt_first.specs.declared.form.FirstForm.{FirstForm}
+use Rattle.tt_first.specs.declared.statement.Outcome.{Outcome}
+use Rattle.tt_first.specs.declared.statement.Outcome.TheVariants.{GoesOn, Stopped}
+use Rattle.tt_first.specs.Moved.{World, Gives, followed, is_over}
+use Rattle.tt_first.specs.Opening.{opening, round_end, rows, checks, activation}
+use Rattle.tt_first.specs.Step.{step}
+use Rattle.tt_first.specs.Schedule.{instant, instant_at, world_at, events_before, ends_at, IsLast, last_from, last_instant, schedule, first_world}
 
 -- which instants end a run
 over_is : (f : FirstForm) (w : World) → 2 ≤ f.round → is_over (instant f w).end ≡ nat_eq w.tick f.round
@@ -83,13 +83,16 @@ pub at_next : (f : FirstForm) (v w : World) (events more : List Event) (end : Ou
 at_next f v w events more end long at gives going =
     let inside : nat_eq v.tick f.round ≡ false = sym (over_is f v long) ∙ ap is_over (sym gives.end_is ∙ going) in
     let less : v.tick < f.round = grind (arith, nat_tests, at.within) in
-    let next : w.tick ≡ v.tick + 1 = ap (λ (u : World). u.tick) gives.world_is ∙ tick_is f v long inside in
-    (next, less, record {
-      world = gives.world_is ∙ ap (λ u. (instant f u).world) at.world ∙ world_next f v.tick ∙ ap (world_at f) (sym next);
-      events = gives.events_are ∙ ap (λ u. events ++ (instant f u).events) at.world ∙ ap (λ l. l ++ (instant f (world_at f v.tick)).events) at.events
-          ∙ events_next f v.tick ∙ ap (events_before f) (sym next);
-      within = rw next (omega arith)
-    })
+    let next : w.tick ≡ v.tick + 1 = ap (λ (u : World). u.tick) gives.world_is ∙ tick_is f v long inside in (
+      next,
+      less,
+      record {
+        world = gives.world_is ∙ ap (λ u. (instant f u).world) at.world ∙ world_next f v.tick ∙ ap (world_at f) (sym next);
+        events = gives.events_are ∙ ap (λ u. events ++ (instant f u).events) at.world ∙ ap (λ l. l ++ (instant f (world_at f v.tick)).events) at.events
+            ∙ events_next f v.tick ∙ ap (events_before f) (sym next);
+        within = rw next (omega arith);
+      },
+    )
 
 pub at_end : (f : FirstForm) (v w : World) (events more : List Event) (end : Outcome) → 2 ≤ f.round → AtTick f v events
     → Gives events more w end (instant f v) → end ≡ Stopped → more ≡ schedule f

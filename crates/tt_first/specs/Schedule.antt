@@ -1,10 +1,10 @@
 -- The schedule: the events of the instants 0, 1, 2 and so on, up to the first that ends the run.
 use Rattle.std.specs.Prelude.{◌≡◌, ℕ, zero, suc, ◌<◌, ◌+◌, Bool, true, false, List, [], ◌++◌, None, if◌then◌else◌}
 use Rattle.tt_base.specs.declared.event.Event.{Event}
-use Rattle.tt_world.specs.declared.form.FirstForm.{FirstForm}
-use Rattle.tt_world.specs.Moved.{World, Moved, followed, is_over}
-use Rattle.tt_world.specs.Opening.{opening}
-use Rattle.tt_world.specs.Step.{step}
+use Rattle.tt_first.specs.declared.form.FirstForm.{FirstForm}
+use Rattle.tt_first.specs.Moved.{World, Moved, followed, is_over}
+use Rattle.tt_first.specs.Opening.{opening}
+use Rattle.tt_first.specs.Step.{step}
 
 abbrev pub first_world : World
 first_world = record { tick = 0; left = []; last = None }
