@@ -164,6 +164,30 @@ fn traces(rt: HostRuntime) -> Result<(), Fail> {
 }
 
 #[test]
+fn shows(rt: HostRuntime) -> Result<(), Fail> {
+    let rows = [
+        make_case("show", SPACED, Status::Done, ONE_TASK),
+        make_case("show", "", Status::Done, ""),
+        make_case(
+            "show",
+            "osektime 1\n# note\n  round   10\n\n",
+            Status::Done,
+            "osektime 1\nround 10\n",
+        ),
+        make_case(
+            "show",
+            "osektime 1\nfoo\n",
+            form(2, FormKind::Row),
+            "form line 2 row\n",
+        ),
+    ];
+    for row in &rows {
+        answers::<Brand>(&rt, rt.alloc(), Blank::new(1), row)?;
+    }
+    Ok(())
+}
+
+#[test]
 fn sizes_and_faults(rt: HostRuntime) -> Result<(), Fail> {
     let rows = [
         Case {
