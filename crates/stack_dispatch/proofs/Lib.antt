@@ -1,0 +1,4 @@
+pub mod Checking
+pub mod Unfinished
+pub mod Rounds
+pub mod Running

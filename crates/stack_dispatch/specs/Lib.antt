@@ -1,0 +1,3 @@
+pub mod Parts
+pub mod RunEnd
+pub mod Top

@@ -1,0 +1,12 @@
+//! The dispatcher: a run of a configuration and a script, instant by instant.
+#![tactic(auto)]
+
+mod dispatcher;
+mod monitoring;
+mod plain;
+mod runner;
+
+pub use plain::{Events, PlainRun, RunEnd, run_plain};
+
+#[cfg(test)]
+mod tests;

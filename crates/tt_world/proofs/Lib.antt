@@ -1,0 +1,11 @@
+pub mod Moves
+pub mod Frames
+pub mod Time
+pub mod Ends
+pub mod RunRule
+pub mod Closing
+pub mod TableRows
+pub mod InstanceLists
+pub mod Points
+pub mod Single
+pub mod Modes

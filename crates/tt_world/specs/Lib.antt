@@ -1,0 +1,11 @@
+pub mod ConfigRules
+pub mod ScriptRules
+pub mod Instances
+pub mod Moved
+pub mod Rows
+pub mod Monitoring
+pub mod Opening
+pub mod Step
+pub mod Schedule
+pub mod Status
+pub mod RunLaws

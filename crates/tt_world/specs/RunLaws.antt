@@ -1,0 +1,65 @@
+-- Laws of every run.
+use Rattle.std.specs.Prelude.{◌≡◌, ℕ, ◌<◌, ◌≤◌, false, All, length}
+use Rattle.tt_world.specs.declared.config.ConfigParts.{ConfigParts}
+use Rattle.tt_world.specs.declared.script.ScriptParts.{ScriptParts}
+use Rattle.tt_world.specs.declared.world.World.{World}
+use Rattle.tt_world.specs.declared.world.Outcome.TheVariants.{GoesOn}
+use Rattle.tt_world.specs.declared.world.Point.{Point}
+use Rattle.tt_world.specs.declared.world.Point.TheVariants as point
+use Rattle.tt_world.specs.ConfigRules.{IsConfig}
+use Rattle.tt_world.specs.ScriptRules.{IsScript}
+use Rattle.tt_world.specs.Instances.{instance_at, is_done}
+use Rattle.tt_world.specs.Rows.{offset_of, mode_of, row_of}
+use Rattle.tt_world.specs.Monitoring.{point_of}
+use Rattle.tt_world.specs.Opening.{opening}
+use Rattle.tt_world.specs.Schedule.{world_at, IsLast, last_instant, most_ticks, schedule}
+use Rattle.tt_world.specs.Status.{stamp_of, status_of, EndsBy}
+
+-- a run ends: at one instant, in time, and with the event that its status asks for
+pub record EndsInTime (c : ConfigParts) (s : ScriptParts) : Type 0 where
+  pub last : IsLast c s (last_instant c s)
+  pub only : (n : ℕ) → IsLast c s n → n ≡ last_instant c s
+  pub bounded : last_instant c s ≤ most_ticks c s
+  pub stamps : All (λ event. stamp_of event ≤ most_ticks c s) (schedule c s)
+  pub ends_by : EndsBy (status_of (schedule c s)) (last_instant c s) (schedule c s)
+
+-- every run ends
+abbrev pub ScheduleEnds : Type 0
+ScheduleEnds = (c : ConfigParts) (s : ScriptParts) → IsConfig c → IsScript c s → EndsInTime c s
+
+-- what holds of the world after the opening of each instant of a run at which the run goes on
+abbrev pub AfterOpenings : (ConfigParts → World → Type 0) → Type 0
+AfterOpenings Fact =
+    (c : ConfigParts) (s : ScriptParts) → IsConfig c → IsScript c s → (n : ℕ) → n ≤ last_instant c s
+    → (opening c s (world_at c s n)).end ≡ GoesOn → Fact c (opening c s (world_at c s n)).world
+
+-- a place of the list has an activation with statements left
+pub record IsUnfinished (w : World) (place : ℕ) : Type 0 where
+  pub within : place < length w.activations
+  pub undone : is_done (instance_at w.activations place).left ≡ false
+
+-- a monitoring point comes after an offset of the round
+abbrev pub IsAfter : ℕ → Point → Type 0
+IsAfter offset (point.At place) = offset < place
+IsAfter offset point.RoundEnd = Unit {0}
+
+-- the monitoring point of each activation with statements left comes after the present offset
+abbrev pub ArePointsAhead : ConfigParts → World → Type 0
+ArePointsAhead c w =
+    (place : ℕ) → IsUnfinished w place
+    → IsAfter (offset_of w) (point_of (mode_of c w) (row_of (mode_of c w) (instance_at w.activations place).entry))
+
+-- an activation with statements left has not reached its monitoring point, since a missed check ends the run
+abbrev pub PointsAreAhead : Type 0
+PointsAreAhead = AfterOpenings ArePointsAhead
+
+-- two activations of one task that have statements left are one
+abbrev pub AreTasksSingle : ConfigParts → World → Type 0
+AreTasksSingle c w =
+    (p q : ℕ) → IsUnfinished w p → IsUnfinished w q
+    → (row_of (mode_of c w) (instance_at w.activations p).entry).task ≡ (row_of (mode_of c w) (instance_at w.activations q).entry).task
+    → p ≡ q
+
+-- a task has at most one activation with statements left
+abbrev pub TasksAreSingle : Type 0
+TasksAreSingle = AfterOpenings AreTasksSingle

@@ -1,0 +1,15 @@
+//! What a run is read from, the world of a run, and the definitions of a run: the parts of an instant in their order, and the
+//! schedule instant by instant.
+#![tactic(auto)]
+
+mod config;
+mod laws;
+mod script;
+mod world;
+
+pub use config::{
+    Activation, Config, ConfigParts, Enable, IsrDef, ModeDef, OisrDef, OsekDef, TaskDef,
+};
+pub use laws::{points_are_ahead, schedule_ends, tasks_are_single};
+pub use script::{Arrivals, Script, ScriptParts};
+pub use world::{Instance, Instances, Outcome, Point, Runner, World};
