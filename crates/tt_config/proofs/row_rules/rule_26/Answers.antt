@@ -1,0 +1,13 @@
+use Rattle.std.proofs.Common.{rules, ◌∙◌}
+use Rattle.tt_config.specs.Lines.{first_line, line_unless, lines_past, lines_where}
+use Rattle.tt_config.specs.Rules.{is_rounds, is_rounds_outside}
+use Rattle.tt_config.proofs.LineLemmas.{IsLeastOf-more, IsLeastOf-last}
+use Rattle.tt_config.proofs.row_rules.rule_26.Goals as goal
+
+pub returns : goal.returns
+returns c =
+    let rows = c.args.rows.now in
+    c.least.ensures
+    ∙ (IsLeastOf-more (line_unless (lines_where is_rounds rows) (first_line rows)) (c.first_unless.ensures is_rounds (search rules))
+    (IsLeastOf-more (lines_where is_rounds_outside rows) (c.first_where.ensures is_rounds_outside (search rules))
+    (IsLeastOf-last (lines_past 1 is_rounds rows) (c.first_past.ensures is_rounds (search rules))))).least

@@ -1,0 +1,22 @@
+use Rattle.std.proofs.Common.{◌≡◌, Bool, refl, sym, ap, ◌∙◌, rules}
+use Rattle.std.specs.Prelude.{nat_lt}
+use Rattle.std.specs.Cmp.{nat_cmp_total, IsStrictWeakOrder}
+use Rattle.std.specs.Ordering.{nat_cmp, is_lt}
+use Rattle.std.proofs.lemmas.List.Sorted.{ranks_by, answers_always}
+use Rattle.tt_world.specs.declared.config.Activation.{Activation}
+use Rattle.tt_config.specs.Parts.{ascending, is_earlier}
+use Rattle.tt_config.proofs.Comparisons.{is_lt-nat_cmp}
+use Rattle.tt_config.proofs.StableSort.{stable_sort, ascending_alike}
+use Rattle.tt_config.proofs.tables.sort_activations.Goals as goal
+
+abbrev before : Activation → Activation → Bool
+before a b = is_lt (nat_cmp a.offset b.offset)
+
+pub returns-in-Ok : goal.returns-in-Ok
+returns-in-Ok c =
+    let offset = λ (a : Activation). a.offset in
+    let rows = c.args.rows.now.items in
+    stable_sort before (ranks_by nat_cmp_total offset) rows _
+    (c.in-Ok.ensures.sorted offset (answers_always _ _ _ (λ f a r g h. search rules)))
+    (c.in-Ok.ensures.stable offset (answers_always _ _ _ (λ f a r g h. search rules)))
+    ∙ ascending_alike before is_earlier (λ a b. is_lt-nat_cmp a.offset b.offset) rows

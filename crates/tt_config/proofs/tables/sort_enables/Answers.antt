@@ -1,0 +1,26 @@
+use Rattle.std.proofs.Common.{◌≡◌, ℕ, Bool, Ordering, ◌∙◌, rules}
+use Rattle.std.specs.Cmp.{nat_cmp_total, then_total, on_total}
+use Rattle.std.specs.Ordering.{nat_cmp, is_lt, ordering_then}
+use Rattle.std.proofs.lemmas.List.Sorted.{ranks_by, answers_always}
+use Rattle.tt_world.specs.declared.config.Enable.{Enable}
+use Rattle.tt_config.specs.Parts.{is_enabled_earlier}
+use Rattle.tt_config.proofs.Comparisons.{is_lt-ordering_then}
+use Rattle.tt_config.proofs.StableSort.{stable_sort, ascending_alike}
+use Rattle.tt_config.proofs.tables.sort_enables.Goals as goal
+
+abbrev compare : ℕ × ℕ → ℕ × ℕ → Ordering
+compare x y = ordering_then (nat_cmp x.0 y.0) (nat_cmp x.1 y.1)
+
+abbrev place : Enable → ℕ × ℕ
+place e = (e.offset, e.isr.0)
+
+abbrev before : Enable → Enable → Bool
+before a b = is_lt (compare (place a) (place b))
+
+pub returns-in-Ok : goal.returns-in-Ok
+returns-in-Ok c =
+    let rows = c.args.rows.now.items in
+    stable_sort before (ranks_by {R = compare} (then_total (on_total (λ (t : ℕ × ℕ). t.0) nat_cmp_total) (on_total (λ (t : ℕ × ℕ). t.1) nat_cmp_total)) place) rows _
+    (c.in-Ok.ensures.sorted place (answers_always _ _ _ (λ f a r g h. search rules)))
+    (c.in-Ok.ensures.stable place (answers_always _ _ _ (λ f a r g h. search rules)))
+    ∙ ascending_alike before is_enabled_earlier (λ a b. is_lt-ordering_then a.offset b.offset a.isr.0 b.isr.0) rows

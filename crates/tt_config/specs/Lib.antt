@@ -1,0 +1,17 @@
+pub mod Structure
+pub mod Names
+pub mod Bodies
+pub mod Lines
+pub mod FirstLine
+pub mod Parts
+pub mod Rules
+pub mod Broken
+pub mod Opened
+pub mod Owners
+pub mod MeetsRules
+pub mod Inputs
+pub mod Tables
+pub mod BodyRules
+pub mod Arrivals
+pub mod Accept
+pub mod ActivationKeys

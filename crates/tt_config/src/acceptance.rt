@@ -1,0 +1,156 @@
+//! Documents that meet the rules.
+
+ghost use Rattle.std.specs.Prelude.{◌≡◌, [], ◌∷◌, true, None, Some, OnOk, IfOk, IfErr};
+ghost use Rattle.tt_config.specs.Accept.{IfRule, rules_to_13};
+ghost use Rattle.tt_config.specs.Broken.{first_broken};
+ghost use Rattle.tt_config.specs.Names.{names_in};
+ghost use Rattle.tt_config.specs.Rules.{lines_1, lines_2, lines_3, lines_4, lines_5, lines_6, lines_7, lines_8, lines_9, lines_10, lines_11, lines_12, lines_13, lines_14, lines_15, lines_16, lines_17, lines_18, lines_19, lines_20, lines_21, lines_22, lines_23, lines_24, lines_25, lines_26, lines_27, lines_28};
+ghost use Rattle.tt_rows.specs.Sound.{ascend_from};
+
+use crate::activation_rules::rule_23;
+use crate::broken::{Broken, first_some};
+use crate::key_rules::{rule_10, rule_11, rule_12, rule_21, rule_22};
+use crate::name_rules::{rule_7, rule_14};
+use crate::row_rules::{
+    rule_4, rule_5, rule_6, rule_8, rule_9, rule_13, rule_18, rule_19, rule_20, rule_25, rule_26,
+    rule_28,
+};
+use crate::structure_rules::{rule_1, rule_2, rule_3, rule_15, rule_16};
+use crate::table_rules::{rule_24, rule_27};
+use std::alloc::Global;
+use thiserror::Error;
+use tt_base::{Memory, Names};
+use tt_rows::NumberedRow;
+use tt_world::{Config, Script};
+
+/// Why rows were not accepted.
+#[derive(Clone, Copy, Debug, PartialEq, Eq, Error)]
+pub enum AcceptFault {
+    /// Want of memory.
+    #[error("out of memory")]
+    Memory,
+    /// The least rule that is broken, and the least line that breaks it.
+    #[error("rule {number} is broken in line {line}")]
+    Rule { number: u8, line: u32 },
+}
+
+/// What accepted rows give.
+#[derive(Debug, Drop)]
+pub struct Accepted {
+    pub config: Config,
+    pub script: Script,
+}
+
+/// Rules 1 to 3.
+fn structure_broken(alloc: Global, rows: &[NumberedRow]) -> Result<Option<Broken>, Memory>
+    requires { ascend_from 1 rows.now ≡ true }
+    ensures { IfOk result (λ broken. broken ≡ first_broken 1 (lines_1 ∷ lines_2 ∷ lines_3 ∷ []) rows.now) }
+{
+    let second = rule_2(alloc, rows)?;
+    Ok(first_some(1, &[rule_1(rows), second, rule_3(rows)]))
+}
+
+/// Rules 4 to 6.
+fn round_broken(rows: &[NumberedRow]) -> Option<Broken>
+    requires { ascend_from 1 rows.now ≡ true }
+    ensures { result ≡ first_broken 4 (lines_4 ∷ lines_5 ∷ lines_6 ∷ []) rows.now }
+{
+    first_some(4, &[rule_4(rows), rule_5(rows), rule_6(rows)])
+}
+
+/// Rules 7 to 13.
+fn declarations_broken(alloc: Global, rows: &[NumberedRow]) -> Result<Option<Broken>, Memory>
+    requires { ascend_from 1 rows.now ≡ true }
+    ensures { IfOk result (λ broken. broken ≡ first_broken 7 (lines_7 ∷ lines_8 ∷ lines_9 ∷ lines_10 ∷ lines_11 ∷ lines_12 ∷ lines_13 ∷ []) rows.now) }
+{
+    let names = rule_7(alloc, rows)?;
+    let levels = rule_10(alloc, rows)?;
+    let osek_priorities = rule_11(alloc, rows)?;
+    let oisr_priorities = rule_12(alloc, rows)?;
+    Ok(first_some(
+        7,
+        &[
+            names,
+            rule_8(rows),
+            rule_9(rows),
+            levels,
+            osek_priorities,
+            oisr_priorities,
+            rule_13(rows),
+        ],
+    ))
+}
+
+/// Rules 14 to 16.
+fn bodies_broken(names: &Names, rows: &[NumberedRow]) -> Option<Broken>
+    requires ascending { ascend_from 1 rows.now ≡ true }
+    requires named { names.now ≡ names_in rows.now }
+    ensures { result ≡ first_broken 14 (lines_14 ∷ lines_15 ∷ lines_16 ∷ []) rows.now }
+{
+    first_some(14, &[rule_14(names, rows), rule_15(rows), rule_16(rows)])
+}
+
+/// Rules 18 to 24.
+fn tables_broken(alloc: Global, rows: &[NumberedRow]) -> Result<Option<Broken>, Memory>
+    requires { ascend_from 1 rows.now ≡ true }
+    ensures { IfOk result (λ broken. broken ≡ first_broken 18 (lines_18 ∷ lines_19 ∷ lines_20 ∷ lines_21 ∷ lines_22 ∷ lines_23 ∷ lines_24 ∷ []) rows.now) }
+{
+    let activations = rule_21(alloc, rows)?;
+    let enables = rule_22(alloc, rows)?;
+    let apart = rule_23(alloc, rows)?;
+    Ok(first_some(
+        18,
+        &[
+            rule_18(rows),
+            rule_19(rows),
+            rule_20(rows),
+            activations,
+            enables,
+            apart,
+            rule_24(rows),
+        ],
+    ))
+}
+
+/// Rules 25 to 28.
+fn script_broken(alloc: Global, rows: &[NumberedRow]) -> Result<Option<Broken>, Memory>
+    requires { ascend_from 1 rows.now ≡ true }
+    ensures { IfOk result (λ broken. broken ≡ first_broken 25 (lines_25 ∷ lines_26 ∷ lines_27 ∷ lines_28 ∷ []) rows.now) }
+{
+    let arrivals = rule_27(alloc, rows)?;
+    Ok(first_some(25, &[rule_25(rows), rule_26(rows), arrivals, rule_28(rows)]))
+}
+
+/// The fault that a broken rule is.
+fn refuse(broken: Option<Broken>) -> Result<(), AcceptFault>
+    ensures ok { OnOk result (broken ≡ None) }
+    ensures rule { IfErr result (λ fault. IfRule fault (λ rule. broken ≡ Some rule)) }
+{
+    match broken {
+        None => Ok(()),
+        Some(Broken { number, line }) => Err(AcceptFault::Rule { number, line }),
+    }
+}
+
+impl From<Memory> for AcceptFault {
+    ghost use Rattle.tt_config.specs.declared.acceptance.AcceptFault.TheVariants.{Memory};
+
+    ghost from_gives = { λ _ fault. fault ≡ Memory };
+
+    fn from(_: Memory) -> AcceptFault {
+        AcceptFault::Memory
+    }
+}
+
+/// Rules 1 to 13, which need no number of a name.
+#[tactic(auto, using(crate::proofs::Joining::to_13_none, crate::proofs::Joining::to_13_first, crate::proofs::Joining::to_13_second, crate::proofs::Joining::to_13_third))]
+fn check_to_13(alloc: Global, rows: &[NumberedRow]) -> Result<(), AcceptFault>
+    requires { ascend_from 1 rows.now ≡ true }
+    ensures ok { OnOk result (first_broken 1 rules_to_13 rows.now ≡ None) }
+    ensures rule { IfErr result (λ fault. IfRule fault (λ rule. first_broken 1 rules_to_13 rows.now ≡ Some rule)) }
+{
+    refuse(structure_broken(alloc, rows)?)?;
+    refuse(round_broken(rows))?;
+    refuse(declarations_broken(alloc, rows)?)?;
+    Ok(())
+}
