@@ -1,5 +1,5 @@
 -- The configuration of rows, from its parts.
-use Rattle.std.proofs.Common.{◌≡◌, ℕ, ℤ, List, map, refl, sym, ap, ◌∙◌}
+use Rattle.std.proofs.Common.{◌≡◌, ℕ, ℤ, List, map, ◌∙◌}
 use Rattle.tt_base.specs.declared.names.NameKind.TheVariants as Kind
 use Rattle.tt_base.specs.declared.names.NameEntry.{NameEntry}
 use Rattle.tt_base.specs.Names.{names_of}

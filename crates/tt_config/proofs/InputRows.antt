@@ -1,6 +1,6 @@
 -- What rows give for each name, as the rows grow by one.
-use Rattle.std.proofs.Common.{◌≡◌, ◌≢◌, ℕ, suc, ◌+◌, ◌<◌, Bool, true, false, cond, List, [], ◌∷◌, ◌++◌, length, map, replicate, take, drop, get_or, Option, Some, None, refl, sym, ap, ◌∙◌, subst, arith}
-use Rattle.std.specs.Prelude.{◌&&◌, not, option_map, unwrap_or, flat_map}
+use Rattle.std.proofs.Common.{◌≡◌, ◌≢◌, ℕ, ◌+◌, ◌<◌, Bool, true, false, cond, List, [], ◌∷◌, ◌++◌, length, map, replicate, take, drop, get_or, Option, Some, None, refl, sym, ap, ◌∙◌}
+use Rattle.std.specs.Prelude.{◌&&◌, option_map, unwrap_or}
 use Rattle.std.specs.List.{list_all}
 use Rattle.std.specs.Str.{bytes_eq}
 use Rattle.std.proofs.lemmas.Bool.{not-false}
@@ -12,7 +12,7 @@ use Rattle.tt_base.specs.declared.names.NameKind.TheVariants as Kind
 use Rattle.tt_base.specs.declared.names.NameEntry.{NameEntry}
 use Rattle.tt_base.specs.declared.names.Declared.{Declared}
 use Rattle.tt_base.specs.declared.names.Declared.TheVariants as Which
-use Rattle.tt_base.specs.Names.{index_of, kind_of, number_of, find_name, names_of, count_of}
+use Rattle.tt_base.specs.Names.{index_of, kind_of, number_of, find_name, names_of}
 use Rattle.tt_world.specs.ConfigRules.{are_names_free}
 use Rattle.tt_rows.specs.declared.row.Row.{Row}
 use Rattle.tt_rows.specs.declared.row.Row.TheVariants as r

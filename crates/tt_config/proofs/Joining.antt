@@ -1,9 +1,9 @@
 -- Rules in a row: the first that is broken.
-use Rattle.std.proofs.Common.{◌≡◌, ℕ, ◌+◌, List, [], ◌∷◌, ◌++◌, Option, Some, None, length, ap, sym, ◌∙◌, refl, arith}
+use Rattle.std.proofs.Common.{◌≡◌, ℕ, ◌+◌, List, [], ◌∷◌, ◌++◌, Option, Some, None, length, ap, sym, ◌∙◌, arith}
 use Rattle.tt_config.specs.declared.broken.Broken.{Broken}
 use Rattle.tt_rows.specs.declared.row.NumberedRow.{NumberedRow}
 use Rattle.tt_config.specs.Lines.{least_line}
-use Rattle.tt_config.specs.Broken.{broken_or, first_broken, the_rules, broken_rule}
+use Rattle.tt_config.specs.Broken.{broken_or, first_broken, broken_rule}
 use Rattle.tt_config.specs.Accept.{rules_to_13, rules_from_14}
 use Rattle.tt_config.specs.Rules.{lines_1, lines_2, lines_3, lines_4, lines_5, lines_6, lines_7, lines_8, lines_9, lines_10, lines_11, lines_12, lines_13, lines_14, lines_15, lines_16, lines_17, lines_18, lines_19, lines_20, lines_21, lines_22, lines_23, lines_24, lines_25, lines_26, lines_27, lines_28}
 
@@ -58,44 +58,33 @@ tables = lines_18 ∷ lines_19 ∷ lines_20 ∷ lines_21 ∷ lines_22 ∷ lines_
 abbrev inputs : Rules
 inputs = lines_25 ∷ lines_26 ∷ lines_27 ∷ lines_28 ∷ []
 
-pub to_13_none : (rows : List NumberedRow) → first_broken 1 (lines_1 ∷ lines_2 ∷ lines_3 ∷ []) rows ≡ None → first_broken 4 (lines_4 ∷ lines_5 ∷ lines_6 ∷ []) rows ≡ None
-    → first_broken 7 (lines_7 ∷ lines_8 ∷ lines_9 ∷ lines_10 ∷ lines_11 ∷ lines_12 ∷ lines_13 ∷ []) rows ≡ None → first_broken 1 rules_to_13 rows ≡ None
-to_13_none rows a b c = join_none 1 structure (round ++ declarations) rows a ∙ join_none 4 round declarations rows b ∙ c
+pub to_13_first : (rows : List NumberedRow) (broken : Broken) → Some broken ≡ first_broken 1 (lines_1 ∷ lines_2 ∷ lines_3 ∷ []) rows → Some broken ≡ first_broken 1 rules_to_13 rows
+to_13_first rows broken a = sym (join_some 1 structure (round ++ declarations) rows broken (sym a))
 
-pub to_13_first : (rows : List NumberedRow) (broken : Broken) → first_broken 1 (lines_1 ∷ lines_2 ∷ lines_3 ∷ []) rows ≡ Some broken → first_broken 1 rules_to_13 rows ≡ Some broken
-to_13_first rows broken a = join_some 1 structure (round ++ declarations) rows broken a
+pub to_13_second : (rows : List NumberedRow) (broken : Broken) → None ≡ first_broken 1 (lines_1 ∷ lines_2 ∷ lines_3 ∷ []) rows → Some broken ≡ first_broken 4 (lines_4 ∷ lines_5 ∷ lines_6 ∷ []) rows
+    → Some broken ≡ first_broken 1 rules_to_13 rows
+to_13_second rows broken a b = sym (join_none 1 structure (round ++ declarations) rows (sym a) ∙ join_some 4 round declarations rows broken (sym b))
 
-pub to_13_second : (rows : List NumberedRow) (broken : Broken) → first_broken 1 (lines_1 ∷ lines_2 ∷ lines_3 ∷ []) rows ≡ None → first_broken 4 (lines_4 ∷ lines_5 ∷ lines_6 ∷ []) rows ≡ Some broken
-    → first_broken 1 rules_to_13 rows ≡ Some broken
-to_13_second rows broken a b = join_none 1 structure (round ++ declarations) rows a ∙ join_some 4 round declarations rows broken b
+pub to_13_rest : (rows : List NumberedRow) → None ≡ first_broken 1 (lines_1 ∷ lines_2 ∷ lines_3 ∷ []) rows → None ≡ first_broken 4 (lines_4 ∷ lines_5 ∷ lines_6 ∷ []) rows
+    → first_broken 7 (lines_7 ∷ lines_8 ∷ lines_9 ∷ lines_10 ∷ lines_11 ∷ lines_12 ∷ lines_13 ∷ []) rows ≡ first_broken 1 rules_to_13 rows
+to_13_rest rows a b = sym (join_none 1 structure (round ++ declarations) rows (sym a) ∙ join_none 4 round declarations rows (sym b))
 
-pub to_13_third : (rows : List NumberedRow) (broken : Broken) → first_broken 1 (lines_1 ∷ lines_2 ∷ lines_3 ∷ []) rows ≡ None → first_broken 4 (lines_4 ∷ lines_5 ∷ lines_6 ∷ []) rows ≡ None
-    → first_broken 7 (lines_7 ∷ lines_8 ∷ lines_9 ∷ lines_10 ∷ lines_11 ∷ lines_12 ∷ lines_13 ∷ []) rows ≡ Some broken → first_broken 1 rules_to_13 rows ≡ Some broken
-to_13_third rows broken a b c = join_none 1 structure (round ++ declarations) rows a ∙ join_none 4 round declarations rows b ∙ c
+pub from_14_first : (rows : List NumberedRow) (broken : Broken) → Some broken ≡ first_broken 14 (lines_14 ∷ lines_15 ∷ lines_16 ∷ []) rows → Some broken ≡ first_broken 14 rules_from_14 rows
+from_14_first rows broken a = sym (join_some 14 bodies (worst ++ (tables ++ inputs)) rows broken (sym a))
 
-pub from_14_none : (rows : List NumberedRow) → first_broken 14 (lines_14 ∷ lines_15 ∷ lines_16 ∷ []) rows ≡ None → first_broken 17 (lines_17 ∷ []) rows ≡ None
-    → first_broken 18 (lines_18 ∷ lines_19 ∷ lines_20 ∷ lines_21 ∷ lines_22 ∷ lines_23 ∷ lines_24 ∷ []) rows ≡ None
-    → first_broken 25 (lines_25 ∷ lines_26 ∷ lines_27 ∷ lines_28 ∷ []) rows ≡ None → first_broken 14 rules_from_14 rows ≡ None
-from_14_none rows a b c d =
-    join_none 14 bodies (worst ++ (tables ++ inputs)) rows a ∙ join_none 17 worst (tables ++ inputs) rows b ∙ join_none 18 tables inputs rows c ∙ d
+pub from_14_second : (rows : List NumberedRow) (broken : Broken) → None ≡ first_broken 14 (lines_14 ∷ lines_15 ∷ lines_16 ∷ []) rows → Some broken ≡ first_broken 17 (lines_17 ∷ []) rows
+    → Some broken ≡ first_broken 14 rules_from_14 rows
+from_14_second rows broken a b = sym (join_none 14 bodies (worst ++ (tables ++ inputs)) rows (sym a) ∙ join_some 17 worst (tables ++ inputs) rows broken (sym b))
 
-pub from_14_first : (rows : List NumberedRow) (broken : Broken) → first_broken 14 (lines_14 ∷ lines_15 ∷ lines_16 ∷ []) rows ≡ Some broken → first_broken 14 rules_from_14 rows ≡ Some broken
-from_14_first rows broken a = join_some 14 bodies (worst ++ (tables ++ inputs)) rows broken a
-
-pub from_14_second : (rows : List NumberedRow) (broken : Broken) → first_broken 14 (lines_14 ∷ lines_15 ∷ lines_16 ∷ []) rows ≡ None → first_broken 17 (lines_17 ∷ []) rows ≡ Some broken
-    → first_broken 14 rules_from_14 rows ≡ Some broken
-from_14_second rows broken a b = join_none 14 bodies (worst ++ (tables ++ inputs)) rows a ∙ join_some 17 worst (tables ++ inputs) rows broken b
-
-pub from_14_third : (rows : List NumberedRow) (broken : Broken) → first_broken 14 (lines_14 ∷ lines_15 ∷ lines_16 ∷ []) rows ≡ None → first_broken 17 (lines_17 ∷ []) rows ≡ None
-    → first_broken 18 (lines_18 ∷ lines_19 ∷ lines_20 ∷ lines_21 ∷ lines_22 ∷ lines_23 ∷ lines_24 ∷ []) rows ≡ Some broken → first_broken 14 rules_from_14 rows ≡ Some broken
+pub from_14_third : (rows : List NumberedRow) (broken : Broken) → None ≡ first_broken 14 (lines_14 ∷ lines_15 ∷ lines_16 ∷ []) rows → None ≡ first_broken 17 (lines_17 ∷ []) rows
+    → Some broken ≡ first_broken 18 (lines_18 ∷ lines_19 ∷ lines_20 ∷ lines_21 ∷ lines_22 ∷ lines_23 ∷ lines_24 ∷ []) rows → Some broken ≡ first_broken 14 rules_from_14 rows
 from_14_third rows broken a b c =
-    join_none 14 bodies (worst ++ (tables ++ inputs)) rows a ∙ join_none 17 worst (tables ++ inputs) rows b ∙ join_some 18 tables inputs rows broken c
+    sym (join_none 14 bodies (worst ++ (tables ++ inputs)) rows (sym a) ∙ join_none 17 worst (tables ++ inputs) rows (sym b) ∙ join_some 18 tables inputs rows broken (sym c))
 
-pub from_14_fourth : (rows : List NumberedRow) (broken : Broken) → first_broken 14 (lines_14 ∷ lines_15 ∷ lines_16 ∷ []) rows ≡ None → first_broken 17 (lines_17 ∷ []) rows ≡ None
-    → first_broken 18 (lines_18 ∷ lines_19 ∷ lines_20 ∷ lines_21 ∷ lines_22 ∷ lines_23 ∷ lines_24 ∷ []) rows ≡ None
-    → first_broken 25 (lines_25 ∷ lines_26 ∷ lines_27 ∷ lines_28 ∷ []) rows ≡ Some broken → first_broken 14 rules_from_14 rows ≡ Some broken
-from_14_fourth rows broken a b c d =
-    join_none 14 bodies (worst ++ (tables ++ inputs)) rows a ∙ join_none 17 worst (tables ++ inputs) rows b ∙ join_none 18 tables inputs rows c ∙ d
+pub from_14_rest : (rows : List NumberedRow) → None ≡ first_broken 14 (lines_14 ∷ lines_15 ∷ lines_16 ∷ []) rows → None ≡ first_broken 17 (lines_17 ∷ []) rows
+    → None ≡ first_broken 18 (lines_18 ∷ lines_19 ∷ lines_20 ∷ lines_21 ∷ lines_22 ∷ lines_23 ∷ lines_24 ∷ []) rows → first_broken 25 (lines_25 ∷ lines_26 ∷ lines_27 ∷ lines_28 ∷ []) rows ≡ first_broken 14 rules_from_14 rows
+from_14_rest rows a b c =
+    sym (join_none 14 bodies (worst ++ (tables ++ inputs)) rows (sym a) ∙ join_none 17 worst (tables ++ inputs) rows (sym b) ∙ join_none 18 tables inputs rows (sym c))
 
 pub all_none : (rows : List NumberedRow) → first_broken 1 rules_to_13 rows ≡ None → first_broken 14 rules_from_14 rows ≡ None → broken_rule rows ≡ None
 unfolding broken_rule

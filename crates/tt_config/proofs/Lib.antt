@@ -42,3 +42,4 @@ pub mod Joining
 pub mod ActivationLemmas
 pub mod ConfigRows
 pub mod WorstRead
+pub mod Accepting

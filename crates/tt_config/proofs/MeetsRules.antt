@@ -4,6 +4,8 @@ use Rattle.tt_rows.specs.declared.row.NumberedRow.{NumberedRow}
 use Rattle.tt_config.specs.Lines.{least_line, least_with}
 use Rattle.tt_config.specs.declared.broken.Broken.{Broken}
 use Rattle.tt_config.specs.Broken.{broken_or, first_broken, the_rules, broken_rule}
+use Rattle.tt_config.specs.Rules.{lines_2, lines_3, lines_8, lines_9}
+use Rattle.tt_config.specs.Accept.{rules_to_13}
 use Rattle.tt_config.specs.MeetsRules.{MeetsRules}
 
 least_with-some : (line : ℕ) (rest : Option ℕ) → least_with line rest ≡ None → ⊥
@@ -84,3 +86,15 @@ meets_rules rows is = rules_of_kept rows (kept 1 the_rules rows is)
 pub no_rule_broken : (rows : List NumberedRow) → MeetsRules rows → broken_rule rows ≡ None
 unfolding broken_rule
 no_rule_broken rows m = unbroken 1 the_rules rows (kept_of_rules rows m)
+
+-- the rules that counting the worst case of a body rests on
+pub record MeetsBlockRules (rows : List NumberedRow) : Type 0 where
+  pub formed : lines_2 rows ≡ []
+  pub nested : lines_3 rows ≡ []
+  pub few : lines_8 rows ≡ []
+  pub numbers : lines_9 rows ≡ []
+
+pub block_rules : (rows : List NumberedRow) → first_broken 1 rules_to_13 rows ≡ None → MeetsBlockRules rows
+block_rules rows is =
+    let k = kept 1 rules_to_13 rows is in
+    record { formed = k.1.0; nested = k.1.1.0; few = k.1.1.1.1.1.1.1.0; numbers = k.1.1.1.1.1.1.1.1.0 }

@@ -1,5 +1,5 @@
 -- The owners of rows that are read from the last to the first.
-use Rattle.std.proofs.Common.{◌≡◌, ℕ, ◌<◌, ◌≤◌, ◌^◌, true, false, List, [], ◌∷◌, ◌++◌, Option, Some, None, length, ap, sym, ◌∙◌, refl}
+use Rattle.std.proofs.Common.{◌≡◌, ℕ, ◌<◌, ◌≤◌, ◌^◌, true, false, List, [], ◌∷◌, ◌++◌, Some, None, length, ap, sym, ◌∙◌, refl}
 use Rattle.std.proofs.lemmas.List.{append_assoc}
 use Rattle.tt_base.specs.declared.names.NameEntry.{NameEntry}
 use Rattle.task_lang.specs.declared.demand.Demand.{Demand}
@@ -8,7 +8,7 @@ use Rattle.tt_rows.specs.declared.row.Row.{Row}
 use Rattle.tt_rows.specs.declared.row.Row.TheVariants as r
 use Rattle.tt_rows.specs.declared.row.NumberedRow.{NumberedRow}
 use Rattle.tt_config.specs.declared.owners.Owners.{Owners}
-use Rattle.tt_config.specs.Bodies.{Branches, branches_from, row_then, body_from}
+use Rattle.tt_config.specs.Bodies.{Branches, row_then, body_from}
 use Rattle.tt_config.specs.Opened.{body_opened}
 use Rattle.task_lang.specs.Limits.{AreMostsInRange}
 use Rattle.task_lang.specs.Worst.{worst_in}

@@ -11,8 +11,8 @@ use Rattle.tt_rows.specs.declared.row.Row.{Row}
 use Rattle.tt_rows.specs.declared.row.Row.TheVariants as r
 use Rattle.tt_rows.specs.declared.row.NumberedRow.{NumberedRow}
 use Rattle.tt_config.specs.Structure.{Standing, Top, Opener, Plain, OfIf, OfElse, OfRepeat, OfEnd, standing_of}
-use Rattle.tt_config.specs.Bodies.{Branches, branches_from, row_then, first_branch, body_from}
-use Rattle.tt_config.specs.Lines.{least_line, line_if}
+use Rattle.tt_config.specs.Bodies.{Branches, row_then, first_branch, body_from}
+use Rattle.tt_config.specs.Lines.{least_line}
 use Rattle.tt_config.specs.Opened.{body_at, body_opened}
 use Rattle.tt_config.specs.Owners.{IsTellable, is_heavy}
 use Rattle.tt_config.specs.Rules.{lines_2, lines_3, lines_9, lines_17_from, opens_routine}

@@ -1,10 +1,5 @@
 -- The statements that the rows of a body are.
-use Rattle.std.specs.Prelude.{ℕ, ℤ, pos, Bool, true, false, List, [], ◌∷◌, ◌++◌, map, Option, Some, None, option_map, unwrap_or}
-use Rattle.tt_base.specs.declared.number.ModeNo.{ModeNo}
-use Rattle.tt_base.specs.declared.number.OsekNo.{OsekNo}
-use Rattle.tt_base.specs.declared.number.VarNo.{VarNo}
-use Rattle.tt_base.specs.declared.number.DemandNo.{DemandNo}
-use Rattle.tt_base.specs.declared.event.Call.{Call}
+use Rattle.std.specs.Prelude.{ℕ, pos, List, [], ◌∷◌, Option, Some, None, option_map, unwrap_or}
 use Rattle.tt_base.specs.declared.event.Call.TheVariants as call
 use Rattle.tt_base.specs.declared.names.NameEntry.{NameEntry}
 use Rattle.tt_base.specs.Names.{find_name, number_of}

@@ -1,5 +1,5 @@
 -- The first of some lines, as the search for it gives it.
-use Rattle.std.specs.Prelude.{◌≡◌, ℕ, min, Bool, List, [], ◌∷◌, Option, Some, None}
+use Rattle.std.specs.Prelude.{◌≡◌, ℕ, min, List, [], ◌∷◌, Option, Some, None}
 use Rattle.std.specs.Fn.{Shared, FnReturnsAt}
 use Rattle.std.specs.Borrow.{Bor}
 use Rattle.tt_rows.specs.declared.row.Row.{Row}

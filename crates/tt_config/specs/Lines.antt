@@ -1,5 +1,5 @@
 -- Lists of lines: of rows that pass a test, of those past the first, of those that repeat a key.
-use Rattle.std.specs.Prelude.{ℕ, ◌+◌, ◌==◌, not, nat_le, min, Bool, true, false, List, [], ◌∷◌, ◌++◌, drop, length, Option, Some, None, if◌then◌else◌}
+use Rattle.std.specs.Prelude.{ℕ, min, Bool, true, false, List, [], ◌∷◌, drop, length, Option, Some, None}
 use Rattle.std.specs.List.{list_any}
 use Rattle.tt_rows.specs.declared.row.Row.{Row}
 use Rattle.tt_rows.specs.declared.row.NumberedRow.{NumberedRow}

@@ -1,5 +1,5 @@
 -- What has a body, of the rows that were read so far from the last to the first.
-use Rattle.std.specs.Prelude.{◌≡◌, ℕ, ℤ, ◌^◌, ◌&&◌, nat_lt, Bool, true, false, List, [], ◌∷◌, Option, Some, None}
+use Rattle.std.specs.Prelude.{ℕ, ℤ, ◌^◌, ◌&&◌, nat_lt, Bool, true, false, List, [], ◌∷◌, Option, Some, None}
 use Rattle.tt_base.specs.declared.names.NameEntry.{NameEntry}
 use Rattle.task_lang.specs.declared.demand.Demand.{Demand}
 use Rattle.task_lang.specs.declared.syntax.Stmt.{Stmt}

@@ -1,7 +1,5 @@
 -- The rows of dispatcher tables, for each mode.
 use Rattle.std.specs.Prelude.{ℕ, Bool, true, false, List, [], ◌∷◌, ◌++◌, map, slice_index_or, slice_set}
-use Rattle.tt_base.specs.declared.number.TaskNo.{TaskNo}
-use Rattle.tt_base.specs.declared.number.IsrNo.{IsrNo}
 use Rattle.tt_base.specs.declared.names.NameKind.TheVariants as Kind
 use Rattle.tt_base.specs.declared.names.NameEntry.{NameEntry}
 use Rattle.tt_base.specs.Names.{names_of}

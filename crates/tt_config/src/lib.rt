@@ -27,7 +27,7 @@ mod table_rules;
 mod tables;
 mod worst_rule;
 
-pub use acceptance::{AcceptFault, Accepted};
+pub use acceptance::{AcceptFault, Accepted, accept};
 pub use broken::Broken;
 pub use laws::bodies_are_sound;
 pub use tt_rows::{NumberedRow, Row, Rows, Term, Terms};

@@ -1,4 +1,4 @@
-use Rattle.std.proofs.Common.{◌≡◌, rules, Bool, ap, ◌∙◌}
+use Rattle.std.proofs.Common.{rules, Bool, ap, ◌∙◌}
 use Rattle.std.specs.List.{list_any}
 use Rattle.tt_rows.specs.declared.row.Row.{Row}
 use Rattle.tt_config.specs.ActivationKeys.{comes_between_key}

@@ -1,5 +1,4 @@
-use Rattle.std.proofs.Common.{ap, sym, ◌∙◌}
-use Rattle.tt_config.specs.Bodies.{expressions_of}
+use Rattle.std.proofs.Common.{◌∙◌}
 use Rattle.tt_config.proofs.Terms.{terms_first, terms_more, terms_last}
 use Rattle.tt_config.proofs.expressions.expression_of.Goals as goal
 

@@ -1,4 +1,4 @@
-use Rattle.std.proofs.Common.{◌≡◌, ℕ, rules, [], Option, Some, None, refl, ap, sym, ◌∙◌}
+use Rattle.std.proofs.Common.{rules, [], None, ap, sym, ◌∙◌}
 use Rattle.tt_config.specs.FirstLine.{lesser_of}
 use Rattle.tt_config.specs.Lines.{least_line, lines_where}
 use Rattle.tt_config.proofs.LineLemmas.{lesser_of-none}

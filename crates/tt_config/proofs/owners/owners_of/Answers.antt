@@ -1,4 +1,4 @@
-use Rattle.std.proofs.Common.{◌≡◌, ◌<◌, ◌^◌, [], Some, IfOk, arith, sym, subst, ◌∙◌}
+use Rattle.std.proofs.Common.{◌≡◌, ◌<◌, ◌^◌, [], IfOk, arith, sym, subst, ◌∙◌}
 use Rattle.task_lang.specs.Limits.{AreMostsInRange}
 use Rattle.tt_config.specs.declared.owners.Owners.{Owners}
 use Rattle.tt_config.specs.Rules.{lines_17_from}

@@ -1,5 +1,4 @@
-use Rattle.std.proofs.Common.{◌≡◌, length}
-use Rattle.tt_config.specs.Owners.{owners_of}
+use Rattle.std.proofs.Common.{length}
 use Rattle.tt_config.proofs.OwnersRead.{ReadsOwners}
 use Rattle.tt_config.proofs.owners.owners_of.Given as goal
 

@@ -1,5 +1,5 @@
-use Rattle.std.proofs.Common.{◌≡◌, ◌+◌, drop, None, ap, sym, subst}
-use Rattle.tt_config.proofs.ArrivalLemmas.{AreLast, AreLast-other, AreLast-insert, least_line-late}
+use Rattle.std.proofs.Common.{sym}
+use Rattle.tt_config.proofs.ArrivalLemmas.{AreLast-other, AreLast-insert, least_line-late}
 use Rattle.tt_config.proofs.table_rules.rule_27.Goals as goal
 use Rattle.tt_config.proofs.table_rules.rule_27.Goals.{in-Some+in-Ok+else-is_not_after, in_default}
 

@@ -1,4 +1,4 @@
-use Rattle.std.proofs.Common.{◌≡◌, ℕ, Bool, Ordering, ◌∙◌, rules}
+use Rattle.std.proofs.Common.{ℕ, Bool, Ordering, ◌∙◌, rules}
 use Rattle.std.specs.Cmp.{nat_cmp_total, then_total, on_total}
 use Rattle.std.specs.Ordering.{nat_cmp, is_lt, ordering_then}
 use Rattle.std.proofs.lemmas.List.Sorted.{ranks_by, answers_always}

@@ -1,4 +1,4 @@
-use Rattle.std.proofs.Common.{◌≡◌, ◌<◌, ◌^◌, refl, arith, sym, ◌∙◌}
+use Rattle.std.proofs.Common.{◌<◌, ◌^◌, refl, arith, sym, ◌∙◌}
 use Rattle.task_lang.specs.Limits.{AreMostsInRange}
 use Rattle.tt_config.proofs.DemandRows.{mosts_in_range}
 use Rattle.tt_config.proofs.WorstRead.{worst_first, worst_found, worst_still, worst_last, tellable}
