@@ -68,16 +68,113 @@ def many_ends():
     return "end\n" * (LIMIT // 4)
 
 
-DOCUMENTS = {"every_row": every_row, "many_ends": many_ends}
+def numbered(form, count):
+    """A row for each number from 0, with the number in the place of {0}."""
+    return "".join(form.format(i) for i in range(count))
+
+
+def table_rows():
+    """33,008 rows of the dispatcher tables of 16 modes, from the last offset to the first, the modes in turn: in each 1,500
+    activations of one task, each at the deadline of the one before, and 563 enables of one source."""
+    modes = "abcdefghijklmnop"
+    rows = ["osektime 1\nround 10000\n"]
+    rows += [f"mode {mode}\n" for mode in modes]
+    rows.append("task A 8\nwork 1\nend\nisr K 1 4\nwork 1\nend\n")
+    for i in reversed(range(1500)):
+        rows += [f"at {6 * i} {mode} activate A {6 * i + 6} stringent\n" for mode in modes]
+    for i in reversed(range(563)):
+        rows += [f"at {16 * i} {mode} enable K\n" for mode in modes]
+    rows.append("start a\nrounds 1\n")
+    return "".join(rows)
+
+
+def used_names():
+    """656 declared names, the most of each kind, which are used 100,000 times: 81,600 variables in expressions and 18,400 demands."""
+    rows = ["osektime 1\nround 10000\n", numbered("mode m_{0:03}\n", 16), numbered("var v_{0:03} 0\n", 256), numbered("demand d_{0:03} 2 1\n", 256)]
+    for task in range(64):
+        rows.append(f"task t_{task:03} 8\n")
+        for line in range(task, 3400, 64):
+            names = [f"v_{(24 * line + i) % 256:03}" for i in range(24)]
+            rows.append("out + " + " + ".join(names[:-1]) + f" {names[-1]}\n")
+        rows += [f"take d_{i % 256:03}\n" for i in range(task, 18400, 64)]
+        rows.append("end\n")
+    rows += [f"isr i_{i:03} {i + 1} 4\nwork 1\nend\n" for i in range(16)]
+    rows += [f"osek q_{i:03} {i + 1}\nwork 1\nend\n" for i in range(32)]
+    rows += [f"oisr x_{i:03} {i + 1}\nwork 1\nend\n" for i in range(16)]
+    rows.append("start m_015\nrounds 1\n")
+    return "".join(rows)
+
+
+def many_names():
+    """80,000 variables of different names: all are compared by rule 7 before rule 8 refuses the 257th."""
+    return "osektime 1\nround 10\nmode m\n" + numbered("var v{0:05} 0\n", 80000) + "start m\nrounds 1\n"
+
+
+def deep_blocks():
+    """110,000 blocks, each inside the one before: all are closed, as rule 2 asks, before rule 3 refuses the fifth."""
+    return "osektime 1\nround 10\nmode m\ntask A 8\n" + "if 1\n" * 110000 + "end\n" * 110001 + "start m\nrounds 1\n"
+
+
+def arrivals():
+    """60,000 interrupts of 32 sources in turn."""
+    tasks = "ABCDEFGHIJKLMNOP"
+    sources = tasks + tasks.lower()
+    rows = ["osektime 1\nround 1000000\nmode Z\n"]
+    rows += [f"isr {name} {i + 1} 4\nwork 1\nend\n" for i, name in enumerate(tasks)]
+    rows += [f"oisr {name} {i + 1}\nwork 1\nend\n" for i, name in enumerate(tasks.lower())]
+    rows.append("start Z\nrounds 1\n")
+    rows += [f"arrive {sources[i % 32]} {500 * (i // 32)}\n" for i in range(60000)]
+    return "".join(rows)
+
+
+def nested_blocks():
+    """One body of 100,000 statements, nested four deep, which takes 100,000 ticks."""
+    group = "if 1\nif 1\nrepeat 1\nif 1\nwork 1\nend\nend\nend\nend\n"
+    head = "osektime 1\nround 200000\nmode m\ntask A 8\n"
+    return head + group * 20000 + "end\nat 0 m activate A 200000 stringent\nstart m\nrounds 1\n"
+
+
+def many_tasks():
+    """64 tasks, each of which preempts the one before, over 1,000 rounds of 1,000 ticks: 321,002 lines."""
+    tasks = numbered("task T{0} 8\nwork 10\nend\n", 64) + numbered("at {0} m activate T{0} 1000 stringent\n", 64)
+    return "osektime 1\nround 1000\nmode m\n" + tasks + "start m\nrounds 1000\n"
+
+
+def long_table():
+    """4,096 activations in each of 10 rounds of 100,000 ticks, of which 95,904 are idle: 204,812 lines."""
+    rows = "".join(f"at {2 * i} m activate A {2 * i + 2} stringent\n" for i in range(4096))
+    return "osektime 1\nround 100000\nmode m\ntask A 8\nwork 1\nend\n" + rows + "start m\nrounds 10\n"
+
+
+def much_output():
+    """Four repeats inside each other, which put out 500,000 values in 1,552,550 ticks."""
+    body = "repeat 50\nrepeat 50\nrepeat 20\nrepeat 10\nset x + x 1\nout x\nend\nend\nend\nend\nend\n"
+    head = "osektime 1\nround 2000000\nmode m\nvar x 0\ntask A 8\n"
+    return head + body + "at 0 m activate A 2000000 stringent\nstart m\nrounds 1\n"
+
+
+DOCUMENTS = [
+    every_row,
+    many_ends,
+    table_rows,
+    used_names,
+    many_names,
+    deep_blocks,
+    arrivals,
+    nested_blocks,
+    many_tasks,
+    long_table,
+    much_output,
+]
 
 
 def main():
     folder = sys.argv[1]
     os.makedirs(folder, exist_ok=True)
-    for name, make in DOCUMENTS.items():
+    for make in DOCUMENTS:
         text = make()
-        assert len(text) <= LIMIT, name
-        with open(os.path.join(folder, name), "w", encoding="ascii") as file:
+        assert len(text) <= LIMIT, make.__name__
+        with open(os.path.join(folder, make.__name__), "w", encoding="ascii") as file:
             file.write(text)
 
 

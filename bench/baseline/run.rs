@@ -1,0 +1,355 @@
+//! What `osektime trace` does with an accepted document of one mode with stringent activations, hand-written in plain Rust: it runs
+//! the document tick by tick and prints what happens. It applies no rule.
+
+mod document;
+
+use document::{declared, read, Kind, NumberedRow, Op, Row, Term};
+use std::collections::HashMap;
+use std::io::{BufWriter, Read, Write};
+use std::process::ExitCode;
+
+type Numbers<'a> = HashMap<(Kind, &'a str), usize>;
+
+enum Expr {
+    Const(i32),
+    Var(usize),
+    Bin(Op, Box<Expr>, Box<Expr>),
+}
+
+enum Stmt {
+    Work(u64),
+    Take(usize),
+    Set(usize, Expr),
+    If(Expr, Vec<Stmt>, Vec<Stmt>),
+    Repeat(u64, Vec<Stmt>),
+    Out(Expr),
+}
+
+struct Demand {
+    usual: u64,
+    values: Vec<u64>,
+}
+
+struct Task<'a> {
+    name: &'a str,
+    body: Vec<Stmt>,
+}
+
+struct Activation {
+    offset: u64,
+    task: usize,
+    deadline: u64,
+}
+
+#[derive(Default)]
+struct Config<'a> {
+    mode: &'a str,
+    round: u64,
+    rounds: u64,
+    vars: Vec<i32>,
+    demands: Vec<Demand>,
+    tasks: Vec<Task<'a>>,
+    activations: Vec<Activation>,
+}
+
+fn expression(numbers: &Numbers, terms: &mut std::slice::Iter<Term>) -> Option<Expr> {
+    Some(match terms.next()? {
+        Term::Int(value) => Expr::Const(*value),
+        Term::Name(name) => Expr::Var(*numbers.get(&(Kind::Var, name))?),
+        Term::Op(op) => {
+            let left = expression(numbers, terms)?;
+            Expr::Bin(*op, Box::new(left), Box::new(expression(numbers, terms)?))
+        }
+    })
+}
+
+/// The statements up to the `end` or `else` that closes them, which is taken too, and whether that is an `else`. None where a
+/// statement is none of those that run here.
+fn block(numbers: &Numbers, rows: &mut std::slice::Iter<NumberedRow>) -> Option<(Vec<Stmt>, bool)> {
+    let mut body = Vec::new();
+    loop {
+        body.push(match &rows.next()?.row {
+            Row::End => return Some((body, false)),
+            Row::Else => return Some((body, true)),
+            Row::Work(ticks) => Stmt::Work(*ticks),
+            Row::Take(demand) => Stmt::Take(*numbers.get(&(Kind::Demand, demand))?),
+            Row::Set(var, terms) => Stmt::Set(*numbers.get(&(Kind::Var, var))?, expression(numbers, &mut terms.iter())?),
+            Row::Out(terms) => Stmt::Out(expression(numbers, &mut terms.iter())?),
+            Row::Repeat(turns) => Stmt::Repeat(*turns, block(numbers, rows)?.0),
+            Row::If(terms) => {
+                let condition = expression(numbers, &mut terms.iter())?;
+                let (first, has_else) = block(numbers, rows)?;
+                Stmt::If(condition, first, if has_else { block(numbers, rows)?.0 } else { Vec::new() })
+            }
+            _ => return None,
+        });
+    }
+}
+
+/// The configuration and script of accepted rows; None where a row is none of those that run here.
+fn config<'a>(rows: &'a [NumberedRow<'a>]) -> Option<Config<'a>> {
+    let mut config = Config::default();
+    let mut numbers: Numbers = HashMap::new();
+    let mut counts: HashMap<Kind, usize> = HashMap::new();
+    for (kind, name) in rows.iter().filter_map(|r| declared(&r.row)) {
+        let count = counts.entry(kind).or_default();
+        numbers.insert((kind, name), *count);
+        *count += 1;
+    }
+    if counts.get(&Kind::Mode) != Some(&1) {
+        return None;
+    }
+    for row in rows {
+        if let Row::Demand { usual, .. } = row.row {
+            config.demands.push(Demand { usual, values: Vec::new() });
+        }
+    }
+    let mut rest = rows.iter();
+    while let Some(row) = rest.next() {
+        match row.row {
+            Row::Header | Row::Mode(_) | Row::Demand { .. } => {}
+            Row::Round(length) => config.round = length,
+            Row::Var(_, value) => config.vars.push(value),
+            Row::Task { name, .. } => config.tasks.push(Task { name, body: block(&numbers, &mut rest)?.0 }),
+            Row::AtActivate { offset, task, deadline, stringent: true, .. } => {
+                let task = *numbers.get(&(Kind::Task, task))?;
+                config.activations.push(Activation { offset, task, deadline });
+            }
+            Row::Start(mode) => config.mode = mode,
+            Row::Rounds(count) => config.rounds = count,
+            Row::Value(demand, ticks) => config.demands[*numbers.get(&(Kind::Demand, demand))?].values.push(ticks),
+            _ => return None,
+        }
+    }
+    config.activations.sort_by_key(|a| a.offset);
+    Some(config)
+}
+
+fn value(expr: &Expr, vars: &[i32]) -> i32 {
+    match expr {
+        Expr::Const(value) => *value,
+        Expr::Var(var) => vars[*var],
+        Expr::Bin(op, left, right) => {
+            let (left, right) = (value(left, vars), value(right, vars));
+            match op {
+                Op::Add => left.wrapping_add(right),
+                Op::Sub => left.wrapping_sub(right),
+                Op::Mul => left.wrapping_mul(right),
+                Op::Less => i32::from(left < right),
+                Op::AtMost => i32::from(left <= right),
+                Op::Same => i32::from(left == right),
+                Op::Differ => i32::from(left != right),
+            }
+        }
+    }
+}
+
+/// A block that has been entered: the place of its next statement, and the turns that are left after this one.
+struct Frame<'a> {
+    body: &'a [Stmt],
+    place: usize,
+    turns: u64,
+}
+
+/// An activation that has not ended: its place in the dispatcher table, the ticks left of its present statement, and the blocks
+/// that it is in.
+struct Unfinished<'a> {
+    entry: usize,
+    work: u64,
+    frames: Vec<Frame<'a>>,
+}
+
+struct State {
+    vars: Vec<i32>,
+    used: Vec<usize>,
+}
+
+impl<'a> Unfinished<'a> {
+    /// Leaves the blocks of which nothing is left.
+    fn leave(&mut self) {
+        while self.frames.last().is_some_and(|f| f.place == f.body.len() && f.turns == 0) {
+            self.frames.pop();
+        }
+    }
+
+    fn has_ended(&self) -> bool {
+        self.work == 0 && self.frames.is_empty()
+    }
+
+    /// Takes one tick; gives what is put out.
+    fn tick(&mut self, demands: &[Demand], state: &mut State) -> Option<i32> {
+        if self.work > 0 {
+            self.work -= 1;
+            return None;
+        }
+        let frame = self.frames.last_mut()?;
+        let mut out = None;
+        match frame.body.get(frame.place) {
+            None => {
+                frame.turns -= 1;
+                frame.place = 0;
+            }
+            Some(stmt) => {
+                frame.place += 1;
+                match stmt {
+                    Stmt::Work(ticks) => self.work = ticks - 1,
+                    Stmt::Take(demand) => {
+                        let Demand { usual, values } = &demands[*demand];
+                        self.work = *values.get(state.used[*demand]).unwrap_or(usual);
+                        state.used[*demand] += 1;
+                    }
+                    Stmt::Set(var, expr) => state.vars[*var] = value(expr, &state.vars),
+                    Stmt::Out(expr) => out = Some(value(expr, &state.vars)),
+                    Stmt::If(expr, first, second) => {
+                        let body = if value(expr, &state.vars) != 0 { first } else { second };
+                        self.frames.push(Frame { body, place: 0, turns: 0 });
+                    }
+                    Stmt::Repeat(turns, body) => self.frames.push(Frame { body, place: 0, turns: turns - 1 }),
+                }
+            }
+        }
+        self.leave();
+        out
+    }
+}
+
+/// The run at a tick.
+struct Run<'a, W> {
+    config: &'a Config<'a>,
+    checks: &'a [usize],
+    out: W,
+    tick: u64,
+    start: u64,
+    number: u64,
+    next_check: usize,
+    next_activation: usize,
+    unfinished: Vec<Unfinished<'a>>,
+    last: Option<&'a str>,
+    state: State,
+}
+
+enum End {
+    Stopped,
+    Missed,
+}
+
+impl<'a, W: Write> Run<'a, W> {
+    /// Checks the activations whose deadline is this offset; tells whether one is missed.
+    fn check(&mut self, offset: u64) -> std::io::Result<bool> {
+        while let Some(entry) = self.checks.get(self.next_check) {
+            let Activation { task, deadline, .. } = self.config.activations[*entry];
+            if deadline != offset {
+                break;
+            }
+            self.next_check += 1;
+            let name = self.config.tasks[task].name;
+            if self.unfinished.iter().any(|u| u.entry == *entry) {
+                let at = self.tick;
+                writeln!(self.out, "{at} check {name} missed\n{at} hook ttErrorHook {name}\n{at} hook ttShutdownHook\n{at} shutdown")?;
+                return Ok(true);
+            }
+            writeln!(self.out, "{} check {name} met", self.tick)?;
+        }
+        Ok(false)
+    }
+
+    /// What comes before the tick; tells how the run ends, where it does.
+    fn open(&mut self) -> std::io::Result<Option<End>> {
+        if self.check(self.tick - self.start)? {
+            return Ok(Some(End::Missed));
+        }
+        if self.tick - self.start == self.config.round {
+            if self.number == self.config.rounds {
+                writeln!(self.out, "{} stop", self.tick)?;
+                return Ok(Some(End::Stopped));
+            }
+            self.start = self.tick;
+            self.number += 1;
+            self.next_check = 0;
+            self.next_activation = 0;
+            writeln!(self.out, "{} round {} {}", self.tick, self.number, self.config.mode)?;
+        }
+        if let Some(activation) = self.config.activations.get(self.next_activation) {
+            if activation.offset == self.tick - self.start {
+                let Task { name, body } = &self.config.tasks[activation.task];
+                let frames = vec![Frame { body, place: 0, turns: 0 }];
+                self.unfinished.push(Unfinished { entry: self.next_activation, work: 0, frames });
+                self.next_activation += 1;
+                writeln!(self.out, "{} activate {name}", self.tick)?;
+            }
+        }
+        Ok(None)
+    }
+
+    /// One tick of the one who runs.
+    fn step(&mut self) -> std::io::Result<()> {
+        let config = self.config;
+        let running = self.unfinished.last_mut();
+        let name = running.as_ref().map_or("idle", |u| config.tasks[config.activations[u.entry].task].name);
+        if self.last != Some(name) {
+            writeln!(self.out, "{} run {name}", self.tick)?;
+            self.last = Some(name);
+        }
+        if let Some(running) = running {
+            if let Some(value) = running.tick(&config.demands, &mut self.state) {
+                writeln!(self.out, "{} out {name} {value}", self.tick)?;
+            }
+            if running.has_ended() {
+                self.unfinished.pop();
+                writeln!(self.out, "{} end {name}", self.tick + 1)?;
+            }
+        }
+        self.tick += 1;
+        Ok(())
+    }
+
+    fn run(mut self) -> std::io::Result<End> {
+        let mode = self.config.mode;
+        writeln!(self.out, "0 os start {mode}\n0 round 1 {mode}")?;
+        loop {
+            if let Some(end) = self.open()? {
+                self.out.flush()?;
+                return Ok(end);
+            }
+            self.step()?;
+        }
+    }
+}
+
+fn run(config: &Config) -> std::io::Result<End> {
+    let mut checks: Vec<usize> = (0..config.activations.len()).collect();
+    checks.sort_by_key(|entry| config.activations[*entry].deadline);
+    let state = State { vars: config.vars.clone(), used: vec![0; config.demands.len()] };
+    let run = Run {
+        config,
+        checks: &checks,
+        out: BufWriter::new(std::io::stdout().lock()),
+        tick: 0,
+        start: 0,
+        number: 1,
+        next_check: 0,
+        next_activation: 0,
+        unfinished: Vec::new(),
+        last: None,
+        state,
+    };
+    run.run()
+}
+
+fn main() -> ExitCode {
+    let mut bytes = Vec::new();
+    if std::io::stdin().lock().read_to_end(&mut bytes).is_err() {
+        return ExitCode::from(3);
+    }
+    let Ok(rows) = read(&bytes) else {
+        return ExitCode::from(6);
+    };
+    let Some(config) = config(&rows) else {
+        return ExitCode::from(11);
+    };
+    match run(&config) {
+        Ok(End::Stopped) => ExitCode::SUCCESS,
+        Ok(End::Missed) => ExitCode::from(9),
+        Err(_) => ExitCode::from(4),
+    }
+}
