@@ -117,11 +117,11 @@ def deep_blocks():
 
 def arrivals():
     """60,000 interrupts of 32 sources in turn."""
-    tasks = "ABCDEFGHIJKLMNOP"
-    sources = tasks + tasks.lower()
+    upper = "ABCDEFGHIJKLMNOP"
+    sources = upper + upper.lower()
     rows = ["osektime 1\nround 1000000\nmode Z\n"]
-    rows += [f"isr {name} {i + 1} 4\nwork 1\nend\n" for i, name in enumerate(tasks)]
-    rows += [f"oisr {name} {i + 1}\nwork 1\nend\n" for i, name in enumerate(tasks.lower())]
+    rows += [f"isr {name} {i + 1} 4\nwork 1\nend\n" for i, name in enumerate(upper)]
+    rows += [f"oisr {name} {i + 1}\nwork 1\nend\n" for i, name in enumerate(upper.lower())]
     rows.append("start Z\nrounds 1\n")
     rows += [f"arrive {sources[i % 32]} {500 * (i // 32)}\n" for i in range(60000)]
     return "".join(rows)

@@ -1,6 +1,7 @@
 #!/usr/bin/env bash
 # Runs each document of this folder through the built program: NAME.osektime on standard input of each command for which there
 # is a NAME.COMMAND.out, which is the text that must be written; the exit status must be that of NAME.COMMAND.status, or 0.
+# A document rule_NN_.. breaks rule NN of docs/FORMAT.md, and limit_NN_.. meets it with nothing to spare.
 set -u
 here=$(cd "$(dirname "${BASH_SOURCE[0]}")" && pwd)
 program=$here/../osektime

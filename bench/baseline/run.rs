@@ -86,9 +86,8 @@ fn block(numbers: &Numbers, rows: &mut std::slice::Iter<NumberedRow>) -> Option<
     }
 }
 
-/// The configuration and script of accepted rows; None where a row is none of those that run here.
-fn config<'a>(rows: &'a [NumberedRow<'a>]) -> Option<Config<'a>> {
-    let mut config = Config::default();
+/// The number of each declared name: the count of names of its kind above it.
+fn numbers_of<'a>(rows: &[NumberedRow<'a>]) -> Numbers<'a> {
     let mut numbers: Numbers = HashMap::new();
     let mut counts: HashMap<Kind, usize> = HashMap::new();
     for (kind, name) in rows.iter().filter_map(|r| declared(&r.row)) {
@@ -96,14 +95,24 @@ fn config<'a>(rows: &'a [NumberedRow<'a>]) -> Option<Config<'a>> {
         numbers.insert((kind, name), *count);
         *count += 1;
     }
-    if counts.get(&Kind::Mode) != Some(&1) {
+    numbers
+}
+
+fn demand_of(row: &NumberedRow) -> Option<Demand> {
+    if let Row::Demand { usual, .. } = row.row {
+        Some(Demand { usual, values: Vec::new() })
+    } else {
+        None
+    }
+}
+
+/// The configuration and script of accepted rows; None where a row is none of those that run here.
+fn config<'a>(rows: &'a [NumberedRow<'a>]) -> Option<Config<'a>> {
+    let numbers = numbers_of(rows);
+    if numbers.keys().filter(|(kind, _)| *kind == Kind::Mode).count() != 1 {
         return None;
     }
-    for row in rows {
-        if let Row::Demand { usual, .. } = row.row {
-            config.demands.push(Demand { usual, values: Vec::new() });
-        }
-    }
+    let mut config = Config { demands: rows.iter().filter_map(demand_of).collect(), ..Config::default() };
     let mut rest = rows.iter();
     while let Some(row) = rest.next() {
         match row.row {
