@@ -1,4 +1,3 @@
-pub mod Body
-pub mod NineRows
 pub mod Told
+pub mod TraceAnswer
 pub mod EventLines

@@ -1,5 +1,5 @@
 -- The answer to the bytes that a source told.
-use Rattle.std.proofs.Common.{◌≡◌, ℕ, ◌^◌, ◌≤◌, List, Option, Some, None, IfSome, false, nat_lt, cond, length, ap, sym, ◌∙◌, subst, arith}
+use Rattle.std.proofs.Common.{◌≡◌, ℕ, ◌^◌, ◌≤◌, List, Option, Some, None, false, nat_lt, cond, length, ap, sym, ◌∙◌, subst, arith}
 use Rattle.std.proofs.lemmas.Bool.Decides.{nat_tests}
 use Rattle.std.specs.Io.KnownBytes.{Appends}
 use Rattle.tt_io.specs.Known.{WasAll}
@@ -8,7 +8,7 @@ use Rattle.osektime_core.specs.declared.words.Command.{Command}
 use Rattle.osektime_core.specs.declared.status.Status.{Status}
 use Rattle.osektime_core.specs.declared.status.Status.TheVariants.{TooLong}
 use Rattle.osektime_core.specs.Words.{command_of}
-use Rattle.osektime_core.specs.Answer.{Answer, silent, document_answer, command_answer, words_answer, answer_of, IsAnswered}
+use Rattle.osektime_core.specs.Answer.{Answer, silent, document_answer, words_answer, answer_of, IsAnswered}
 
 pub answer_is : (words : List (List ℕ)) (command : Command) (bytes : List ℕ) → command_of words ≡ Some command → length bytes ≤ 2 ^ 20
     → answer_of words bytes ≡ document_answer command (document_of bytes)

@@ -2,18 +2,24 @@
 use Rattle.std.specs.Prelude.{◌≡◌, ℕ, List, [], ◌∷◌, ◌++◌, ◌^◌, nat_lt, codes, decimal, Option, Some, None, IfSome, if◌then◌else◌, ⊤, length}
 use Rattle.std.specs.Io.KnownBytes.{Appends}
 use Rattle.tt_doc.specs.Words.{joined}
+use Rattle.trace_text.specs.Lines.{text_of}
 use Rattle.tt_rows.specs.declared.row.NumberedRow.{NumberedRow}
 use Rattle.tt_read.specs.declared.form.FormKind.{FormKind}
 use Rattle.tt_read.specs.declared.form.FormKind.TheVariants as kind
-use Rattle.tt_read.specs.Document.{Document, Rows, Faulty, Fault, document_of, canonical_text}
-use Rattle.tt_first.specs.declared.form.FirstForm.{FirstForm}
+use Rattle.tt_read.specs.Document.{Document, Rows, Faulty, document_of, canonical_text}
+use Rattle.tt_world.specs.declared.config.ConfigParts.{ConfigParts}
+use Rattle.tt_world.specs.declared.script.ScriptParts.{ScriptParts}
+use Rattle.tt_world.specs.Schedule.{schedule}
+use Rattle.tt_world.specs.Status as ending
+use Rattle.tt_config.specs.declared.broken.Broken.{Broken}
+use Rattle.tt_config.specs.Broken.{broken_rule}
+use Rattle.tt_config.specs.Parts.{config_of, script_of}
 use Rattle.osektime_core.specs.declared.words.Command.{Command}
 use Rattle.osektime_core.specs.declared.words.Command.TheVariants.{Trace, Show}
 use Rattle.osektime_core.specs.declared.status.Status.{Status}
-use Rattle.osektime_core.specs.declared.status.Status.TheVariants.{Done, Memory, Usage, ReadFault, WriteFault, TooLong, Form, NotBuilt}
+use Rattle.osektime_core.specs.declared.status.Status.TheVariants.{Done, Memory, Usage, ReadFault, WriteFault, TooLong, Form, Rule, Missed, NotBuilt}
 use Rattle.osektime_core.specs.Words.{command_of}
-use Rattle.osektime_core.specs.FirstForm.{form_of}
-use Rattle.osektime_core.specs.Trace.{trace_of}
+use Rattle.osektime_core.specs.NotBuilt.{is_not_built}
 
 pub record Answer : Type 0 where
   pub text : List ℕ
@@ -30,22 +36,35 @@ kind_word kind.Cut = codes "cut"
 kind_word kind.Row = codes "row"
 
 -- the line that says where a document is faulty
-unfoldable pub refusal_line : ℕ → FormKind → List ℕ
-refusal_line line k = joined (codes "form" ∷ codes "line" ∷ decimal line ∷ kind_word k ∷ []) ++ 10 ∷ []
+unfoldable pub form_line : ℕ → FormKind → List ℕ
+form_line line k = joined (codes "form" ∷ codes "line" ∷ decimal line ∷ kind_word k ∷ []) ++ 10 ∷ []
 
--- the text of the schedule, where the rows are those of a document that runs at this stage
-abbrev pub trace_answer : Option FirstForm → Answer
-trace_answer None = silent NotBuilt
-trace_answer (Some form) = record { text = trace_of form; status = Done }
+-- the line that says which rule a document breaks, and where
+unfoldable pub rule_line : ℕ → ℕ → List ℕ
+rule_line number line = joined (codes "rule" ∷ decimal number ∷ codes "line" ∷ decimal line ∷ []) ++ 10 ∷ []
 
--- the answer to a command for the rows of a document
+-- the status of a run by how its schedule ends
+abbrev pub run_status : ending.Status → Status
+run_status ending.Done = Done
+run_status (ending.Missed task tick) = Missed task tick
+
+-- the lines of the schedule, and how it ends
+abbrev pub run_answer : ConfigParts → ScriptParts → Answer
+run_answer c s = record { text = text_of c.names (schedule c s); status = run_status (ending.status_of (schedule c s)) }
+
+-- the answer of a trace for rows and the rule that they break, if they break one; rows that do not run yet have no text
+abbrev pub trace_answer : Option Broken → List NumberedRow → Answer
+trace_answer (Some broken) rows = record { text = rule_line broken.number broken.line; status = Rule broken.number broken.line }
+trace_answer None rows = if is_not_built rows then silent NotBuilt else run_answer (config_of rows) (script_of rows)
+
+-- the answer to a command for the rows of a document; to show them, no rule is applied
 abbrev pub rows_answer : Command → List NumberedRow → Answer
-rows_answer Trace rows = trace_answer (form_of rows)
+rows_answer Trace rows = trace_answer (broken_rule rows) rows
 rows_answer Show rows = record { text = canonical_text rows; status = Done }
 
 abbrev pub document_answer : Command → Document → Answer
 document_answer command (Rows rows) = rows_answer command rows
-document_answer command (Faulty fault) = record { text = refusal_line fault.line fault.kind; status = Form fault.line fault.kind }
+document_answer command (Faulty fault) = record { text = form_line fault.line fault.kind; status = Form fault.line fault.kind }
 
 -- the answer to a command for the bytes of a document, of which there may be 2^20
 abbrev pub command_answer : Command → List ℕ → Answer
@@ -68,6 +87,8 @@ OnAnswered ReadFault P = ⊤
 OnAnswered WriteFault P = ⊤
 OnAnswered TooLong P = ⊤
 OnAnswered (Form line kind) P = P
+OnAnswered (Rule number line) P = P
+OnAnswered (Missed task tick) P = P
 OnAnswered NotBuilt P = P
 
 -- the status and the whole text of the answer to the bytes that were left, where they are told

@@ -3,8 +3,8 @@
 
 mod command;
 mod document;
-mod form;
-mod runner;
+mod not_built;
+mod refusal;
 mod status;
 mod trace;
 mod words;

@@ -3,6 +3,7 @@
 ghost use Rattle.std.specs.Prelude.{◌≡◌};
 ghost use Rattle.osektime_core.specs.Status.{code_of};
 
+use tt_base::{TaskNo, Tick};
 use tt_read::FormKind;
 
 /// How a command ends. The program's exit status is its code.
@@ -22,7 +23,11 @@ pub enum Status {
     TooLong,
     /// 6: a line of the document is faulty: the first such line, and its least fault.
     Form { line: u32, kind: FormKind },
-    /// 11: the document is read, and has rows that this stage of the bench does not run. Nothing was written.
+    /// 7: the document breaks a rule: the least rule that is broken, and the least line that breaks it.
+    Rule { number: u8, line: u32 },
+    /// 9: the run has ended with a missed deadline: the task, and the tick of its missed check. The run's text is written.
+    Missed { task: TaskNo, tick: Tick },
+    /// 11: the document meets the rules, and has rows that this stage of the bench does not run. Nothing was written.
     NotBuilt,
 }
 
@@ -39,6 +44,8 @@ impl Status {
             Status::WriteFault => 4,
             Status::TooLong => 5,
             Status::Form { line: _, kind: _ } => 6,
+            Status::Rule { number: _, line: _ } => 7,
+            Status::Missed { task: _, tick: _ } => 9,
             Status::NotBuilt => 11,
         }
     }

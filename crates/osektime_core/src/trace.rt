@@ -1,27 +1,21 @@
-//! The text of a run.
+//! The run of a configuration and a script, and its text.
 
 ghost use Rattle.std.specs.Io.KnownBytes.{Appends};
-ghost use Rattle.std.specs.Prelude.{◌≡◌, ◌≤◌, OnOk, OnErr, IfOk};
+ghost use Rattle.std.specs.Prelude.{◌≡◌, ◌≢◌, ◌≤◌, OnOk, OnErr};
 ghost use Rattle.tt_io.specs.Count.{Rose};
 ghost use Rattle.tt_io.specs.Known.{AppendsPart};
 ghost use Rattle.trace_text.specs.Lines.{text_of};
-ghost use Rattle.osektime_core.specs.Trace.{names_of_form};
+ghost use Rattle.tt_world.specs.ScriptRules.{IsScript};
+ghost use Rattle.stack_dispatch.specs.RunEnd.{status_by};
+ghost use Rattle.osektime_core.specs.Answer.{run_answer, run_status};
 
+use crate::Status;
+use stack_dispatch::{RunEnd, run_plain};
 use std::alloc::Global;
 use trace_text::line_of;
-use tt_base::{Event, Memory, NameKind, Names};
-use tt_first::FirstForm;
+use tt_base::{Event, Ledger, Names, Steps, Tick};
 use tt_io::{Buffer, Sink, WriteFault};
-
-/// The names that a run speaks of.
-pub(crate) fn names_of_form(alloc: Global, form: &FirstForm) -> Result<Names, Memory>
-    ensures { IfOk result (λ names. names ≡ names_of_form form.now) }
-{
-    let mut names = Names::new(alloc);
-    names.add(NameKind::Mode, form.mode)?;
-    names.add(NameKind::Task, form.task)?;
-    Ok(names)
-}
+use tt_world::{Config, Script};
 
 /// Writes the lines of events, in pieces of the buffer's size.
 pub(crate) fn put_events<O: Sink>(
@@ -47,4 +41,39 @@ pub(crate) fn put_events<O: Sink>(
         Err(fault) => return Err(fault),
     }
     Ok(())
+}
+
+/// The status of a run that has ended at a tick.
+fn run_status(end: RunEnd, tick: Tick) -> Status
+    ensures { result ≡ run_status (status_by end tick) }
+{
+    match end {
+        RunEnd::LastRound => Status::Done,
+        RunEnd::Missed(task) => Status::Missed { task, tick },
+    }
+}
+
+/// Runs a configuration with a script that was made for it, and then writes the lines of the run.
+pub(crate) fn run<O: Sink, L: Ledger>(
+    alloc: Global,
+    config: &Config,
+    script: Script,
+    output: &mut O,
+    steps: &mut Steps<L>,
+) -> Status
+    requires { IsScript config.now script }
+    ensures answered { result ≢ Status.Memory → result ≢ Status.WriteFault → (result ≡ (run_answer config.now script).status)
+        × Appends (O.written output.old) (O.written output.new) (run_answer config.now script).text }
+    ensures memory { result ≡ Status.Memory → output.new ≡ output.old }
+    ensures part { result ≡ Status.WriteFault → AppendsPart (O.written output.old) (O.written output.new) (run_answer config.now script).text }
+    ensures cause { result ≡ Status.WriteFault → Rose (O.faults output.old) (O.faults output.new) }
+    ensures never_falls { O.faults output.old ≤ O.faults output.new }
+{
+    let Ok(run) = run_plain(alloc, config, script, steps) else {
+        return Status::Memory;
+    };
+    match put_events(&config.parts().names, run.events.as_slice(), output) {
+        Ok(()) => run_status(run.end, run.tick),
+        Err(_) => Status::WriteFault,
+    }
 }

@@ -1,4 +1,4 @@
-use Rattle.std.proofs.Common.{◌≡◌, ◌≢◌, Some, rules, sym, subst}
+use Rattle.std.proofs.Common.{◌≡◌, ◌≢◌, Some, rules}
 use Rattle.osektime_core.specs.declared.status.Status.TheVariants.{WriteFault}
 use Rattle.osektime_core.specs.Words.{command_of}
 use Rattle.osektime_core.proofs.Told.{told_answer}

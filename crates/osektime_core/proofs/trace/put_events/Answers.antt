@@ -1,5 +1,5 @@
 use Rattle.std.proofs.Common.{rules, ◌≡◌, ◌<◌, ◌+◌, ◌++◌, take, length, ap, sym, ◌∙◌, arith, [], List, ℕ}
-use Rattle.tt_io.proofs.Passing.{passes_none, passes_more, passes_part, passes_end, passes_end_part}
+use Rattle.tt_io.proofs.Passing.{passes_none, passes_more, passes_part, passes_end_part}
 use Rattle.trace_text.specs.Lines.{text_of}
 use Rattle.osektime_core.proofs.EventLines.{text_none, text_all, text_more, part_of_text}
 use Rattle.osektime_core.proofs.trace.put_events.Goals as goal

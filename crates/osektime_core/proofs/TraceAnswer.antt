@@ -1,0 +1,20 @@
+-- The answer of a trace for rows that run.
+use Rattle.std.proofs.Common.{◌≡◌, Bool, false, cond, List, Option, None, ap, sym, ◌∙◌}
+use Rattle.tt_rows.specs.declared.row.NumberedRow.{NumberedRow}
+use Rattle.tt_world.specs.declared.config.ConfigParts.{ConfigParts}
+use Rattle.tt_world.specs.declared.script.ScriptParts.{ScriptParts}
+use Rattle.tt_config.specs.declared.broken.Broken.{Broken}
+use Rattle.tt_config.specs.Broken.{broken_rule}
+use Rattle.tt_config.specs.Parts.{config_of, script_of}
+use Rattle.osektime_core.specs.declared.status.Status.TheVariants.{NotBuilt}
+use Rattle.osektime_core.specs.NotBuilt.{is_not_built}
+use Rattle.osektime_core.specs.Answer.{silent, run_answer, trace_answer}
+
+-- rows that break no rule and run have the answer of the run of what they give
+pub answer_of_run : (rows : List NumberedRow) (c : ConfigParts) (s : ScriptParts) → broken_rule rows ≡ None → is_not_built rows ≡ false
+    → c ≡ config_of rows → s ≡ script_of rows → trace_answer (broken_rule rows) rows ≡ run_answer c s
+answer_of_run rows c s kept built config script =
+    ap (λ (b : Option Broken). trace_answer b rows) kept
+    ∙ ap (λ (b : Bool). cond b (silent NotBuilt) (run_answer (config_of rows) (script_of rows))) built
+    ∙ ap (λ (x : ConfigParts). run_answer x (script_of rows)) (sym config)
+    ∙ ap (run_answer c) (sym script)
