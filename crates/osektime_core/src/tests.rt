@@ -7,7 +7,7 @@ use std::alloc::Global;
 use std::marker::Brand;
 use std::process::Abort;
 use std::test::Fail;
-use tt_base::{Blank, Ledger, Steps};
+use tt_base::{Blank, Ledger, Steps, TaskNo, Tick};
 use tt_io::{MemSink, MemSource};
 use tt_read::FormKind;
 
@@ -40,6 +40,41 @@ const TABULATOR: &str =
 
 const MISSED: &str =
     "osektime 1\nround 10\nmode m\ntask A 8\nwork 6\nend\nat 0 m activate A 5 stringent\nstart m\nrounds 1\n";
+
+const MISSED_TEXT: &str =
+    "0 os start m\n0 round 1 m\n0 activate A\n0 run A\n5 check A missed\n5 hook ttErrorHook A\n5 hook ttShutdownHook\n5 shutdown\n";
+
+const PREEMPTED: &str =
+    "osektime 1\nround 20\nmode m\ntask A 8\nwork 6\nend\ntask B 8\nwork 4\nend\ntask C 8\nwork 2\nend\nat 0 m activate A 20 stringent\nat 2 m activate B 20 stringent\nat 3 m activate C 20 stringent\nstart m\nrounds 1\n";
+
+const PREEMPTED_TEXT: &str =
+    "0 os start m\n0 round 1 m\n0 activate A\n0 run A\n2 activate B\n2 run B\n3 activate C\n3 run C\n5 end C\n5 run B\n8 end B\n8 run A\n12 end A\n12 run idle\n20 check A met\n20 check B met\n20 check C met\n20 stop\n";
+
+const DEMAND: &str =
+    "osektime 1\nround 10\nmode m\ndemand d 3 2\ntask A 8\ntake d\nend\nat 0 m activate A 6 stringent\nstart m\nrounds 1\nvalue d 7\n";
+
+const DEMAND_TEXT: &str =
+    "0 os start m\n0 round 1 m\n0 activate A\n0 run A\n6 check A missed\n6 hook ttErrorHook A\n6 hook ttShutdownHook\n6 shutdown\n";
+
+const STATEMENTS: &str =
+    "osektime 1\nround 10\nmode m\nvar x 5\ndemand d 0 0\ntask A 8\nrepeat 2\nset x - x 3\nend\nif < x 0\nout - - x 2147483647 1\nelse\nout 1\nend\ntake d\nend\nat 0 m activate A 8 stringent\nstart m\nrounds 1\n";
+
+const STATEMENTS_TEXT: &str =
+    "0 os start m\n0 round 1 m\n0 activate A\n0 run A\n5 out A 2147483647\n7 end A\n7 run idle\n8 check A met\n10 stop\n";
+
+const NO_ROUND: &str =
+    "osektime 1\nmode m\ntask A 8\nwork 3\nend\nat 0 m activate A 5 stringent\nrounds 1\n";
+
+const LATE_OFFSET: &str =
+    "osektime 1\nround 10\nmode m\ntask A 8\nwork 3\nend\nat 10 m activate A 5 stringent\nstart m\nrounds 1\n";
+
+const NO_END: &str =
+    "osektime 1\nround 10\nmode m\ntask A 8\nwork 3\nat 0 m activate A 5 stringent\nstart m\nrounds 1\n";
+
+const NO_OSEK_TASK: &str =
+    "osektime 1\nround 10\nmode m\ntask A 8\nactivate A\nend\nat 0 m activate A 5 stringent\nstart m\nrounds 1\n";
+
+const OSEK_TASK: &str = "osektime 1\nround 10\nmode m\nosek Q 1\nwork 3\nend\nstart m\nrounds 1\n";
 
 /// A command and its input, which is filled up to a size with comment lines, and what comes of it.
 #[derive(Drop)]
@@ -79,6 +114,18 @@ const fn make_case(
 
 const fn form(line: u32, kind: FormKind) -> Status {
     Status::Form { line, kind }
+}
+
+const fn rule(number: u8, line: u32) -> Status {
+    Status::Rule { number, line }
+}
+
+/// The first task has missed its deadline.
+const fn missed(tick: Tick) -> Status {
+    Status::Missed {
+        task: TaskNo(0),
+        tick,
+    }
 }
 
 fn filled(alloc: Global, row: &Case) -> Result<Vec<u8>, Fail> {
@@ -126,12 +173,25 @@ fn traces(rt: HostRuntime) -> Result<(), Fail> {
     let rows = [
         make_case("trace", ONE_TASK, Status::Done, ONE_TASK_TEXT),
         make_case("trace", FULL, Status::Done, FULL_TEXT),
+        make_case("trace", MISSED, missed(5), MISSED_TEXT),
+        make_case("trace", PREEMPTED, Status::Done, PREEMPTED_TEXT),
+        make_case("trace", DEMAND, missed(6), DEMAND_TEXT),
         make_case("trace", LONG, Status::Done, LONG_TEXT),
+        make_case("trace", STATEMENTS, Status::Done, STATEMENTS_TEXT),
         make_case("trace", SPACED, Status::Done, ONE_TASK_TEXT),
-        make_case("trace", MISSED, Status::NotBuilt, ""),
-        make_case("trace", "", Status::NotBuilt, ""),
-        make_case("trace x", ONE_TASK, Status::Usage, ""),
+    ];
+    for row in &rows {
+        answers::<Brand>(&rt, rt.alloc(), Blank::new(1), row)?;
+    }
+    Ok(())
+}
+
+#[test]
+fn refuses(rt: HostRuntime) -> Result<(), Fail> {
+    let rows = [
         make_case("", ONE_TASK, Status::Usage, ""),
+        make_case("trace x", ONE_TASK, Status::Usage, ""),
+        make_case("trace", "", rule(1, 1), "rule 1 line 1\n"),
         make_case(
             "trace",
             "osektime 1\nfoo\n",
@@ -156,6 +216,11 @@ fn traces(rt: HostRuntime) -> Result<(), Fail> {
             form(5, FormKind::Byte),
             "form line 5 byte\n",
         ),
+        make_case("trace", NO_ROUND, rule(4, 1), "rule 4 line 1\n"),
+        make_case("trace", LATE_OFFSET, rule(18, 7), "rule 18 line 7\n"),
+        make_case("trace", NO_END, rule(2, 6), "rule 2 line 6\n"),
+        make_case("trace", NO_OSEK_TASK, rule(14, 5), "rule 14 line 5\n"),
+        make_case("trace", OSEK_TASK, Status::NotBuilt, ""),
     ];
     for row in &rows {
         answers::<Brand>(&rt, rt.alloc(), Blank::new(1), row)?;
@@ -212,6 +277,10 @@ fn sizes_and_faults(rt: HostRuntime) -> Result<(), Fail> {
             failing_write: 1,
             ..make_case("trace", ONE_TASK, Status::WriteFault, "0 os sta")
         },
+        Case {
+            failing_write: 0,
+            ..make_case("trace", "", Status::WriteFault, "")
+        },
     ];
     for row in &rows {
         answers::<Brand>(&rt, rt.alloc(), Blank::new(1), row)?;
@@ -223,5 +292,7 @@ fn sizes_and_faults(rt: HostRuntime) -> Result<(), Fail> {
 fn codes(rt: HostRuntime) {
     assert_eq!(rt; Status::Done.code(), 0);
     assert_eq!(rt; form(1, FormKind::Byte).code(), 6);
+    assert_eq!(rt; rule(1, 1).code(), 7);
+    assert_eq!(rt; missed(0).code(), 9);
     assert_eq!(rt; Status::NotBuilt.code(), 11);
 }
