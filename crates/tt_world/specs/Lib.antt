@@ -3,6 +3,7 @@ pub mod ScriptRules
 pub mod Instances
 pub mod Moved
 pub mod Rows
+pub mod Points
 pub mod Monitoring
 pub mod Opening
 pub mod Step
