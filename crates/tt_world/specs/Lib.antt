@@ -4,6 +4,7 @@ pub mod Instances
 pub mod Moved
 pub mod Rows
 pub mod Points
+pub mod Hooks
 pub mod Monitoring
 pub mod Opening
 pub mod Step

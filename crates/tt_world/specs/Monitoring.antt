@@ -1,21 +1,19 @@
--- Deadline monitoring: where it looks at an activation, and what it finds there.
-use Rattle.std.specs.Prelude.{ℕ, ◌==◌, nat_le, Bool, true, false, List, [], ◌∷◌, Option, None, Some}
+-- Deadline monitoring: what it finds at the monitoring points, and what follows from a missed deadline.
+use Rattle.std.specs.Prelude.{ℕ, ◌==◌, nat_le, Bool, true, false, List, [], ◌∷◌, ◌++◌, Option, None, Some}
 use Rattle.tt_base.specs.declared.number.TaskNo.{TaskNo}
 use Rattle.tt_base.specs.declared.event.Event.{Event}
-use Rattle.tt_base.specs.declared.event.Event.TheVariants.{Check, ErrorHook, ShutdownHook, Shutdown}
-use Rattle.tt_world.specs.declared.config.Activation.{Activation}
+use Rattle.tt_base.specs.declared.event.Event.TheVariants.{Check}
+use Rattle.tt_world.specs.declared.config.ConfigParts.{ConfigParts}
 use Rattle.tt_world.specs.declared.config.ModeDef.{ModeDef}
 use Rattle.tt_world.specs.declared.world.World.{World}
 use Rattle.tt_world.specs.declared.world.Instance.{Instance}
 use Rattle.tt_world.specs.declared.world.Point.{Point}
 use Rattle.tt_world.specs.declared.world.Point.TheVariants as point
+use Rattle.tt_world.specs.Hooks.{error_vars, error_events, shutdown_vars, shutdown_events}
 use Rattle.tt_world.specs.Instances.{is_done}
 use Rattle.tt_world.specs.Moved.{Moved, goes_on, misses, behind}
-use Rattle.tt_world.specs.Rows.{row_of}
-
--- the monitoring point of an activation of a mode: its deadline
-abbrev pub point_of : ModeDef → Activation → Point
-point_of mode row = point.At row.deadline
+use Rattle.tt_world.specs.Points.{point_of}
+use Rattle.tt_world.specs.Rows.{mode_of, row_of}
 
 -- whether a point is this offset
 abbrev pub is_at : ℕ → Point → Bool
@@ -50,15 +48,18 @@ checked at mode is_due (instance ∷ rest) =
     check_if (is_due (point_of mode row)) (check_then at row.task (is_done instance.left) (checked at mode is_due rest))
     (checked at mode is_due rest)
 
--- after a missed check ttErrorHook and ttShutdownHook are called, and the run ends by a shutdown
-abbrev pub violation : TaskNo → World → Moved
-violation task w = misses task w (ErrorHook w.tick task ∷ ShutdownHook w.tick ∷ Shutdown w.tick ∷ [])
+-- After a missed check ttErrorHook and then ttShutdownHook are called, which finds the variables that the first one left, and the
+-- run ends by a shutdown.
+abbrev pub violation : ConfigParts → TaskNo → World → Moved
+violation c task w =
+    let left = error_vars c w.vars in
+    misses task (record w { vars = shutdown_vars c left }) (error_events c w.tick task w.vars ++ shutdown_events c w.tick left)
 
-abbrev pub after_checks : List Event → Option TaskNo → World → Moved
-after_checks events None w = goes_on w events
-after_checks events (Some task) w = behind events (violation task w)
+abbrev pub after_checks : ConfigParts → List Event → Option TaskNo → World → Moved
+after_checks c events None w = goes_on w events
+after_checks c events (Some task) w = behind events (violation c task w)
 
 -- the checks of those activations of the round whose point is due, and what follows from them
-abbrev pub monitored : ModeDef → (Point → Bool) → World → Moved
-monitored mode is_due w =
-    let all = checked w.tick mode is_due w.activations in after_checks all.events all.missed w
+abbrev pub monitored : ConfigParts → (Point → Bool) → World → Moved
+monitored c is_due w =
+    let all = checked w.tick (mode_of c w) is_due w.activations in after_checks c all.events all.missed w

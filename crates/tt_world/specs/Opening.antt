@@ -28,12 +28,12 @@ next_round s w =
 unfoldable pub round_end : ConfigParts → ScriptParts → World → Moved
 round_end c s w =
     if is_round_over c w
-    then followed (monitored (mode_of c w) (is_at_end (offset_of w)) w) (next_round s)
+    then followed (monitored c (is_at_end (offset_of w)) w) (next_round s)
     else goes_on w []
 
 -- the checks of this offset
 unfoldable pub checks : ConfigParts → World → Moved
-checks c w = monitored (mode_of c w) (is_at (offset_of w)) w
+checks c w = monitored c (is_at (offset_of w)) w
 
 -- a row activates its task with the whole body
 abbrev pub activated : ConfigParts → Option ℕ → World → Moved

@@ -10,7 +10,7 @@ use Rattle.tt_world.specs.ConfigRules.{IsConfig}
 use Rattle.tt_world.specs.ScriptRules.{IsScript}
 use Rattle.tt_world.specs.Instances.{instance_at, is_done}
 use Rattle.tt_world.specs.Rows.{offset_of, mode_of, row_of}
-use Rattle.tt_world.specs.Monitoring.{point_of}
+use Rattle.tt_world.specs.Points.{point_of}
 use Rattle.tt_world.specs.Opening.{opening}
 use Rattle.tt_world.specs.Schedule.{world_at, IsLast, last_instant, most_ticks, schedule}
 use Rattle.tt_world.specs.Status.{stamp_of, status_of, EndsBy}

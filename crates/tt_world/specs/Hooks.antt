@@ -1,0 +1,52 @@
+-- The bodies of ttErrorHook and ttShutdownHook. A hook is played whole at one instant: it takes no time.
+use Rattle.std.specs.Prelude.{ℕ, ℤ, List, [], ◌∷◌, ◌++◌, slice_set}
+use Rattle.tt_base.specs.declared.number.TaskNo.{TaskNo}
+use Rattle.tt_base.specs.declared.event.Event.{Event}
+use Rattle.tt_base.specs.declared.event.Event.TheVariants.{Out, ErrorHook, ShutdownHook, Shutdown}
+use Rattle.tt_base.specs.declared.event.Owner.{Owner}
+use Rattle.tt_base.specs.declared.event.Owner.TheVariants as owner
+use Rattle.task_lang.specs.declared.syntax.Stmt.{Stmt, out-Stmt}
+use Rattle.task_lang.specs.declared.syntax.Stmt.TheOpen.{Stmt-F}
+use Rattle.task_lang.specs.Value.{value_of}
+use Rattle.tt_world.specs.declared.config.ConfigParts.{ConfigParts}
+
+-- ---- a body, which has no statements but `set` and `out`; any other would do nothing
+
+-- the variables after a statement: a `set` gives a variable the value of its expression
+abbrev pub vars_by : List ℤ → Stmt-F Stmt → List ℤ
+vars_by vars (Stmt-F.Set var expr) = slice_set vars var.0 (value_of vars expr)
+vars_by vars _ = vars
+
+-- the events of a statement: an `out` has one, with the value of its expression
+abbrev pub outs_by : (at : ℕ) → Owner → List ℤ → Stmt-F Stmt → List Event
+outs_by at hook vars (Stmt-F.Out expr) = Out at hook (value_of vars expr) ∷ []
+outs_by at hook vars _ = []
+
+-- the variables after a body
+unfoldable pub vars_after : List ℤ → List Stmt → List ℤ
+vars_after vars [] = vars
+vars_after vars (stmt ∷ rest) = vars_after (vars_by vars (out-Stmt stmt)) rest
+
+-- the events of a body; each statement finds the variables that the ones before it left
+unfoldable pub outs_of : (at : ℕ) → Owner → List ℤ → List Stmt → List Event
+outs_of at hook vars [] = []
+outs_of at hook vars (stmt ∷ rest) =
+    outs_by at hook vars (out-Stmt stmt) ++ outs_of at hook (vars_by vars (out-Stmt stmt)) rest
+
+-- ---- the calls of the hooks
+
+-- the variables after ttErrorHook
+abbrev pub error_vars : ConfigParts → List ℤ → List ℤ
+error_vars c vars = vars_after vars c.error_hook
+
+-- ttErrorHook is called with the task that missed its deadline
+abbrev pub error_events : ConfigParts → (at : ℕ) → TaskNo → List ℤ → List Event
+error_events c at task vars = ErrorHook at task ∷ outs_of at owner.ErrorHook vars c.error_hook
+
+-- the variables after ttShutdownHook
+abbrev pub shutdown_vars : ConfigParts → List ℤ → List ℤ
+shutdown_vars c vars = vars_after vars c.shutdown_hook
+
+-- ttShutdownHook is called, and the run ends by a shutdown
+abbrev pub shutdown_events : ConfigParts → (at : ℕ) → List ℤ → List Event
+shutdown_events c at vars = ShutdownHook at ∷ (outs_of at owner.ShutdownHook vars c.shutdown_hook ++ Shutdown at ∷ [])
