@@ -1,12 +1,15 @@
 -- The stamps of a run, its status, and its last event.
 use Rattle.std.proofs.Common.{ℕ, ◌≡◌, ◌≤◌, ◌+◌, List, [], ◌∷◌, ◌++◌, Bool, true, false, Option, None, Some, refl, ap, sym, ◌∙◌, subst, eqb, arith, append_assoc}
-use Rattle.std.specs.Prelude.{All, not}
+use Rattle.std.specs.Prelude.{All, ℤ, not}
 use Rattle.std.proofs.lemmas.List.Elements.{All-nil, All-cons}
 use Rattle.std.proofs.lemmas.Bool.{cond_both}
 use Rattle.tt_base.specs.declared.number.TaskNo.{TaskNo}
 use Rattle.tt_base.specs.declared.event.Owner.{Owner}
 use Rattle.tt_base.specs.declared.event.Event.{Event}
-use Rattle.tt_base.specs.declared.event.Event.TheVariants.{OsStart, Round, Check, Activate, Run, End, ErrorHook, ShutdownHook, Shutdown, Stop}
+use Rattle.tt_base.specs.declared.event.Event.TheVariants.{OsStart, Round, Check, Activate, Run, End, ShutdownHook, Shutdown, Stop}
+use Rattle.tt_base.specs.declared.event.Owner.TheVariants as owner
+use Rattle.task_lang.specs.declared.syntax.Stmt.{Stmt, out-Stmt}
+use Rattle.task_lang.specs.declared.syntax.Stmt.TheOpen.{Stmt-F}
 use Rattle.task_lang.specs.declared.tick.Effect.{Effect}
 use Rattle.task_lang.specs.declared.tick.Effect.TheVariants as effect
 use Rattle.tt_world.specs.declared.config.ConfigParts.{ConfigParts}
@@ -22,7 +25,9 @@ use Rattle.tt_world.specs.declared.world.Outcome.TheVariants as outcome
 use Rattle.tt_world.specs.Instances.{is_done, instance_at}
 use Rattle.tt_world.specs.Moved.{event_if}
 use Rattle.tt_world.specs.Rows.{offset_of, mode_of, row_of}
-use Rattle.tt_world.specs.Monitoring.{Checked, check_then, check_if, checked, point_of, after_checks, monitored, is_at_end}
+use Rattle.tt_world.specs.Hooks.{vars_by, outs_by, outs_of, error_vars, error_events, shutdown_events}
+use Rattle.tt_world.specs.Monitoring.{Checked, check_then, check_if, checked, after_checks, monitored, is_at_end}
+use Rattle.tt_world.specs.Points.{point_of}
 use Rattle.tt_world.specs.Opening.{head, is_round_over, next_round, round_end, checks, activated, activation, rows, opening}
 use Rattle.tt_world.specs.Step.{ticked, effect_events, served_events, stepped, step, runner_of, owner_of, ran_before}
 use Rattle.tt_world.specs.Schedule.{IsBounded, instant, instant_at, world_at, last_instant, most_ticks, schedule}
@@ -108,23 +113,40 @@ are_checks at mode is_due (x ∷ xs) =
     if_checks at (is_due (point_of mode (row_of mode x.entry))) _ _
     (then_checks at (row_of mode x.entry).task (is_done x.left) _ (are_checks at mode is_due xs)) (are_checks at mode is_due xs)
 
-after_checks_lead : (fs : List Event) (missed : Option TaskNo) (w : World) (es : List Event) → IsOpen w es → Stamped w.tick fs → status_of fs ≡ by_missed missed w.tick → LeadsTo IsOpen IsClosed es (after_checks fs missed w)
-after_checks_lead fs None w es p stamps status = open_more w w es fs (omega arith) p stamps status
-after_checks_lead fs (Some task) w es p stamps status =
-    let lines : List Event = ErrorHook w.tick task ∷ ShutdownHook w.tick ∷ Shutdown w.tick ∷ [] in
-    let present : Stamped w.tick lines = (omega arith, (omega arith, (omega arith, tt))) in
-    let seam : es ++ (fs ++ lines) ≡ (es ++ (fs ++ (ErrorHook w.tick task ∷ ShutdownHook w.tick ∷ []))) ++ Shutdown w.tick ∷ [] =
-    ap (λ x. es ++ x) (sym (append_assoc fs (ErrorHook w.tick task ∷ ShutdownHook w.tick ∷ []) (Shutdown w.tick ∷ []))) ∙ sym (append_assoc es _ _) in
+-- the events of a hook's body are of the present tick
+out_stamped : (at : ℕ) (hook : Owner) (vars : List ℤ) (stmt : Stmt-F Stmt) → Stamped at (outs_by at hook vars stmt)
+out_stamped at hook vars (Stmt-F.Out expr) = (omega arith, tt)
+out_stamped at hook vars _ = tt
+
+outs_stamped : (at : ℕ) (hook : Owner) (vars : List ℤ) (body : List Stmt) → Stamped at (outs_of at hook vars body)
+unfolding outs_of
+outs_stamped at hook vars [] = tt
+outs_stamped at hook vars (stmt ∷ rest) =
+    stamped_both at _ _ (out_stamped at hook vars (out-Stmt stmt)) (outs_stamped at hook (vars_by vars (out-Stmt stmt)) rest)
+
+-- an event behind the last of four lists stands behind all of them
+last_of_all : (es fs gs hs : List Event) (event : Event) → es ++ (fs ++ (gs ++ (hs ++ event ∷ []))) ≡ (es ++ (fs ++ (gs ++ hs))) ++ event ∷ []
+last_of_all es fs gs hs event = simp append_assoc
+
+after_checks_lead : (c : ConfigParts) (fs : List Event) (missed : Option TaskNo) (w : World) (es : List Event) → IsOpen w es → Stamped w.tick fs → status_of fs ≡ by_missed missed w.tick → LeadsTo IsOpen IsClosed es (after_checks c fs missed w)
+after_checks_lead c fs None w es p stamps status = open_more w w es fs (omega arith) p stamps status
+after_checks_lead c fs (Some task) w es p stamps status =
+    let vars : List ℤ = error_vars c w.vars in
+    let calls : List Event = error_events c w.tick task w.vars in
+    let outs : List Event = outs_of w.tick owner.ShutdownHook vars c.shutdown_hook in
+    let lines : List Event = calls ++ shutdown_events c w.tick vars in
+    let end : Stamped w.tick (outs ++ Shutdown w.tick ∷ []) = stamped_both w.tick outs _ (outs_stamped w.tick _ vars c.shutdown_hook) (omega arith, tt) in
+    let present : Stamped w.tick lines = stamped_both w.tick calls _ (omega arith, outs_stamped w.tick _ w.vars c.error_hook) (omega arith, end) in
     record {
       stamps = stamped_both w.tick es (fs ++ lines) p.stamps (stamped_both w.tick fs lines stamps present);
       status = status_behind es (fs ++ lines) p.status ∙ status_missed fs lines task w.tick status;
-      ends_by = (refl, (_, seam));
+      ends_by = (refl, (_, last_of_all es fs calls (ShutdownHook w.tick ∷ outs) (Shutdown w.tick)));
     }
 
-monitored_leads : (mode : ModeDef) (is_due : Point → Bool) (w : World) (es : List Event) → IsOpen w es → LeadsTo IsOpen IsClosed es (monitored mode is_due w)
-monitored_leads mode is_due w es p =
-    let all = are_checks w.tick mode is_due w.activations in
-    after_checks_lead _ (checked w.tick mode is_due w.activations).missed w es p all.stamps all.status
+monitored_leads : (c : ConfigParts) (is_due : Point → Bool) (w : World) (es : List Event) → IsOpen w es → LeadsTo IsOpen IsClosed es (monitored c is_due w)
+monitored_leads c is_due w es p =
+    let all = are_checks w.tick (mode_of c w) is_due w.activations in
+    after_checks_lead c _ (checked w.tick (mode_of c w) is_due w.activations).missed w es p all.stamps all.status
 
 next_round_leads : (s : ScriptParts) (w : World) (es : List Event) → IsOpen w es → LeadsTo IsOpen IsClosed es (next_round s w)
 next_round_leads s w es p =
@@ -140,7 +162,7 @@ round_end_leads : (c : ConfigParts) (s : ScriptParts) (w : World) (es : List Eve
 unfolding round_end
 round_end_leads c s w es p =
     cond_both (is_round_over c w) _ _ (LeadsTo IsOpen IsClosed es)
-    (λ _. followed_leads IsOpen IsOpen IsClosed es (monitored (mode_of c w) (is_at_end (offset_of w)) w) (next_round s) (monitored_leads _ _ w es p) (next_round_leads s))
+    (λ _. followed_leads IsOpen IsOpen IsClosed es (monitored c (is_at_end (offset_of w)) w) (next_round s) (monitored_leads c _ w es p) (next_round_leads s))
     (λ _. still_leads IsOpen IsClosed es w p)
 
 activated_leads : (c : ConfigParts) (entry : Option ℕ) (w : World) (es : List Event) → IsOpen w es → LeadsTo IsOpen IsClosed es (activated c entry w)
@@ -151,7 +173,7 @@ activated_leads c (Some entry) w es p =
 rows_leads : (c : ConfigParts) (w : World) (es : List Event) → IsOpen w es → LeadsTo IsOpen IsClosed es (rows c w)
 unfolding rows checks activation
 rows_leads c w es p =
-    followed_leads IsOpen IsOpen IsClosed es (checks c w) (activation c) (monitored_leads _ _ w es p) (λ v ds q. activated_leads c _ v ds q)
+    followed_leads IsOpen IsOpen IsClosed es (checks c w) (activation c) (monitored_leads c _ w es p) (λ v ds q. activated_leads c _ v ds q)
 
 opening_leads : (c : ConfigParts) (s : ScriptParts) (w : World) (es : List Event) → IsOpen w es → LeadsTo IsOpen IsClosed es (opening c s w)
 unfolding opening

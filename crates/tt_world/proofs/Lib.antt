@@ -5,6 +5,7 @@ pub mod Ends
 pub mod RunRule
 pub mod Closing
 pub mod TableRows
+pub mod Deadlines
 pub mod InstanceLists
 pub mod Points
 pub mod Single

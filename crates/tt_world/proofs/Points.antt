@@ -17,17 +17,19 @@ use Rattle.tt_world.specs.ConfigRules.{IsConfig}
 use Rattle.tt_world.specs.Instances.{instance_at, is_done}
 use Rattle.tt_world.specs.Moved.{Moved}
 use Rattle.tt_world.specs.Rows.{offset_of, mode_of, row_of, entry_at, body_of}
-use Rattle.tt_world.specs.Monitoring.{Checked, check_then, check_if, checked, point_of, is_at, is_at_end, after_checks, monitored}
+use Rattle.tt_world.specs.Monitoring.{Checked, check_then, check_if, checked, is_at, is_at_end, after_checks, monitored}
+use Rattle.tt_world.specs.Points.{point_of}
 use Rattle.tt_world.specs.Opening.{head, is_round_over, next_round, round_end, checks, activated, activation, rows, opening}
 use Rattle.tt_world.specs.Step.{ticked, stepped, step, runner_of}
 use Rattle.tt_world.specs.Schedule.{instant, world_at}
 use Rattle.tt_world.specs.RunLaws.{IsUnfinished, IsAfter, ArePointsAhead, PointsAreAhead}
 use Rattle.tt_world.proofs.Moves.{OnGoing, followed_going}
-use Rattle.tt_world.proofs.Frames.{monitored_world}
+use Rattle.tt_world.proofs.Frames.{monitored_going}
 use Rattle.tt_world.proofs.Ends.{GoesOnBefore, are_bounded, last_is}
 use Rattle.tt_world.proofs.RunRule.{kept_at}
 use Rattle.tt_world.proofs.InstanceLists.{IsOldPlace, IsNewPlace, place_of_more, place_of_set, entry_of_set, undone_before}
 use Rattle.tt_world.proofs.TableRows.{mode_rows, row_found, deadline_after}
+use Rattle.tt_world.proofs.Deadlines.{IsFrom, point_is_from}
 
 -- ---- checks that let the run go on
 
@@ -48,20 +50,15 @@ checked_done at mode is_due (x ∷ xs) e zero l d =
 checked_done at mode is_due (x ∷ xs) e (suc place) l d =
     checked_done at mode is_due xs (if_met (is_due (point_of mode (row_of mode x.entry))) at (row_of mode x.entry).task (is_done x.left) (checked at mode is_due xs) e).1 place (omega arith) d
 
-none_missed : (events : List Event) (missed : Option TaskNo) (w : World) → GoesOn ≡ (after_checks events missed w).end → missed ≡ None
-none_missed events None w e = refl
-none_missed events (Some task) w e = cc
+none_missed : (c : ConfigParts) (events : List Event) (missed : Option TaskNo) (w : World) → GoesOn ≡ (after_checks c events missed w).end → missed ≡ None
+none_missed c events None w e = refl
+none_missed c events (Some task) w e = cc
 
 -- ---- points that are still to come
 
 -- the point of the activation at a place
 abbrev pub point_at : ConfigParts → World → ℕ → Point
 point_at c w place = point_of (mode_of c w) (row_of (mode_of c w) (instance_at w.activations place).entry)
-
--- a point is at or after an offset
-abbrev pub IsFrom : ℕ → Point → Type 0
-IsFrom offset (point.At place) = offset ≤ place
-IsFrom offset point.RoundEnd = Unit {0}
 
 -- the point of each activation with statements left is still to come: k is 0 before the checks of an instant, and 1 after them
 pub record Ahead (c : ConfigParts) (k : ℕ) (w : World) : Type 0 where
@@ -97,14 +94,14 @@ module _ (c : ConfigParts) (s : ScriptParts) (rules : IsConfig c) where
   unfolding round_end
   round_end_ahead w a =
       cond_both (is_round_over c w) _ _ (OnGoing (Ahead c 0))
-      (λ _. followed_going (Ahead c 0) (monitored (mode_of c w) (is_at_end (offset_of w)) w) (next_round s)
-      (λ _ _. next_round_ahead _ (subst (Ahead c 0) (sym (monitored_world _ _ w)) a)))
+      (λ _. followed_going (Ahead c 0) (monitored c (is_at_end (offset_of w)) w) (next_round s)
+      (λ g _. next_round_ahead _ (subst (Ahead c 0) (sym (monitored_going c _ w g)) a)))
       (λ _ _. a)
 
   checks_ahead : (w : World) → Ahead c 0 w → OnGoing (Ahead c 1) (checks c w)
   unfolding checks
   checks_ahead w a e =
-      let none = none_missed _ (checked w.tick (mode_of c w) (is_at (offset_of w)) w.activations).missed w e in
+      let none = none_missed c _ (checked w.tick (mode_of c w) (is_at (offset_of w)) w.activations).missed w e in
       let here : Ahead c 1 w = record {
         started = a.started;
         ahead = λ place u.
@@ -114,14 +111,15 @@ module _ (c : ConfigParts) (s : ScriptParts) (rules : IsConfig c) where
             (λ (d : is_at (offset_of w) (point_at c w place) ≡ false). passed (offset_of w) (point_at c w place) (a.ahead place u) d)
             (cases_Bool (is_at (offset_of w) (point_at c w place)));
       } in
-      subst (Ahead c 1) (sym (monitored_world _ _ w)) here
+      subst (Ahead c 1) (sym (monitored_going c _ w e)) here
 
   new_point : (w : World) (entry : ℕ) → entry_at (offset_of w) (mode_of c w).activations ≡ Some entry → IsFrom (offset_of w + 1) (point_of (mode_of c w) (row_of (mode_of c w) entry))
   new_point w entry e =
       let found = row_found (offset_of w) entry (mode_of c w) e in
       let l = deadline_after c (mode_of c w) entry (mode_rows c w.mode.0 rules) found.0 in
       let here = found.1 in
-      omega arith
+      later_point (row_of (mode_of c w) entry).deadline _ (point_of (mode_of c w) (row_of (mode_of c w) entry)) (omega arith)
+      (point_is_from (mode_of c w) (row_of (mode_of c w) entry))
 
   activated_ahead : (w : World) → Ahead c 1 w → (found : Option ℕ) → entry_at (offset_of w) (mode_of c w).activations ≡ found → Ahead c 1 (activated c found w).world
   activated_ahead w a None e = a

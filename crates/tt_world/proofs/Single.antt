@@ -17,11 +17,12 @@ use Rattle.tt_world.specs.Opening.{head, is_round_over, next_round, round_end, c
 use Rattle.tt_world.specs.Step.{ticked, stepped, step, runner_of}
 use Rattle.tt_world.specs.Schedule.{instant, world_at}
 use Rattle.tt_world.specs.RunLaws.{IsUnfinished, ArePointsAhead, AreTasksSingle, TasksAreSingle}
-use Rattle.tt_world.proofs.Moves.{OnGoing, followed_going, followed_keeps}
-use Rattle.tt_world.proofs.Frames.{monitored_world, checks_world}
+use Rattle.tt_world.proofs.Moves.{OnGoing, followed_going}
+use Rattle.tt_world.proofs.Frames.{monitored_going, checks_going}
 use Rattle.tt_world.proofs.Ends.{GoesOnBefore, are_bounded, last_is}
 use Rattle.tt_world.proofs.RunRule.{kept_at}
 use Rattle.tt_world.proofs.TableRows.{mode_rows, row_found, rows_later, rows_apart}
+use Rattle.tt_world.proofs.Deadlines.{point_up_to, not_both}
 use Rattle.tt_world.proofs.InstanceLists.{IsOldPlace, IsNewPlace, place_of_more, place_of_set, entry_of_set}
 use Rattle.tt_world.proofs.Points.{next_offset, points_ahead, opening_ahead, ahead_at}
 
@@ -46,13 +47,13 @@ module _ (c : ConfigParts) (s : ScriptParts) (rules : IsConfig c) where
       cond_both (eqb w.number s.rounds) _ _ (λ (m : Moved). InOrder c 0 m.world) (λ _. a)
       (λ _. record { started = omega arith; begun = λ place l. absurd (omega arith); ascending = λ p q k l. absurd (omega arith) })
 
-  round_end_in_order : (w : World) → InOrder c 0 w → InOrder c 0 (round_end c s w).world
+  round_end_in_order : (w : World) → InOrder c 0 w → OnGoing (InOrder c 0) (round_end c s w)
   unfolding round_end
   round_end_in_order w a =
-      cond_both (is_round_over c w) _ _ (λ (m : Moved). InOrder c 0 m.world)
-      (λ _. followed_keeps (InOrder c 0) (monitored (mode_of c w) (is_at_end (offset_of w)) w) (next_round s)
-      (subst (InOrder c 0) (sym (monitored_world _ _ w)) a) next_round_in_order)
-      (λ _. a)
+      cond_both (is_round_over c w) _ _ (OnGoing (InOrder c 0))
+      (λ _. followed_going (InOrder c 0) (monitored c (is_at_end (offset_of w)) w) (next_round s)
+      (λ g _. next_round_in_order _ (subst (InOrder c 0) (sym (monitored_going c _ w g)) a)))
+      (λ _ _. a)
 
   begun_more : (w : World) (entry : ℕ) → IsBegun c 0 w entry → IsBegun c 1 w entry
   begun_more w entry b = let r = b.reached in record { within = b.within; reached = omega arith }
@@ -111,14 +112,14 @@ module _ (c : ConfigParts) (s : ScriptParts) (rules : IsConfig c) where
   unfolding rows
   rows_in_order w a =
       followed_going (InOrder c 1) (checks c w) (activation c)
-      (λ _ _. activation_in_order _ (subst (InOrder c 0) (sym (checks_world c w)) a))
+      (λ g _. activation_in_order _ (subst (InOrder c 0) (sym (checks_going c w g)) a))
 
   pub opening_in_order : (w : World) → InOrder c 0 w → OnGoing (InOrder c 1) (opening c s w)
   unfolding opening
   opening_in_order w a =
       cond_both (eqb w.tick 0) _ _ (OnGoing (InOrder c 1))
       (λ _. followed_going (InOrder c 1) (head s w) (rows c) (λ _. rows_in_order w a))
-      (λ _. followed_going (InOrder c 1) (round_end c s w) (rows c) (λ _. rows_in_order _ (round_end_in_order w a)))
+      (λ _. followed_going (InOrder c 1) (round_end c s w) (rows c) (λ g. rows_in_order _ (round_end_in_order w a g)))
 
   begun_next : (w : World) (entry : ℕ) → w.start ≤ w.tick → IsBegun c 1 w entry → (row_of (mode_of c w) entry).offset < ((w.tick + 1) - w.start) + 0
   begun_next w entry l b = let r = b.reached in omega (arith, next_offset w l)
@@ -156,14 +157,14 @@ module _ (c : ConfigParts) (s : ScriptParts) (rules : IsConfig c) where
       kept_at c s (InOrder c 0) (record { started = omega arith; begun = λ place l. absurd (omega arith); ascending = λ p q k l. absurd (omega arith) })
       (λ n _ a. instant_in_order _ a)
 
-  -- of two unfinished activations of one task the later has an offset at or after the deadline of the earlier, which is then past
+  -- of two unfinished activations of one task the later has an offset at or after the deadline of the earlier, whose point is then past
   not_two : (w : World) → InOrder c 1 w → ArePointsAhead c w → (p q : ℕ) → p < q → IsUnfinished w p → IsUnfinished w q → (row_of (mode_of c w) (entry_in w p)).task ≡ (row_of (mode_of c w) (entry_in w q)).task → ⊥
   not_two w a ahead p q k u v same =
       let b = a.begun q v.within in
       let apart = rows_apart c (mode_of c w) (entry_in w p) (entry_in w q) (mode_rows c w.mode.0 rules) (a.ascending p q k v.within) b.within same in
-      let to_come : offset_of w < (row_of (mode_of c w) (entry_in w p)).deadline = ahead p u in
       let r = b.reached in
-      omega arith
+      not_both (offset_of w) _ _ (ahead p u)
+      (point_up_to (mode_of c w) (row_of (mode_of c w) (entry_in w p)) (entry_in w q) b.within apart) (omega arith)
 
   pub tasks_single : (w : World) → InOrder c 1 w → ArePointsAhead c w → AreTasksSingle c w
   tasks_single w a ahead p q u v same =

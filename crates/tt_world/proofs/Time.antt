@@ -5,13 +5,13 @@ use Rattle.tt_world.specs.declared.config.ConfigParts.{ConfigParts}
 use Rattle.tt_world.specs.declared.script.ScriptParts.{ScriptParts}
 use Rattle.tt_world.specs.declared.world.World.{World}
 use Rattle.tt_world.specs.Moved.{Moved}
-use Rattle.tt_world.specs.Rows.{offset_of, mode_of}
+use Rattle.tt_world.specs.Rows.{offset_of}
 use Rattle.tt_world.specs.Monitoring.{monitored, is_at_end}
 use Rattle.tt_world.specs.Opening.{head, is_round_over, next_round, round_end, rows, opening}
 use Rattle.tt_world.specs.Step.{step}
 use Rattle.tt_world.specs.Schedule.{IsBounded, instant}
 use Rattle.tt_world.proofs.Moves.{OnGoing, followed_going}
-use Rattle.tt_world.proofs.Frames.{Frame, frame_of, monitored_world, rows_frame, step_frame}
+use Rattle.tt_world.proofs.Frames.{Frame, frame_of, monitored_frame, rows_frame, step_frame}
 
 -- the offset of an instant before its opening, in a round of this length
 abbrev pub Before : (length offset : ℕ) → Type 0
@@ -45,8 +45,8 @@ module _ (c : ConfigParts) (s : ScriptParts) (bounded : IsBounded c s) where
   unfolding round_end
   round_end_timed w t =
       cond_both (is_round_over c w) _ _ (TimedGoing After c s)
-      (λ _. followed_going (λ v. Timed After c s (frame_of v)) (monitored (mode_of c w) (is_at_end (offset_of w)) w) (next_round s)
-      (λ _. begun _ (subst (λ v. Timed Before c s (frame_of v)) (sym (monitored_world _ _ w)) t)))
+      (λ _. followed_going (λ v. Timed After c s (frame_of v)) (monitored c (is_at_end (offset_of w)) w) (next_round s)
+      (λ _. begun _ (subst (Timed Before c s) (sym (monitored_frame c _ w)) t)))
       (λ e _.
       let ne = eqb-false _ _ e in
       record { started = t.started; early = t.early; within = t.within; phase = omega arith })
