@@ -40,7 +40,7 @@ has_room c s w es bounded a =
     record { tick = omega arith; number = t.within; mode = subst (HasMode c) (sym a.world) (mode_at c s bounded w.tick a.going) }
 
 -- the same at the next tick
-going_end : (o : Outcome) → run_end_of o ≡ None → outcome.GoesOn ≡ o
+pub going_end : (o : Outcome) → run_end_of o ≡ None → outcome.GoesOn ≡ o
 going_end outcome.GoesOn e = refl
 going_end outcome.Stopped e = cc
 going_end (outcome.Missed task) e = cc

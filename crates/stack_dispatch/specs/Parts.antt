@@ -1,8 +1,9 @@
 -- What the parts of a run rest on.
-use Rattle.std.specs.Prelude.{◌≡◌, ℕ, zero, suc, ◌+◌, ◌^◌, ◌<◌, ◌≤◌, Bool, true, List, [], ◌∷◌, ◌++◌, Option, None, Some, length}
+use Rattle.std.specs.Prelude.{◌≡◌, ℕ, zero, suc, ◌+◌, ◌^◌, ◌<◌, ◌≤◌, Bool, true, List, [], ◌∷◌, ◌++◌, map, Option, None, Some, length}
 use Rattle.tt_base.specs.declared.number.TaskNo.{TaskNo}
 use Rattle.tt_base.specs.declared.event.Event.{Event}
 use Rattle.tt_world.specs.declared.config.ConfigParts.{ConfigParts}
+use Rattle.tt_world.specs.declared.config.ModeDef.{ModeDef}
 use Rattle.tt_world.specs.declared.script.ScriptParts.{ScriptParts}
 use Rattle.tt_world.specs.declared.world.Instance.{Instance}
 use Rattle.tt_world.specs.declared.world.Runner.{Runner}
@@ -11,7 +12,8 @@ use Rattle.tt_world.specs.declared.world.World.{World}
 use Rattle.task_lang.specs.declared.syntax.Stmt.{Stmt}
 use Rattle.tt_world.specs.Instances.{is_done, with_left}
 use Rattle.tt_world.specs.declared.world.Point.{Point}
-use Rattle.tt_world.specs.Rows.{HasMode}
+use Rattle.tt_world.specs.Rows.{HasMode, mode_of}
+use Rattle.tt_world.specs.Points.{point_of}
 use Rattle.tt_world.specs.Monitoring.{Checked, is_at, is_at_end}
 use Rattle.stack_dispatch.specs.declared.monitoring.Due.{Due}
 use Rattle.stack_dispatch.specs.declared.monitoring.Due.TheVariants.{At, AtEnd}
@@ -46,6 +48,14 @@ pub record HasRoom (c : ConfigParts) (s : ScriptParts) (w : World) : Type 0 wher
   pub tick : w.tick + 1 < 2 ^ 64
   pub number : w.number ≤ s.rounds
   pub mode : HasMode c w
+
+-- the monitoring points of the activations of a mode, by entry number
+abbrev pub points_of : ModeDef → List Point
+points_of mode = map (point_of mode) mode.activations
+
+-- these are the monitoring points of the present mode
+abbrev pub ArePoints : ConfigParts → World → List Point → Type 0
+ArePoints c w points = points ≡ points_of (mode_of c w)
 
 -- what a part of the code checked is what the definition gives
 pub record Checks (before after : List Event) (missed : Option TaskNo) (all : Checked) : Type 0 where

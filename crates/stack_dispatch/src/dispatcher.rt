@@ -3,20 +3,24 @@
 ghost use Rattle.std.specs.Prelude.{◌≡◌, ◌+◌, ◌^◌, ◌<◌, ◌≤◌, length, replicate, IfOk};
 ghost use Rattle.tt_world.specs.Moved.{Gives};
 ghost use Rattle.tt_world.specs.Rows.{HasMode, offset_of, mode_of, entry_at, body_of};
-ghost use Rattle.tt_world.specs.Monitoring.{monitored, violation};
+ghost use Rattle.tt_world.specs.Monitoring.{monitored};
 ghost use Rattle.tt_world.specs.Opening.{head, next_round, round_end, checks, activation, rows, opening};
 ghost use Rattle.tt_world.specs.Step.{runner_of, step};
 ghost use Rattle.tt_world.specs.Schedule.{first_world, instant};
-ghost use Rattle.stack_dispatch.specs.Parts.{HasRoom, is_due};
+ghost use Rattle.stack_dispatch.specs.Parts.{ArePoints, HasRoom, is_due, points_of};
 
+use crate::hooks::{call_error_hook, call_shutdown_hook};
 use crate::monitoring::{Due, check, row};
 use crate::plain::Events;
+use crate::points::{Points, points_of};
 use crate::runner::{last_below, mode, owner, ran_before, serve, up_to_unfinished};
 use std::alloc::Global;
 use std::marker::Model;
 use task_lang::{Cursors, Left, Vars};
 use tt_base::{Event, Memory, TaskNo, Tick};
-use tt_world::{Activation, ConfigParts, Instance, Instances, Outcome, Runner, ScriptParts, World};
+use tt_world::{
+    Activation, ConfigParts, Instance, Instances, Outcome, Point, Runner, ScriptParts, World,
+};
 
 /// The state of a run. Contracts see it as the world.
 #[derive(Drop)]
@@ -98,6 +102,14 @@ impl Dispatcher {
         self.world.tick
     }
 
+    /// The monitoring points of the activations of the present mode.
+    pub fn points(&self, alloc: Global, config: &ConfigParts) -> Result<Points, Memory>
+        requires { HasMode config.now self.now }
+        ensures { IfOk result (λ points. points ≡ points_of (mode_of config.now self.now)) }
+    {
+        points_of(alloc, mode(config, &self.world))
+    }
+
     /// The offset of the instant in the present round.
     fn offset(&self) -> u64
         ensures { result ≡ offset_of self.now }
@@ -122,31 +134,25 @@ impl Dispatcher {
 
     /// Checks those activations of the round whose point is due. After a missed check the hooks are called, and the run ends.
     fn monitor(
-        &self,
+        &mut self,
         config: &ConfigParts,
+        points: &[Point],
         due: Due,
         events: &mut Events,
     ) -> Result<Outcome, Memory>
-        requires { HasMode config.now self.now }
-        ensures { IfOk result (λ end. Gives events.old events.new self.now end (monitored (mode_of config.now self.now) (is_due due) self.now)) }
+        requires mode { HasMode config.now self.old }
+        requires points { ArePoints config.now self.old points.now }
+        ensures { IfOk result (λ end. Gives events.old events.new self.new end (monitored config.now (is_due due) self.old)) }
     {
-        let world = &self.world;
-        let at = world.tick;
-        match check(
-            at,
-            mode(config, world),
-            due,
-            world.activations.as_slice(),
-            events,
-        )? {
-            None => Ok(Outcome::GoesOn),
-            Some(task) => {
-                events.push(Event::ErrorHook { at, task })?;
-                events.push(Event::ShutdownHook { at })?;
-                events.push(Event::Shutdown { at })?;
-                Ok(Outcome::Missed(task))
-            }
-        }
+        let at = self.world.tick;
+        let mode = mode(config, &self.world);
+        let activations = self.world.activations.as_slice();
+        let Some(task) = check(at, mode, points, due, activations, events)? else {
+            return Ok(Outcome::GoesOn);
+        };
+        call_error_hook(at, task, config, &mut self.world.vars, events)?;
+        call_shutdown_hook(at, config, &mut self.world.vars, events)?;
+        Ok(Outcome::Missed(task))
     }
 
     /// After the last round the run stops, else the next round begins.
@@ -183,9 +189,11 @@ impl Dispatcher {
         alloc: Global,
         config: &ConfigParts,
         script: &ScriptParts,
+        points: &[Point],
         events: &mut Events,
     ) -> Result<Outcome, Memory>
         requires mode { HasMode config.now self.old }
+        requires points { ArePoints config.now self.old points.now }
         requires number { self.old.number ≤ script.now.rounds }
         ensures { IfOk result (λ end. Gives events.old events.new self.new end (round_end config.now script.now self.old)) }
     {
@@ -193,7 +201,7 @@ impl Dispatcher {
         if offset != config.round {
             return Ok(Outcome::GoesOn);
         }
-        match self.monitor(config, Due::AtEnd(offset), events)? {
+        match self.monitor(config, points, Due::AtEnd(offset), events)? {
             Outcome::GoesOn => self.next_round(alloc, script, events),
             end => Ok(end),
         }
@@ -201,11 +209,18 @@ impl Dispatcher {
 
     /// The checks of the present offset.
     #[tactic(auto, unfolding(tt_world::specs::Opening::checks))]
-    fn check_points(&self, config: &ConfigParts, events: &mut Events) -> Result<Outcome, Memory>
-        requires { HasMode config.now self.now }
-        ensures { IfOk result (λ end. Gives events.old events.new self.now end (checks config.now self.now)) }
+    fn check_points(
+        &mut self,
+        config: &ConfigParts,
+        points: &[Point],
+        events: &mut Events,
+    ) -> Result<Outcome, Memory>
+        requires mode { HasMode config.now self.old }
+        requires points { ArePoints config.now self.old points.now }
+        ensures { IfOk result (λ end. Gives events.old events.new self.new end (checks config.now self.old)) }
     {
-        self.monitor(config, Due::At(self.offset()), events)
+        let offset = self.offset();
+        self.monitor(config, points, Due::At(offset), events)
     }
 
     /// The activation of the present offset, if there is one.
@@ -239,12 +254,14 @@ impl Dispatcher {
         &mut self,
         alloc: Global,
         config: &ConfigParts,
+        points: &[Point],
         events: &mut Events,
     ) -> Result<Outcome, Memory>
-        requires { HasMode config.now self.old }
+        requires mode { HasMode config.now self.old }
+        requires points { ArePoints config.now self.old points.now }
         ensures { IfOk result (λ end. Gives events.old events.new self.new end (rows config.now self.old)) }
     {
-        match self.check_points(config, events)? {
+        match self.check_points(config, points, events)? {
             Outcome::GoesOn => {}
             end => return Ok(end),
         }
@@ -259,17 +276,19 @@ impl Dispatcher {
         alloc: Global,
         config: &ConfigParts,
         script: &ScriptParts,
+        points: &[Point],
         events: &mut Events,
     ) -> Result<Outcome, Memory>
-        requires { HasRoom config.now script.now self.old }
+        requires room { HasRoom config.now script.now self.old }
+        requires points { ArePoints config.now self.old points.now }
         ensures { IfOk result (λ end. Gives events.old events.new self.new end (opening config.now script.now self.old)) }
     {
         if self.tick() == 0 {
             self.begin(script, events)?;
-            return self.open_rows(alloc, config, events);
+            return self.open_rows(alloc, config, points, events);
         }
-        match self.end_round(alloc, config, script, events)? {
-            Outcome::GoesOn => self.open_rows(alloc, config, events),
+        match self.end_round(alloc, config, script, points, events)? {
+            Outcome::GoesOn => self.open_rows(alloc, config, points, events),
             end => Ok(end),
         }
     }
@@ -309,12 +328,14 @@ impl Dispatcher {
         alloc: Global,
         config: &ConfigParts,
         script: &ScriptParts,
+        points: &[Point],
         events: &mut Events,
     ) -> Result<Outcome, Memory>
-        requires { HasRoom config.now script.now self.old }
+        requires room { HasRoom config.now script.now self.old }
+        requires points { ArePoints config.now self.old points.now }
         ensures { IfOk result (λ end. Gives events.old events.new self.new end (instant config.now script.now self.old)) }
     {
-        match self.open(alloc, config, script, events)? {
+        match self.open(alloc, config, script, points, events)? {
             Outcome::GoesOn => {}
             end => return Ok(end),
         }

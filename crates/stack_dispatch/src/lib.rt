@@ -2,8 +2,10 @@
 #![tactic(auto)]
 
 mod dispatcher;
+mod hooks;
 mod monitoring;
 mod plain;
+mod points;
 mod runner;
 
 pub use plain::{Events, PlainRun, RunEnd, run_plain};

@@ -3,8 +3,8 @@
 ghost use Rattle.std.specs.Prelude.{◌≡◌, ◌<◌, length, IfOk, slice_index_or};
 ghost use Rattle.tt_world.specs.Instances.{is_done};
 ghost use Rattle.tt_world.specs.Rows.{no_mode, row_of, offset_of, mode_of};
-ghost use Rattle.tt_world.specs.Monitoring.{point_of, is_at, is_at_end, checked};
-ghost use Rattle.stack_dispatch.specs.Parts.{Checks, is_due};
+ghost use Rattle.tt_world.specs.Monitoring.{is_at, is_at_end, checked};
+ghost use Rattle.stack_dispatch.specs.Parts.{Checks, is_due, points_of};
 
 use crate::plain::Events;
 use task_lang::Left;
@@ -55,11 +55,11 @@ pub fn row(mode: &ModeDef, entry: usize) -> Activation
     }
 }
 
-/// The monitoring point of an activation: its deadline.
-fn point(_mode: &ModeDef, row: Activation) -> Point
-    ensures { result ≡ point_of _mode.now row }
+/// The monitoring point of an entry number.
+fn point(points: &[Point], entry: usize) -> Point
+    ensures { result ≡ slice_index_or points.now entry (Point.At 0) }
 {
-    Point::At(row.deadline)
+    points.get(entry).copied().unwrap_or(Point::At(0))
 }
 
 /// Checks those activations whose point is due, in their order, up to the first that is missed, and answers its task.
@@ -67,15 +67,17 @@ fn point(_mode: &ModeDef, row: Activation) -> Point
 pub fn check(
     at: Tick,
     mode: &ModeDef,
+    points: &[Point],
     due: Due,
     activations: &[Instance],
     events: &mut Events,
 ) -> Result<Option<TaskNo>, Memory>
+    requires { points.now ≡ points_of mode.now }
     ensures { IfOk result (λ missed. Checks events.old events.new missed (checked at mode.now (is_due due) activations.now)) }
 {
     for instance in activations {
         let row = row(mode, instance.entry);
-        if due.includes(point(mode, row)) {
+        if due.includes(point(points, instance.entry)) {
             let met = is_done(&instance.left);
             events.push(Event::Check {
                 at,

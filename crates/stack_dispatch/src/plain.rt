@@ -74,9 +74,11 @@ pub(crate) fn run(
     ensures tick { IfOk result (λ run. run.tick ≡ last_stamp (schedule config.now script.now)) }
 {
     let mut dispatcher = Dispatcher::new(alloc, config, script)?;
+    let found = dispatcher.points(alloc, config)?;
+    let points = found.as_slice();
     let mut events = Events::new(alloc);
     'instants: loop {
-        let outcome = dispatcher.pass(alloc, config, script, &mut events)?;
+        let outcome = dispatcher.pass(alloc, config, script, points, &mut events)?;
         if let Some(end) = RunEnd::of(outcome) {
             let tick = dispatcher.tick();
             return Ok(PlainRun { events, end, tick });

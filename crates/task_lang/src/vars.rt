@@ -75,7 +75,7 @@ impl Vars {
     }
 
     /// Gives a variable a value, where it exists.
-    pub(crate) fn assign(&mut self, var: VarNo, value: i32)
+    pub fn assign(&mut self, var: VarNo, value: i32)
         ensures { self.new ≡ slice_set self.old var.0 value }
     {
         if let Some(place) = self.values.get_mut(var.0 as usize) {

@@ -55,7 +55,7 @@ module _ {A : Type 0} (f : World → A) (others : (v : World) (vars : List ℤ) 
 pub monitored_frame : (c : ConfigParts) (is_due : Point → Bool) (w : World) → frame_of (monitored c is_due w).world ≡ frame_of w
 monitored_frame = monitored_keeps frame_of (λ v vars. refl)
 
-checks_frame : (c : ConfigParts) (w : World) → frame_of (checks c w).world ≡ frame_of w
+pub checks_frame : (c : ConfigParts) (w : World) → frame_of (checks c w).world ≡ frame_of w
 unfolding checks
 checks_frame c w = monitored_frame c _ w
 

@@ -1,5 +1,5 @@
 -- The mode of a run exists.
-use Rattle.std.proofs.Common.{ℕ, ◌<◌, length, ap, sym, ◌∙◌, subst}
+use Rattle.std.proofs.Common.{ℕ, ◌≡◌, ◌<◌, length, ap, sym, ◌∙◌, subst}
 use Rattle.tt_base.specs.declared.number.ModeNo.{ModeNo}
 use Rattle.tt_world.specs.declared.config.ConfigParts.{ConfigParts}
 use Rattle.tt_world.specs.declared.script.ScriptParts.{ScriptParts}
@@ -13,11 +13,12 @@ use Rattle.tt_world.proofs.Frames.{opening_mode, step_frame}
 use Rattle.tt_world.proofs.Ends.{GoesOnBefore}
 use Rattle.tt_world.proofs.RunRule.{kept_at}
 
-instant_mode : (c : ConfigParts) (s : ScriptParts) (w : World) → HasMode c w → OnGoing (HasMode c) (instant c s w)
+-- an instant leaves it
+pub instant_mode : (c : ConfigParts) (s : ScriptParts) (w : World) → OnGoing (λ v. v.mode ≡ w.mode) (instant c s w)
 unfolding instant
-instant_mode c s w h =
-    followed_going (HasMode c) (opening c s w) (step c s)
-    (λ _ _. subst (λ (m : ModeNo). m.0 < length c.modes) (sym (ap (λ f. f.mode) (step_frame c s (opening c s w).world) ∙ opening_mode c s w)) h)
+instant_mode c s w =
+    followed_going (λ v. v.mode ≡ w.mode) (opening c s w) (step c s)
+    (λ _ _. ap (λ f. f.mode) (step_frame c s (opening c s w).world) ∙ opening_mode c s w)
 
 pub mode_at : (c : ConfigParts) (s : ScriptParts) → IsBounded c s → (n : ℕ) → GoesOnBefore c s n → HasMode c (world_at c s n)
-mode_at c s bounded = kept_at c s (HasMode c) bounded.start (λ n _ h. instant_mode c s (world_at c s n) h)
+mode_at c s bounded = kept_at c s (HasMode c) bounded.start (λ n _ h g. subst (λ (m : ModeNo). m.0 < length c.modes) (sym (instant_mode c s (world_at c s n) g)) h)

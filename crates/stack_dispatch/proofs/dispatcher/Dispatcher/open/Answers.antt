@@ -1,6 +1,9 @@
-use Rattle.stack_dispatch.proofs.Rounds.{mode_kept}
+use Rattle.stack_dispatch.proofs.Rounds.{mode_kept, points_kept}
 use Rattle.stack_dispatch.proofs.dispatcher.Dispatcher.open.Goals as goal
 
 pub open_rows-requires-in-GoesOn : goal.open_rows-requires-in-GoesOn
 open_rows-requires-in-GoesOn c =
-    mode_kept c.args.config.now c.args.script.now c.end_round.new.self c.args.self.now c.in_ok-end.ensures.world_is c.requires.mode
+    record {
+      mode = mode_kept c.args.config.now c.args.script.now c.end_round.new.self c.args.self.now c.in_ok-end.ensures.world_is c.requires.room.mode;
+      points = points_kept c.args.config.now c.args.script.now c.end_round.new.self c.args.self.now c.args.points.now c.in_ok-end.ensures.world_is c.requires.points;
+    }
