@@ -2,7 +2,7 @@
 -- they ascend.
 use Rattle.std.proofs.Common.{ℕ, Bool, ◌≡◌, ◌<◌, ◌≤◌, ◌+◌, List, [], ◌∷◌, ◌++◌, true, false, Option, None, Some, refl, ap, sym, ◌∙◌, arith, length, get_or, take, append_assoc, ⊎_elim, leb, ltb}
 use Rattle.std.specs.Prelude.{map, min, slice_get, if◌then◌else◌}
-use Rattle.std.specs.List.{All, Contains, AllWithin}
+use Rattle.std.specs.List.{All, Contains}
 use Rattle.std.specs.List.Sorted.{IsPermutation, IsNonDecreasing, IsPartitionPoint}
 use Rattle.std.proofs.lemmas.Bool.{cond_both, cases_lt, leb-true, leb-false, ltb-true, ltb-false}
 use Rattle.std.proofs.lemmas.List.{map_more}
@@ -82,9 +82,12 @@ before_search from xs i k s l = ltb-true (get_or xs k 0) from (s.0 k 0 (omega ar
 
 search_is_least : (from : ℕ) (xs : List ℕ) (i : ℕ) → IsNonDecreasing xs → Search from xs i → i < length xs → IsLeast from xs (Some (get_or xs i 0))
 search_is_least from xs i up s l =
-    let here : from ≤ get_or xs i 0 = ltb-false (get_or xs i 0) from (s.1 i 0 (omega arith) l) in
-    (Contains-get_or xs i 0 l, here, All-from_get_or (λ x. from ≤ x → get_or xs i 0 ≤ x) xs 0 (λ k m g.
-    ⊎_elim (λ (lt : k < i). absurd (let before = before_search from xs i k s lt in omega arith)) (λ (ge : i ≤ k). up i k 0 ge m) (cases_lt k i)))
+    let here : from ≤ get_or xs i 0 = ltb-false (get_or xs i 0) from (s.1 i 0 (omega arith) l) in (
+      Contains-get_or xs i 0 l,
+      here,
+      All-from_get_or (λ x. from ≤ x → get_or xs i 0 ≤ x) xs 0 (λ k m g.
+          ⊎_elim (λ (lt : k < i). absurd (let before = before_search from xs i k s lt in omega arith)) (λ (ge : i ≤ k). up i k 0 ge m) (cases_lt k i)),
+    )
 
 pub search_finds : (from : ℕ) (xs : List ℕ) (i : ℕ) → IsNonDecreasing xs → i ≤ length xs → Search from xs i → slice_get xs i ≡ least_from from xs
 search_finds from xs i up b s =

@@ -1,5 +1,5 @@
 -- The round's end, where its checks are met.
-use Rattle.std.proofs.Common.{ℕ, ◌≡◌, ◌<◌, ◌≤◌, ◌+◌, ◌^◌, List, length, Bool, true, ap, sym, ◌∙◌, subst}
+use Rattle.std.proofs.Common.{ℕ, ◌≡◌, ◌<◌, ◌+◌, ◌^◌, List, length, true, ap, sym, ◌∙◌, subst}
 use Rattle.std.specs.Prelude.{slice_index_or}
 use Rattle.std.proofs.lemmas.Bool.{cond-true, eq-eqb}
 use Rattle.tt_base.specs.declared.event.Event.{Event}
@@ -15,7 +15,7 @@ use Rattle.tt_world.specs.Monitoring.{monitored, is_at_end}
 use Rattle.tt_world.specs.Opening.{checks, next_round, round_end, opening, is_round_over}
 use Rattle.tt_world.proofs.Moves.{gives_next}
 use Rattle.tt_world.specs.Schedule.{instant}
-use Rattle.tt_world.proofs.Frames.{monitored_frame, checks_frame, round_end_mode, opening_tick, opening_mode}
+use Rattle.tt_world.proofs.Frames.{checks_frame, round_end_mode, opening_tick, opening_mode}
 use Rattle.tt_world.proofs.Modes.{instant_mode}
 use Rattle.stack_dispatch.specs.Parts.{ArePoints, HasRoom, points_of}
 
@@ -29,13 +29,7 @@ round_ended c s a b d u v w middle end offset here over on g h =
     let both = gives_next a b d u v end (monitored c (is_at_end (offset_of w)) w) (next_round s) g' h in
     subst (λ m. Gives a d v end m) (sym (cond-true _ _ _ over')) both
 
--- checks leave the number of the round
-pub number_kept : (c : ConfigParts) (is_due : Point → Bool) (v w : World) (rounds : ℕ) → v ≡ (monitored c is_due w).world → w.number ≤ rounds → v.number ≤ rounds
-number_kept c is_due v w rounds e h =
-    let same : v.number ≡ w.number = ap (λ u. u.number) e ∙ ap (λ f. f.number) (monitored_frame c is_due w) in
-    rw same h
-
--- and the mode
+-- checks leave the mode
 pub mode_checked : (c : ConfigParts) (v w : World) → v ≡ (checks c w).world → HasMode c w → HasMode c v
 mode_checked c v w e h = subst (λ m. m.0 < length c.modes) (sym (ap (λ u. u.mode) e ∙ ap (λ f. f.mode) (checks_frame c w))) h
 

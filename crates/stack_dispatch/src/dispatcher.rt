@@ -16,7 +16,7 @@ use crate::points::{Points, points_of};
 use crate::runner::{last_below, mode, owner, ran_before, serve, up_to_unfinished};
 use std::alloc::Global;
 use std::marker::Model;
-use task_lang::{Cursors, Left, Vars};
+use task_lang::{Cursors, Left};
 use tt_base::{Event, Memory, TaskNo, Tick};
 use tt_world::{
     Activation, ConfigParts, Instance, Instances, Outcome, Point, Runner, ScriptParts, World,
@@ -43,17 +43,6 @@ impl Model for Dispatcher {
     ghost view = { λ d. d.world };
 
     ghost invariant = { λ d. IsTop d.top d.world.activations };
-}
-
-/// A copy of the variables.
-fn copy_vars(alloc: Global, vars: &Vars) -> Result<Vars, Memory>
-    ensures { IfOk result (λ copy. copy ≡ vars.now) }
-{
-    let mut copy = Vars::new(alloc);
-    for value in vars.as_slice() {
-        copy.push(*value)?;
-    }
-    Ok(copy)
 }
 
 /// The entry number of the row that activates at an offset.
@@ -87,7 +76,7 @@ impl Dispatcher {
             start: 0,
             number: 1,
             mode: script.start,
-            vars: copy_vars(alloc, &config.vars)?,
+            vars: config.vars.copy(alloc)?,
             cursors: Cursors::new(alloc, config.demands.as_slice().len())?,
             activations: Instances::new(alloc),
             last: None,

@@ -83,25 +83,40 @@ fn tasks(alloc: Global, work: &[u64]) -> Result<Series<TaskDef>, Fail> {
     Ok(tasks)
 }
 
-/// A configuration of these tasks with one mode, which activates each at an offset, with a deadline.
+/// A row that activates a task at an offset, with a deadline that is monitored there.
+fn row(offset: u64, task: TaskNo, deadline: u64) -> Activation {
+    Activation {
+        offset,
+        task,
+        deadline,
+        stringent: true,
+    }
+}
+
+/// The same with a deadline that is monitored at a later point.
+fn lenient_row(offset: u64, task: TaskNo, deadline: u64) -> Activation {
+    Activation {
+        offset,
+        task,
+        deadline,
+        stringent: false,
+    }
+}
+
+/// A configuration of these tasks with one mode, which has these rows.
 fn config(
     alloc: Global,
     round: u64,
     tasks: Series<TaskDef>,
-    rows: &[(u64, TaskNo, u64)],
+    rows: &[Activation],
 ) -> Result<ConfigParts, Fail>
     ensures round { IfOk result (λ config. config.round ≡ round) }
     ensures adjust { IfOk result (λ config. config.adjust ≡ 0) }
     ensures modes { IfOk result (λ config. length config.modes ≡ 1) }
 {
     let mut activations = Series::new(alloc);
-    for (offset, task, deadline) in rows {
-        activations.push(Activation {
-            offset: *offset,
-            task: *task,
-            deadline: *deadline,
-            stringent: true,
-        })?;
+    for row in rows {
+        activations.push(*row)?;
     }
     let mut modes = Series::new(alloc);
     modes.push(ModeDef {
@@ -144,7 +159,12 @@ fn script(alloc: Global, rounds: u32) -> ScriptParts
 #[test]
 fn tasks_preempt_each_other(rt: HostRuntime) -> Result<(), Fail> {
     let tasks = tasks(rt.alloc(), &[6, 4, 2])?;
-    let config = config(rt.alloc(), 20, tasks, &[(0, A, 20), (2, B, 20), (3, C, 20)])?;
+    let config = config(
+        rt.alloc(),
+        20,
+        tasks,
+        &[row(0, A, 20), row(2, B, 20), row(3, C, 20)],
+    )?;
     let run = run(rt.alloc(), &config, &script(rt.alloc(), 1))?;
     let want = [
         os_start(),
@@ -175,7 +195,7 @@ fn tasks_preempt_each_other(rt: HostRuntime) -> Result<(), Fail> {
 #[test]
 fn a_missed_check_ends_the_run(rt: HostRuntime) -> Result<(), Fail> {
     let tasks = tasks(rt.alloc(), &[6])?;
-    let config = config(rt.alloc(), 10, tasks, &[(0, A, 5)])?;
+    let config = config(rt.alloc(), 10, tasks, &[row(0, A, 5)])?;
     let run = run(rt.alloc(), &config, &script(rt.alloc(), 1))?;
     let want = [
         os_start(),
@@ -196,7 +216,7 @@ fn a_missed_check_ends_the_run(rt: HostRuntime) -> Result<(), Fail> {
 #[test]
 fn a_round_follows_a_round(rt: HostRuntime) -> Result<(), Fail> {
     let tasks = tasks(rt.alloc(), &[2])?;
-    let config = config(rt.alloc(), 4, tasks, &[(1, A, 4)])?;
+    let config = config(rt.alloc(), 4, tasks, &[row(1, A, 4)])?;
     let run = run(rt.alloc(), &config, &script(rt.alloc(), 2))?;
     let want = [
         os_start(),
@@ -227,7 +247,7 @@ fn a_demand_takes_what_the_script_gives(rt: HostRuntime) -> Result<(), Fail> {
     body.push(Stmt::Take(D))?;
     let mut tasks = Series::new(rt.alloc());
     tasks.push(task(body))?;
-    let mut config = config(rt.alloc(), 10, tasks, &[(0, A, 6)])?;
+    let mut config = config(rt.alloc(), 10, tasks, &[row(0, A, 6)])?;
     config.demands.push(Demand { most: 3, usual: 2 })?;
     let mut values = Series::new(rt.alloc());
     values.push(7)?;
@@ -276,7 +296,7 @@ fn counting(alloc: Global) -> Result<Body, Fail> {
 fn a_body_runs_by_its_statements(rt: HostRuntime) -> Result<(), Fail> {
     let mut tasks = Series::new(rt.alloc());
     tasks.push(task(counting(rt.alloc())?))?;
-    let mut config = config(rt.alloc(), 10, tasks, &[(0, A, 8)])?;
+    let mut config = config(rt.alloc(), 10, tasks, &[row(0, A, 8)])?;
     config.vars.push(5)?;
     config.demands.push(Demand { most: 0, usual: 0 })?;
     let mut script = script(rt.alloc(), 1);
@@ -300,5 +320,137 @@ fn a_body_runs_by_its_statements(rt: HostRuntime) -> Result<(), Fail> {
     assert_eq!(rt; run.events.as_slice(), want.as_slice());
     assert_eq!(rt; run.end, RunEnd::LastRound);
     assert_eq!(rt; run.tick, 10);
+    Ok(())
+}
+
+#[test]
+fn a_later_point_is_the_end_of_the_round(rt: HostRuntime) -> Result<(), Fail> {
+    let tasks = tasks(rt.alloc(), &[6])?;
+    let config = config(rt.alloc(), 10, tasks, &[lenient_row(0, A, 5)])?;
+    let run = run(rt.alloc(), &config, &script(rt.alloc(), 1))?;
+    let want = [
+        os_start(),
+        round(0, 1),
+        activate(0, A),
+        runs(0, A),
+        end(6, A),
+        idle(6),
+        check(10, A, true),
+        Event::Stop { at: 10 },
+    ];
+    assert_eq!(rt; run.events.as_slice(), want.as_slice());
+    assert_eq!(rt; run.end, RunEnd::LastRound);
+    Ok(())
+}
+
+#[test]
+fn a_later_point_is_missed(rt: HostRuntime) -> Result<(), Fail> {
+    let tasks = tasks(rt.alloc(), &[11])?;
+    let config = config(rt.alloc(), 10, tasks, &[lenient_row(0, A, 5)])?;
+    let run = run(rt.alloc(), &config, &script(rt.alloc(), 1))?;
+    let want = [
+        os_start(),
+        round(0, 1),
+        activate(0, A),
+        runs(0, A),
+        check(10, A, false),
+        Event::ErrorHook { at: 10, task: A },
+        Event::ShutdownHook { at: 10 },
+        Event::Shutdown { at: 10 },
+    ];
+    assert_eq!(rt; run.events.as_slice(), want.as_slice());
+    assert_eq!(rt; run.end, RunEnd::Missed(A));
+    Ok(())
+}
+
+#[test]
+fn a_later_point_is_another_stringent_deadline(rt: HostRuntime) -> Result<(), Fail> {
+    let tasks = tasks(rt.alloc(), &[5, 1])?;
+    let config = config(rt.alloc(), 10, tasks, &[lenient_row(0, A, 5), row(1, B, 8)])?;
+    let run = run(rt.alloc(), &config, &script(rt.alloc(), 1))?;
+    let want = [
+        os_start(),
+        round(0, 1),
+        activate(0, A),
+        runs(0, A),
+        activate(1, B),
+        runs(1, B),
+        end(2, B),
+        runs(2, A),
+        end(6, A),
+        idle(6),
+        check(8, A, true),
+        check(8, B, true),
+        Event::Stop { at: 10 },
+    ];
+    assert_eq!(rt; run.events.as_slice(), want.as_slice());
+    Ok(())
+}
+
+/// The event of an `out` of ttErrorHook.
+fn error_out(at: Tick, value: i32) -> Event {
+    Event::Out {
+        at,
+        owner: Owner::ErrorHook,
+        value,
+    }
+}
+
+/// The event of an `out` of ttShutdownHook.
+fn shutdown_out(at: Tick, value: i32) -> Event {
+    Event::Out {
+        at,
+        owner: Owner::ShutdownHook,
+        value,
+    }
+}
+
+#[test]
+fn hooks_are_played_after_a_missed_check(rt: HostRuntime) -> Result<(), Fail> {
+    let tasks = tasks(rt.alloc(), &[6])?;
+    let mut config = config(rt.alloc(), 10, tasks, &[row(0, A, 5)])?;
+    config.error_hook.push(Stmt::Out(Expr::Const(1)))?;
+    config.shutdown_hook.push(Stmt::Out(Expr::Const(2)))?;
+    let run = run(rt.alloc(), &config, &script(rt.alloc(), 1))?;
+    let want = [
+        os_start(),
+        round(0, 1),
+        activate(0, A),
+        runs(0, A),
+        check(5, A, false),
+        Event::ErrorHook { at: 5, task: A },
+        error_out(5, 1),
+        Event::ShutdownHook { at: 5 },
+        shutdown_out(5, 2),
+        Event::Shutdown { at: 5 },
+    ];
+    assert_eq!(rt; run.events.as_slice(), want.as_slice());
+    assert_eq!(rt; run.end, RunEnd::Missed(A));
+    Ok(())
+}
+
+#[test]
+fn a_hook_sets_a_variable_for_what_follows(rt: HostRuntime) -> Result<(), Fail> {
+    let tasks = tasks(rt.alloc(), &[6])?;
+    let mut config = config(rt.alloc(), 10, tasks, &[row(0, A, 5)])?;
+    config.vars.push(2147483647)?;
+    let next = pair(rt.alloc(), Op::Add, Expr::Var(X), Expr::Const(1))?;
+    config.error_hook.push(Stmt::Set(X, next))?;
+    config.error_hook.push(Stmt::Out(Expr::Var(X)))?;
+    config.shutdown_hook.push(Stmt::Out(Expr::Var(X)))?;
+    let run = run(rt.alloc(), &config, &script(rt.alloc(), 1))?;
+    let want = [
+        os_start(),
+        round(0, 1),
+        activate(0, A),
+        runs(0, A),
+        check(5, A, false),
+        Event::ErrorHook { at: 5, task: A },
+        error_out(5, -2147483648),
+        Event::ShutdownHook { at: 5 },
+        shutdown_out(5, -2147483648),
+        Event::Shutdown { at: 5 },
+    ];
+    assert_eq!(rt; run.events.as_slice(), want.as_slice());
     Ok(())
 }

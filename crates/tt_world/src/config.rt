@@ -91,9 +91,9 @@ pub struct ConfigParts {
     pub isrs: Series<IsrDef>,
     pub oseks: Series<OsekDef>,
     pub oisrs: Series<OisrDef>,
-    /// The body of ttErrorHook.
+    /// The body of ttErrorHook, empty where none is declared.
     pub error_hook: Body,
-    /// The body of ttShutdownHook.
+    /// The body of ttShutdownHook, empty where none is declared.
     pub shutdown_hook: Body,
     pub modes: Series<ModeDef>,
 }
