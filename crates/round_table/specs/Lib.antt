@@ -1,0 +1,6 @@
+pub mod TableRows
+pub mod DueRows
+pub mod NextOffset
+pub mod Cuts
+pub mod CheckLists
+pub mod Inside

@@ -1,0 +1,16 @@
+//! What is due at an offset of the round.
+
+/// What is due at an offset of the round: ranges of places in the table's lists, each up to below its end, and the activation.
+#[derive(Clone, Copy, Debug, PartialEq, Eq)]
+pub struct Due {
+    /// The place of the first check.
+    pub checks_from: usize,
+    /// The place behind the last check.
+    pub checks_to: usize,
+    /// The place of the first enable.
+    pub enables_from: usize,
+    /// The place behind the last enable.
+    pub enables_to: usize,
+    /// The entry number of the row that activates, if there is one.
+    pub activation: Option<usize>,
+}
