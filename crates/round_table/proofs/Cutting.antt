@@ -140,3 +140,11 @@ module _ {X : Type 0} (p q : X → Bool) (wider : (x : X) → p x ≡ true → q
   -- what stands between the cuts passes the wider test alone
   pub cut_between : (xs : List X) (i j : ℕ) → IsCut p xs i → IsCut q xs j → slice_range xs i j ≡ filter (λ x. q x && not (p x)) xs
   cut_between xs i j h k = let le : i ≤ j = cut_order xs i j h k in between xs i (j - i) j (omega arith) h k
+
+-- two tests that agree cut alike
+pub cut_alike : {X : Type 0} (p q : X → Bool) → ((x : X) → q x ≡ p x) → (xs : List X) (place : ℕ) → IsCut p xs place → IsCut q xs place
+cut_alike p q same xs place h = record {
+  within = h.within;
+  front = λ k d l. same _ ∙ h.front k d l;
+  back = λ k d m l. same _ ∙ h.back k d m l;
+}

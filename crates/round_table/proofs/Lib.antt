@@ -1,1 +1,4 @@
 pub mod Cutting
+pub mod CheckOrder
+pub mod Entries
+pub mod LeastOffsets

@@ -51,6 +51,7 @@ fn is_up_to(offset: u64, point: Point) -> bool
 }
 
 /// The checks of points, by their places.
+#[tactic(auto, using(crate::proofs::Entries::numbered_more))]
 fn numbered(alloc: Global, points: &[Point]) -> Result<Vec<Check>, Memory>
     ensures { IfOk result (λ checks. checks.items ≡ numbered points.now) }
 {

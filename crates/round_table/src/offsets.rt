@@ -1,6 +1,6 @@
 //! Offsets of the round, and the search for the least of them at or behind another.
 
-ghost use Rattle.std.specs.Prelude.{◌≡◌, ◌+◌};
+ghost use Rattle.std.specs.Prelude.{◌≡◌, ◌+◌, slice_get};
 ghost use Rattle.std.specs.List.Sorted.{IsPermutation};
 ghost use Rattle.tt_world.specs.Points.{least_from};
 
@@ -23,6 +23,13 @@ impl Model for Offsets {
     ghost invariant = { λ o. IsNonDecreasing o.items.items };
 }
 
+/// The item at a place, if there is one.
+fn item(items: &[u64], place: usize) -> Option<u64>
+    ensures { result ≡ slice_get items.now place }
+{
+    items.get(place).copied()
+}
+
 impl Offsets {
     /// These offsets in ascending order, in time that is n log n in their number. It takes no memory.
     pub(crate) fn new(mut items: Vec<u64>) -> Offsets
@@ -37,7 +44,7 @@ impl Offsets {
         ensures { result ≡ least_from from self.now }
     {
         let place = self.items.partition_point(|offset| *offset < from);
-        self.items.get(place).copied()
+        item(&self.items, place)
     }
 
     /// The least offset behind this one, if there is one.
@@ -45,6 +52,6 @@ impl Offsets {
         ensures { result ≡ least_from (offset + 1) self.now }
     {
         let place = self.items.partition_point(|other| *other <= offset);
-        self.items.get(place).copied()
+        item(&self.items, place)
     }
 }

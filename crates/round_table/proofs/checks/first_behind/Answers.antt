@@ -1,0 +1,14 @@
+use Rattle.std.proofs.Common.{rules}
+use Rattle.std.proofs.lemmas.List.Sorted.{IsPartitionPoint-from_clause}
+use Rattle.round_table.specs.declared.checks.Check.{Check}
+use Rattle.round_table.specs.CheckLists.{is_up_to}
+use Rattle.round_table.proofs.Cutting.{cut_from}
+use Rattle.round_table.proofs.CheckOrder.{up_to_partitioned}
+use Rattle.round_table.proofs.checks.first_behind.Goals as goal
+
+pub returns : goal.returns
+returns c =
+    let test = λ (check : Check). is_up_to c.args.offset check.point in
+    cut_from test c.args.checks.now _ c.partition_point.ensures.bound
+    (IsPartitionPoint-from_clause test c.args.checks.now _ c.partition_point.ensures.partitioned
+    (up_to_partitioned c.args.offset c.args.checks.now c.requires) (λ a r f k. search rules))
