@@ -2,3 +2,4 @@ pub mod Cutting
 pub mod CheckOrder
 pub mod Entries
 pub mod LeastOffsets
+pub mod SamePoints
