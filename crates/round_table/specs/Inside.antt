@@ -12,7 +12,7 @@ use Rattle.round_table.specs.CheckLists.{AreChecks}
 use Rattle.round_table.specs.NextOffset.{instants_of}
 
 -- the rows of a mode ascend, with offsets below a limit and deadlines up to it
-pub record AreRows (limit : ℕ) (mode : ModeDef) : Type 0 where
+pub record IsWithin (limit : ℕ) (mode : ModeDef) : Type 0 where
   pub ascending : IsNonDecreasingBy (λ (row : Activation). row.offset) mode.activations
   pub enables_ascending : IsNonDecreasingBy (λ (row : Enable). row.offset) mode.enables
   pub below : All (λ (row : Activation). row.offset < limit) mode.activations
@@ -25,7 +25,7 @@ point_among offsets row = if row.stringent then point.At row.deadline else at_or
 
 -- the rows, and what is computed of them: the monitoring point of each activation, the checks, and the offsets
 pub record IsTable (limit : ℕ) (mode : ModeDef) (points : List Point) (checks : List Check) (instants : List ℕ) : Type 0 where
-  pub rows : AreRows limit mode
+  pub rows : IsWithin limit mode
   pub points_are : points ≡ map (point_of mode) mode.activations
   pub checks_are : AreChecks points checks
   pub instants_are : IsPermutation (instants_of mode) instants

@@ -7,7 +7,7 @@ ghost use Rattle.tt_world.specs.Points.{point_of};
 ghost use Rattle.tt_world.specs.Rows.{entry_at, row_of};
 ghost use Rattle.round_table.specs.Cuts.{IsCut};
 ghost use Rattle.round_table.specs.DueRows.{checks_below, checks_of, due_at, enables_at, enables_of, entries_due};
-ghost use Rattle.round_table.specs.Inside.{AreRows};
+ghost use Rattle.round_table.specs.Inside.{IsWithin};
 ghost use Rattle.round_table.specs.NextOffset.{IsBefore, IsFree, next_after};
 ghost use Rattle.round_table.specs.TableRows.{mode_at, table_of};
 
@@ -86,7 +86,7 @@ fn copied<T: Copy>(alloc: Global, items: &[T]) -> Result<Vec<T>, Memory>
 
 /// The table of a mode whose activations and enables come before a limit.
 pub(crate) fn of_mode(alloc: Global, mode: &ModeDef, limit: u64) -> Result<Table, Memory>
-    requires { AreRows limit mode.now }
+    requires { IsWithin limit mode.now }
     ensures { IfOk result (λ table. table ≡ record { mode = mode.now; limit = limit }) }
 {
     let points = points_of(alloc, mode)?;

@@ -1,0 +1,17 @@
+-- What a table keeps of a mode, where its rows are copies.
+use Rattle.std.proofs.Common.{ℕ, ◌≡◌, List, refl, sym, ap, ◌∙◌, subst}
+use Rattle.tt_world.specs.declared.config.Activation.{Activation}
+use Rattle.tt_world.specs.declared.config.Enable.{Enable}
+use Rattle.tt_world.specs.declared.config.ModeDef.{ModeDef}
+use Rattle.tt_world.specs.declared.world.Point.{Point}
+use Rattle.round_table.specs.declared.checks.Check.{Check}
+use Rattle.round_table.specs.Inside.{IsTable}
+
+abbrev pub mode_with : List Activation → List Enable → ModeDef
+mode_with activations enables = record { activations = activations; enables = enables }
+
+pub table_kept : (limit : ℕ) (mode : ModeDef) (activations : List Activation) (enables : List Enable) (points : List Point) (checks : List Check) (instants : List ℕ)
+    → activations ≡ mode.activations → enables ≡ mode.enables → IsTable limit mode points checks instants → IsTable limit (mode_with activations enables) points checks instants
+table_kept limit mode activations enables points checks instants one other h =
+    let same : mode_with activations enables ≡ mode = ap (λ rows. mode_with rows enables) one ∙ ap (λ rows. mode_with mode.activations rows) other in
+    subst (λ (m : ModeDef). IsTable limit m points checks instants) (sym same) h
