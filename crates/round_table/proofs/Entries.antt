@@ -3,6 +3,7 @@ use Rattle.std.proofs.Common.{ℕ, zero, suc, ◌≡◌, ◌≤◌, ◌<◌, ◌
 use Rattle.std.specs.Prelude.{filter}
 use Rattle.std.specs.List.{enumerate_from, All}
 use Rattle.std.proofs.lemmas.List.{take_more, map-append, length-take-le}
+use Rattle.std.proofs.lemmas.List.Elements.{All-cons, All-head, All-nil, All-tail}
 use Rattle.tt_world.specs.declared.world.Point.{Point}
 use Rattle.round_table.specs.declared.checks.Check.{Check}
 use Rattle.round_table.specs.CheckLists.{numbered}
@@ -26,3 +27,35 @@ numbered_more points i d l =
     ∙ ap (map check_of) (enumerate-push 0 (take i points) (get_or points i d))
     ∙ map-append check_of (enumerate_from 0 (take i points)) ((0 + length (take i points), get_or points i d) ∷ [])
     ∙ ap (λ n. numbered (take i points) ++ record { point = get_or points i d; entry = n } ∷ []) long
+
+-- the entries of the checks of some rows that pass a test of their points
+module _ {X : Type 0} (point_of : X → Point) (is_due : Point → Bool) where
+  numbered_from : (n : ℕ) (rows : List X)
+      → map (λ (check : Check). check.entry) (filter (λ (check : Check). is_due check.point) (map check_of (enumerate_from n (map point_of rows))))
+      ≡ map (λ (e : ℕ × X). e.0) (filter (λ (e : ℕ × X). is_due (point_of e.1)) (enumerate_from n rows))
+  numbered_from n [] = refl
+  numbered_from n (row ∷ rows) = at (is_due (point_of row)) (numbered_from (n + 1) rows) where
+    checks : List Check
+    checks = filter (λ (check : Check). is_due check.point) (map check_of (enumerate_from (n + 1) (map point_of rows)))
+
+    places : List (ℕ × X)
+    places = filter (λ (e : ℕ × X). is_due (point_of e.1)) (enumerate_from (n + 1) rows)
+
+    at : (b : Bool) → map (λ (check : Check). check.entry) checks ≡ map (λ (e : ℕ × X). e.0) places
+        → map (λ (check : Check). check.entry) (cond b (check_of (n, point_of row) ∷ checks) checks) ≡ map (λ (e : ℕ × X). e.0) (cond b ((n, row) ∷ places) places)
+    at true rest = ap (λ entries. n ∷ entries) rest
+    at false rest = rest
+
+  pub numbered_entries : (rows : List X)
+      → map (λ (check : Check). check.entry) (filter (λ (check : Check). is_due check.point) (numbered (map point_of rows)))
+      ≡ map (λ (e : ℕ × X). e.0) (filter (λ (e : ℕ × X). is_due (point_of e.1)) (enumerate_from 0 rows))
+  numbered_entries rows = numbered_from 0 rows
+
+-- what holds of all points holds of the points of their checks
+all_from : (P : Point → Type 0) (n : ℕ) (points : List Point) → All P points → All (λ (check : Check). P check.point) (map check_of (enumerate_from n points))
+all_from P n [] h = All-nil (λ (check : Check). P check.point)
+all_from P n (p ∷ ps) h =
+    All-cons (λ (check : Check). P check.point) (check_of (n, p)) _ (All-head P p ps h) (all_from P (n + 1) ps (All-tail P p ps h))
+
+pub all_numbered : (P : Point → Type 0) (points : List Point) → All P points → All (λ (check : Check). P check.point) (numbered points)
+all_numbered P points h = all_from P 0 points h

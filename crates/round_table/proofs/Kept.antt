@@ -1,11 +1,14 @@
 -- What a table keeps of a mode, where its rows are copies.
-use Rattle.std.proofs.Common.{ℕ, ◌≡◌, List, refl, sym, ap, ◌∙◌, subst}
+use Rattle.std.proofs.Common.{ℕ, ◌≡◌, List, map, refl, sym, ap, ◌∙◌, subst}
 use Rattle.tt_world.specs.declared.config.Activation.{Activation}
 use Rattle.tt_world.specs.declared.config.Enable.{Enable}
 use Rattle.tt_world.specs.declared.config.ModeDef.{ModeDef}
 use Rattle.tt_world.specs.declared.world.Point.{Point}
 use Rattle.round_table.specs.declared.checks.Check.{Check}
+use Rattle.tt_world.specs.Points.{point_of}
+use Rattle.round_table.specs.CheckLists.{AreChecks}
 use Rattle.round_table.specs.Inside.{IsTable}
+use Rattle.round_table.specs.TableRows.{TableRows}
 
 abbrev pub mode_with : List Activation → List Enable → ModeDef
 mode_with activations enables = record { activations = activations; enables = enables }
@@ -15,3 +18,11 @@ pub table_kept : (limit : ℕ) (mode : ModeDef) (activations : List Activation) 
 table_kept limit mode activations enables points checks instants one other h =
     let same : mode_with activations enables ≡ mode = ap (λ rows. mode_with rows enables) one ∙ ap (λ rows. mode_with mode.activations rows) other in
     subst (λ (m : ModeDef). IsTable limit m points checks instants) (sym same) h
+
+-- the same of the rows that contracts see
+pub table_seen : (table : TableRows) (limit : ℕ) (mode : ModeDef) (points : List Point) (checks : List Check) (instants : List ℕ)
+    → record { mode = mode; limit = limit } ≡ table → IsTable limit mode points checks instants → IsTable table.limit table.mode points checks instants
+table_seen table limit mode points checks instants is h = subst (λ (t : TableRows). IsTable t.limit t.mode points checks instants) is h
+
+pub checks_kept : (limit : ℕ) (mode : ModeDef) (points : List Point) (checks : List Check) (instants : List ℕ) → IsTable limit mode points checks instants → AreChecks (map (point_of mode) mode.activations) checks
+checks_kept limit mode points checks instants h = subst (λ (ps : List Point). AreChecks ps checks) h.points_are h.checks_are

@@ -6,3 +6,4 @@ pub mod SamePoints
 pub mod ModeRows
 pub mod PointLimits
 pub mod Kept
+pub mod Places
