@@ -7,3 +7,5 @@ pub mod ModeRows
 pub mod PointLimits
 pub mod Kept
 pub mod Places
+pub mod TableEntries
+pub mod FreeOffsets

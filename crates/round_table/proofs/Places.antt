@@ -13,7 +13,7 @@ use Rattle.tt_world.specs.declared.world.Point.TheVariants as point
 use Rattle.tt_world.specs.Monitoring.{is_at, is_at_end}
 use Rattle.tt_world.specs.Points.{point_of}
 use Rattle.round_table.specs.declared.checks.Check.{Check}
-use Rattle.round_table.specs.CheckLists.{is_below, is_up_to, numbered, AreChecks}
+use Rattle.round_table.specs.CheckLists.{entries_in, is_below, is_up_to, numbered, AreChecks}
 use Rattle.round_table.specs.Cuts.{IsCut}
 use Rattle.round_table.specs.DueRows.{entries_due, is_round_end, checks_below, checks_of}
 use Rattle.round_table.specs.Inside.{IsWithin}
@@ -22,9 +22,6 @@ use Rattle.round_table.proofs.CheckOrder.{below_partitioned, below_up_to, below_
 use Rattle.round_table.proofs.Cutting.{filter_all, filter_none, filter_alike, filter_split, cut_alike, cut_all, cut_between, cut_length}
 use Rattle.round_table.proofs.Entries.{numbered_entries, all_numbered}
 use Rattle.round_table.proofs.PointLimits.{IfOffset, IsOffset, points_within, points_one_end, within_or_end, end_alone, end_at}
-
-abbrev pub entries_in : List Check → List ℕ
-entries_in checks = map (λ (check : Check). check.entry) checks
 
 abbrev pub kept : (Point → Bool) → List Check → List Check
 kept is_due checks = filter (λ (check : Check). is_due check.point) checks

@@ -30,6 +30,9 @@ is_up_to offset point.RoundEnd = false
 abbrev pub numbered : List Point → List Check
 numbered points = map (λ (e : ℕ × Point). record { point = e.1; entry = e.0 }) (enumerate_from 0 points)
 
+abbrev pub entries_in : List Check → List ℕ
+entries_in checks = map (λ (check : Check). check.entry) checks
+
 abbrev pub is_earlier : Check → Check → Bool
 is_earlier check other = comes_before check.point other.point
 

@@ -1,9 +1,9 @@
 //! The checks of a mode in the order of their monitoring points.
 
-ghost use Rattle.std.specs.Prelude.{◌≡◌, IfOk, OnOk};
+ghost use Rattle.std.specs.Prelude.{◌≡◌, ◌<◌, IfOk, OnOk, length, slice_get};
 ghost use Rattle.std.specs.List.Sorted.{IsSortedBy};
 ghost use Rattle.std.specs.Ordering.{is_lt};
-ghost use Rattle.round_table.specs.CheckLists.{AreChecks, comes_before, is_below, is_earlier, is_up_to, numbered};
+ghost use Rattle.round_table.specs.CheckLists.{AreChecks, comes_before, entries_in, is_below, is_earlier, is_up_to, numbered};
 ghost use Rattle.round_table.specs.Cuts.{IsCut};
 
 use std::alloc::Global;
@@ -77,6 +77,14 @@ pub(crate) fn in_order(alloc: Global, points: &[Point]) -> Result<Vec<Check>, Me
         Ok(()) => Ok(checks),
         Err(_) => Err(Memory),
     }
+}
+
+/// The entry number of the check at a place.
+pub(crate) fn entry_in(checks: &[Check], place: usize) -> usize
+    requires { place < length checks.now }
+    ensures { slice_get (entries_in checks.now) place ≡ Some result }
+{
+    checks[place].entry
 }
 
 /// The place behind the checks whose points are offsets below this one.

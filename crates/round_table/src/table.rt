@@ -11,7 +11,7 @@ ghost use Rattle.round_table.specs.Inside.{IsWithin};
 ghost use Rattle.round_table.specs.NextOffset.{IsBefore, IsFree, next_after};
 ghost use Rattle.round_table.specs.TableRows.{mode_at, table_of};
 
-use crate::checks::{Check, first_behind, first_from, in_order};
+use crate::checks::{Check, entry_in, first_behind, first_from, in_order};
 use crate::due::Due;
 use crate::offsets::Offsets;
 use crate::points::{instants_of, points_of};
@@ -143,7 +143,7 @@ impl Table {
         requires { place < length (checks_of self.now) }
         ensures { slice_get (checks_of self.now) place ≡ Some result }
     {
-        self.checks[place].entry
+        entry_in(&self.checks, place)
     }
 
     /// The routine of the enable at a place of the table's list of enables.
