@@ -12,6 +12,7 @@ use Rattle.tt_base.specs.declared.number.IsrNo.{IsrNo}
 use Rattle.tt_world.specs.declared.config.Activation.{Activation}
 use Rattle.tt_world.specs.declared.config.Enable.{Enable}
 use Rattle.tt_world.specs.Rows.{no_row, entry_at}
+use Rattle.round_table.specs.declared.due.Due.{Due}
 use Rattle.round_table.specs.Cuts.{IsCut}
 use Rattle.round_table.specs.DueRows.{isrs_of}
 use Rattle.round_table.proofs.Cutting.{cut_between}
@@ -82,3 +83,16 @@ module _ (rows : List Enable) (offset : ℕ) where
       ∙ ap isrs_of
       (cut_between (λ (row : Enable). nat_lt row.offset offset) (λ (row : Enable). nat_le row.offset offset) wider rows i j one other
       ∙ filter_agree (λ (row : Enable). nat_le row.offset offset && not (nat_lt row.offset offset)) (λ (row : Enable). row.offset == offset) there rows)
+
+-- ---- what is due
+
+due_with : ℕ → ℕ → ℕ → ℕ → Option ℕ → Due
+due_with a b c d e = record { checks_from = a; checks_to = b; enables_from = c; enables_to = d; activation = e }
+
+pub due_is : (a a' b b' c c' d d' : ℕ) (e e' : Option ℕ) → a ≡ a' → b ≡ b' → c ≡ c' → d ≡ d' → e ≡ e'
+    → ◌≡◌ {A = Due} (record { checks_from = a; checks_to = b; enables_from = c; enables_to = d; activation = e })
+    (record { checks_from = a'; checks_to = b'; enables_from = c'; enables_to = d'; activation = e' })
+unfolding due_with
+due_is a a' b b' c c' d d' e e' p q r s t =
+    ap (λ n. due_with n b c d e) p ∙ ap (λ n. due_with a' n c d e) q ∙ ap (λ n. due_with a' b' n d e) r ∙ ap (λ n. due_with a' b' c' n e) s
+    ∙ ap (due_with a' b' c' d') t

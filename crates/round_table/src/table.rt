@@ -47,6 +47,14 @@ impl Model for Table {
     ghost invariant = { λ t. IsTable t.limit (record { activations = t.activations.items; enables = t.enables.items }) t.points.items t.checks.items t.instants };
 }
 
+/// The place behind the activations that come before an offset.
+fn activations_before(rows: &[Activation], offset: u64) -> usize
+    requires { IsNonDecreasingBy (λ row. row.offset) rows.now }
+    ensures { IsCut (λ row. nat_lt row.offset offset) rows.now result }
+{
+    rows.partition_point(|row| row.offset < offset)
+}
+
 /// The place behind the enables that come before an offset.
 fn enables_before(rows: &[Enable], offset: u64) -> usize
     requires { IsNonDecreasingBy (λ row. row.offset) rows.now }
@@ -68,7 +76,7 @@ fn entry_at(rows: &[Activation], offset: u64) -> Option<usize>
     requires { IsNonDecreasingBy (λ row. row.offset) rows.now }
     ensures { result ≡ entry_at offset rows.now }
 {
-    let place = rows.partition_point(|row| row.offset < offset);
+    let place = activations_before(rows, offset);
     match rows.get(place) {
         Some(row) if row.offset == offset => Some(place),
         _ => None,
