@@ -1,12 +1,16 @@
 -- Entry numbers of checks.
-use Rattle.std.proofs.Common.{ℕ, zero, suc, ◌≡◌, ◌≤◌, ◌<◌, ◌+◌, Bool, true, false, cond, List, [], ◌∷◌, ◌++◌, length, get_or, take, map, refl, sym, ap, ◌∙◌, arith}
+use Rattle.std.proofs.Common.{ℕ, zero, suc, ◌≡◌, ◌≤◌, ◌<◌, ◌+◌, Bool, true, false, cond, List, [], ◌∷◌, ◌++◌, length, get_or, take, map, refl, sym, ap, ◌∙◌, zero-add, arith}
 use Rattle.std.specs.Prelude.{filter}
-use Rattle.std.specs.List.{enumerate_from, All}
+use Rattle.std.specs.List.{enumerate_from, range_with_len, All}
 use Rattle.std.proofs.lemmas.List.{take_more, map-append, length-take-le}
 use Rattle.std.proofs.lemmas.List.Elements.{All-cons, All-head, All-nil, All-tail}
+use Rattle.tt_world.specs.declared.config.ModeDef.{ModeDef}
 use Rattle.tt_world.specs.declared.world.Point.{Point}
+use Rattle.tt_world.specs.Points.{point_of}
+use Rattle.tt_world.specs.Rows.{no_row, row_of}
 use Rattle.round_table.specs.declared.checks.Check.{Check}
-use Rattle.round_table.specs.CheckLists.{numbered}
+use Rattle.round_table.specs.CheckLists.{entries_in, numbered}
+use Rattle.round_table.specs.DueRows.{entries_due}
 
 -- the check of a point with its place
 abbrev check_of : ℕ × Point → Check
@@ -29,27 +33,28 @@ numbered_more points i d l =
     ∙ ap (λ n. numbered (take i points) ++ record { point = get_or points i d; entry = n } ∷ []) long
 
 -- the entries of the checks of some rows that pass a test of their points
-module _ {X : Type 0} (point_of : X → Point) (is_due : Point → Bool) where
-  numbered_from : (n : ℕ) (rows : List X)
-      → map (λ (check : Check). check.entry) (filter (λ (check : Check). is_due check.point) (map check_of (enumerate_from n (map point_of rows))))
-      ≡ map (λ (e : ℕ × X). e.0) (filter (λ (e : ℕ × X). is_due (point_of e.1)) (enumerate_from n rows))
-  numbered_from n [] = refl
-  numbered_from n (row ∷ rows) = at (is_due (point_of row)) (numbered_from (n + 1) rows) where
+module _ {X : Type 0} (point_of : X → Point) (is_due : Point → Bool) (row_at : ℕ → X) (d : X) where
+  numbered_from : (n : ℕ) (rows : List X) → ((k entry : ℕ) → entry ≡ n + k → k < length rows → row_at entry ≡ get_or rows k d)
+      → entries_in (filter (λ (check : Check). is_due check.point) (map check_of (enumerate_from n (map point_of rows))))
+      ≡ filter (λ entry. is_due (point_of (row_at entry))) (range_with_len n (length rows))
+  numbered_from n [] h = refl
+  numbered_from n (row ∷ rows) h =
+      at (is_due (point_of row)) (numbered_from (n + 1) rows (λ k entry is l. h (suc k) entry (omega arith) (omega arith)))
+      ∙ ap (λ b. cond b (n ∷ entries) entries) (ap (λ r. is_due (point_of r)) (sym (h 0 n (omega arith) (omega arith)))) where
     checks : List Check
     checks = filter (λ (check : Check). is_due check.point) (map check_of (enumerate_from (n + 1) (map point_of rows)))
 
-    places : List (ℕ × X)
-    places = filter (λ (e : ℕ × X). is_due (point_of e.1)) (enumerate_from (n + 1) rows)
+    entries : List ℕ
+    entries = filter (λ entry. is_due (point_of (row_at entry))) (range_with_len (n + 1) (length rows))
 
-    at : (b : Bool) → map (λ (check : Check). check.entry) checks ≡ map (λ (e : ℕ × X). e.0) places
-        → map (λ (check : Check). check.entry) (cond b (check_of (n, point_of row) ∷ checks) checks) ≡ map (λ (e : ℕ × X). e.0) (cond b ((n, row) ∷ places) places)
-    at true rest = ap (λ entries. n ∷ entries) rest
+    at : (b : Bool) → entries_in checks ≡ entries → entries_in (cond b (check_of (n, point_of row) ∷ checks) checks) ≡ cond b (n ∷ entries) entries
+    at true rest = ap (λ ns. n ∷ ns) rest
     at false rest = rest
 
-  pub numbered_entries : (rows : List X)
-      → map (λ (check : Check). check.entry) (filter (λ (check : Check). is_due check.point) (numbered (map point_of rows)))
-      ≡ map (λ (e : ℕ × X). e.0) (filter (λ (e : ℕ × X). is_due (point_of e.1)) (enumerate_from 0 rows))
-  numbered_entries rows = numbered_from 0 rows
+pub numbered_entries : (mode : ModeDef) (is_due : Point → Bool)
+    → entries_in (filter (λ (check : Check). is_due check.point) (numbered (map (point_of mode) mode.activations))) ≡ entries_due is_due mode
+numbered_entries mode is_due =
+    numbered_from (point_of mode) is_due (row_of mode) no_row 0 mode.activations (λ k entry is l. ap (row_of mode) (is ∙ zero-add k))
 
 -- what holds of all points holds of the points of their checks
 all_from : (P : Point → Type 0) (n : ℕ) (points : List Point) → All P points → All (λ (check : Check). P check.point) (map check_of (enumerate_from n points))

@@ -1,8 +1,9 @@
 -- Nothing stands between an offset and the next at which something does.
 use Rattle.std.proofs.Common.{ℕ, ◌≡◌, ◌≤◌, ◌<◌, ◌+◌, Bool, true, false, List, [], ◌∷◌, ◌++◌, length, get_or, map, Option, None, Some, refl, sym, ap, ◌∙◌, arith}
 use Rattle.std.specs.Prelude.{◌==◌, filter}
-use Rattle.std.specs.List.{All, enumerate_from}
+use Rattle.std.specs.List.{All}
 use Rattle.std.proofs.lemmas.Bool.{ne_eqb}
+use Rattle.std.proofs.lemmas.List.FromFn.{length-range_with_len, get_or-range_with_len}
 use Rattle.std.proofs.lemmas.List.Elements.{All-cons, All-head, All-nil, All-tail, All-weaker}
 use Rattle.tt_world.specs.declared.config.Activation.{Activation}
 use Rattle.tt_world.specs.declared.config.Enable.{Enable}
@@ -11,8 +12,8 @@ use Rattle.tt_world.specs.declared.world.Point.{Point}
 use Rattle.tt_world.specs.declared.world.Point.TheVariants as point
 use Rattle.tt_world.specs.Monitoring.{is_at}
 use Rattle.tt_world.specs.Points.{point_of, least_from}
-use Rattle.tt_world.specs.Rows.{no_row, entry_at}
-use Rattle.round_table.specs.DueRows.{entries_due, enables_at, isrs_of}
+use Rattle.tt_world.specs.Rows.{no_row, row_of}
+use Rattle.round_table.specs.DueRows.{entries_of, isrs_of}
 use Rattle.round_table.specs.NextOffset.{offset_in, offsets_among, instants_of, next_after, IsFree, IsBefore}
 use Rattle.round_table.proofs.Cutting.{filter_none}
 use Rattle.round_table.proofs.LeastOffsets.{IsLeastFrom, least_is}
@@ -35,11 +36,6 @@ all_among P (point.At offset ∷ points) h =
     All-cons (IfOffset P) (point.At offset) points (All-head P offset (offsets_among points) h)
     (all_among P points (All-tail P offset (offsets_among points) h))
 all_among P (point.RoundEnd ∷ points) h = All-cons (IfOffset P) point.RoundEnd points tt (all_among P points h)
-
-all_enumerated : {X : Type 0} (P : X → Type 0) (n : ℕ) (xs : List X) → All P xs → All (λ (e : ℕ × X). P e.1) (enumerate_from n xs)
-all_enumerated {X} P n [] h = All-nil (λ (e : ℕ × X). P e.1)
-all_enumerated {X} P n (x ∷ xs) h =
-    All-cons (λ (e : ℕ × X). P e.1) (n, x) (enumerate_from (n + 1) xs) (All-head P x xs h) (all_enumerated P (n + 1) xs (All-tail P x xs h))
 
 -- ---- offsets between
 
@@ -83,11 +79,12 @@ module _ (offset between : ℕ) (after : offset < between) where
     pub free_between : IsFree between mode
     free_between = record {
       checks =
-          ap (map (λ (e : ℕ × Activation). e.0))
-          (filter_none (λ (e : ℕ × Activation). is_at between (point_of mode e.1)) (enumerate_from 0 mode.activations)
-          (All-weaker (λ (e : ℕ × Activation). IfOffset (λ x. x ≡ between → ⊥) (point_of mode e.1)) (λ (e : ℕ × Activation). is_at between (point_of mode e.1) ≡ false)
-          (λ e h. not_at (point_of mode e.1) h) (enumerate_from 0 mode.activations)
-          (all_enumerated (λ (row : Activation). IfOffset (λ x. x ≡ between → ⊥) (point_of mode row)) 0 mode.activations points_elsewhere)));
+          filter_none (λ entry. is_at between (point_of mode (row_of mode entry))) (entries_of mode)
+          (λ k d l.
+          let within : k < length mode.activations = omega (arith, length-range_with_len 0 (length mode.activations)) in
+          let same : get_or (entries_of mode) k d ≡ 0 + k = get_or-range_with_len 0 (length mode.activations) k d within in
+          let there : get_or (entries_of mode) k d < length mode.activations = omega arith in
+          not_at (point_of mode (row_of mode (get_or (entries_of mode) k d))) (points_elsewhere (get_or (entries_of mode) k d) no_row there));
       enables =
           ap isrs_of
           (filter_none (λ (row : Enable). row.offset == between) mode.enables (λ k d l. ne_eqb (get_or mode.enables k d).offset between (enables_elsewhere k d l)));

@@ -44,10 +44,10 @@ module _ (limit : ℕ) (mode : ModeDef) (checks : List Check) (within : IsWithin
   all_checks P h = All-permutation (λ (check : Check). P check.point) (numbered points) checks are.permutation (all_numbered P points h)
 
   entries_at : (offset : ℕ) → entries_in (kept (is_at offset) checks) ≡ entries_due (is_at offset) mode
-  entries_at offset = ap entries_in (grouped_at points checks are offset) ∙ numbered_entries (point_of mode) (is_at offset) mode.activations
+  entries_at offset = ap entries_in (grouped_at points checks are offset) ∙ numbered_entries mode (is_at offset)
 
   entries_end : entries_in (kept is_round_end checks) ≡ entries_due is_round_end mode
-  entries_end = ap entries_in (grouped_end points checks are) ∙ numbered_entries (point_of mode) is_round_end mode.activations
+  entries_end = ap entries_in (grouped_end points checks are) ∙ numbered_entries mode is_round_end
 
   -- ---- the list
 
@@ -162,4 +162,4 @@ module _ (limit : ℕ) (mode : ModeDef) (checks : List Check) (within : IsWithin
       ∙ filter_agree (λ (check : Check). not (is_below round_length check.point)) (λ (check : Check). is_at_end round_length check.point)
       (λ check. end_is round_length check.point) checks)
       ∙ ap entries_in (end_kept round_length le)
-      ∙ numbered_entries (point_of mode) (is_at_end round_length) mode.activations
+      ∙ numbered_entries mode (is_at_end round_length)

@@ -1,25 +1,26 @@
 -- What stands at an offset of a dispatcher table, and where in the lists of the table.
 use Rattle.std.specs.Prelude.{ℕ, zero, suc, ◌==◌, nat_le, nat_lt, Bool, true, false, List, [], ◌++◌, map, filter, length, count_by}
-use Rattle.std.specs.List.{enumerate_from}
+use Rattle.std.specs.List.{range_with_len}
 use Rattle.tt_base.specs.declared.number.IsrNo.{IsrNo}
-use Rattle.tt_world.specs.declared.config.Activation.{Activation}
 use Rattle.tt_world.specs.declared.config.Enable.{Enable}
 use Rattle.tt_world.specs.declared.config.ModeDef.{ModeDef}
 use Rattle.tt_world.specs.declared.world.Point.{Point}
 use Rattle.tt_world.specs.declared.world.Point.TheVariants as point
 use Rattle.tt_world.specs.Monitoring.{is_at}
 use Rattle.tt_world.specs.Points.{point_of}
-use Rattle.tt_world.specs.Rows.{entry_at}
+use Rattle.tt_world.specs.Rows.{entry_at, row_of}
 use Rattle.round_table.specs.declared.due.Due.{Due}
 use Rattle.round_table.specs.TableRows.{TableRows}
 
 -- ---- checks
 
--- the entry numbers of the activations whose monitoring point passes a test, in ascending order
+-- the entry numbers of a mode, in ascending order
+abbrev pub entries_of : ModeDef → List ℕ
+entries_of mode = range_with_len 0 (length mode.activations)
+
+-- those of the activations whose monitoring point passes a test
 abbrev pub entries_due : (Point → Bool) → ModeDef → List ℕ
-entries_due is_due mode =
-    map (λ (e : ℕ × Activation). e.0)
-    (filter (λ (e : ℕ × Activation). is_due (point_of mode e.1)) (enumerate_from 0 mode.activations))
+entries_due is_due mode = filter (λ entry. is_due (point_of mode (row_of mode entry))) (entries_of mode)
 
 -- whether a point is the round's end
 abbrev pub is_round_end : Point → Bool
