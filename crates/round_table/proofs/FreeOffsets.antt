@@ -1,10 +1,10 @@
 -- Nothing stands between an offset and the next at which something does.
 use Rattle.std.proofs.Common.{ℕ, ◌≡◌, ◌≤◌, ◌<◌, ◌+◌, Bool, true, false, List, [], ◌∷◌, ◌++◌, length, get_or, map, Option, None, Some, refl, sym, ap, ◌∙◌, arith}
-use Rattle.std.specs.Prelude.{◌==◌, filter}
+use Rattle.std.specs.Prelude.{◌==◌, filter, IfSome}
 use Rattle.std.specs.List.{All}
 use Rattle.std.proofs.lemmas.Bool.{ne_eqb}
 use Rattle.std.proofs.lemmas.List.FromFn.{length-range_with_len, get_or-range_with_len}
-use Rattle.std.proofs.lemmas.List.Elements.{All-cons, All-head, All-nil, All-tail, All-weaker}
+use Rattle.std.proofs.lemmas.List.Elements.{All-append, All-cons, All-contains, All-head, All-map, All-nil, All-tail, All-weaker}
 use Rattle.tt_world.specs.declared.config.Activation.{Activation}
 use Rattle.tt_world.specs.declared.config.Enable.{Enable}
 use Rattle.tt_world.specs.declared.config.ModeDef.{ModeDef}
@@ -14,10 +14,11 @@ use Rattle.tt_world.specs.Monitoring.{is_at}
 use Rattle.tt_world.specs.Points.{point_of, least_from}
 use Rattle.tt_world.specs.Rows.{no_row, row_of}
 use Rattle.round_table.specs.DueRows.{entries_of, isrs_of}
-use Rattle.round_table.specs.NextOffset.{offset_in, offsets_among, instants_of, next_after, IsFree, IsBefore}
+use Rattle.round_table.specs.Inside.{IsWithin}
+use Rattle.round_table.specs.NextOffset.{offset_in, offsets_among, row_offsets, instants_of, next_after, IsFree, IsBefore}
 use Rattle.round_table.proofs.Cutting.{filter_none}
 use Rattle.round_table.proofs.LeastOffsets.{IsLeastFrom, least_is}
-use Rattle.round_table.proofs.PointLimits.{IfOffset, all_right}
+use Rattle.round_table.proofs.PointLimits.{IfOffset, all_right, points_within}
 use Rattle.round_table.proofs.TableEntries.{position_none}
 
 -- ---- lists
@@ -26,7 +27,7 @@ all_left : {X : Type 0} (P : X → Type 0) (xs ys : List X) → All P (xs ++ ys)
 all_left P [] ys h = All-nil P
 all_left P (x ∷ xs) ys h = All-cons P x xs (All-head P x (xs ++ ys) h) (all_left P xs ys (All-tail P x (xs ++ ys) h))
 
-all_before : {X Y : Type 0} (P : Y → Type 0) (f : X → Y) (xs : List X) → All P (map f xs) → All (λ x. P (f x)) xs
+pub all_before : {X Y : Type 0} (P : Y → Type 0) (f : X → Y) (xs : List X) → All P (map f xs) → All (λ x. P (f x)) xs
 all_before P f [] h = All-nil (λ x. P (f x))
 all_before P f (x ∷ xs) h = All-cons (λ y. P (f y)) x xs (All-head P (f x) (map f xs) h) (all_before P f xs (All-tail P (f x) (map f xs) h))
 
@@ -92,3 +93,28 @@ module _ (offset between : ℕ) (after : offset < between) where
           position_none (λ (row : Activation). row.offset == between) mode.activations no_row
           (λ k l. ne_eqb (get_or mode.activations k no_row).offset between (activations_elsewhere k no_row l));
     }
+
+-- ---- the next offset
+
+module _ (limit : ℕ) (mode : ModeDef) (within : IsWithin limit mode) where
+  offsets_of : (points : List Point) → All (IfOffset (λ offset. offset ≤ limit)) points → All (λ offset. offset ≤ limit) (offsets_among points)
+  offsets_of [] h = All-nil (λ offset. offset ≤ limit)
+  offsets_of (point.At offset ∷ points) h =
+      All-cons (λ x. x ≤ limit) offset (offsets_among points) (All-head (IfOffset (λ x. x ≤ limit)) (point.At offset) points h)
+      (offsets_of points (All-tail (IfOffset (λ x. x ≤ limit)) (point.At offset) points h))
+  offsets_of (point.RoundEnd ∷ points) h = offsets_of points (All-tail (IfOffset (λ x. x ≤ limit)) point.RoundEnd points h)
+
+  instants_within : All (λ offset. offset ≤ limit) (instants_of mode)
+  instants_within =
+      All-append (λ x. x ≤ limit) (row_offsets mode) (offsets_among (map (point_of mode) mode.activations))
+      (All-append (λ x. x ≤ limit) (map (λ (row : Activation). row.offset) mode.activations) (map (λ (row : Enable). row.offset) mode.enables)
+      (All-map (λ x. x ≤ limit) (λ (row : Activation). row.offset) mode.activations (λ k d l. let less = within.below k d l in omega arith))
+      (All-map (λ x. x ≤ limit) (λ (row : Enable). row.offset) mode.enables (λ k d l. let less = within.enables_below k d l in omega arith)))
+      (offsets_of (map (point_of mode) mode.activations) (points_within limit mode within))
+
+  -- it comes after the offset, and not after the limit
+  pub next_ahead : (offset : ℕ) → IfSome (next_after offset mode) (λ next. (offset < next) × (next ≤ limit))
+  next_ahead offset = by (next_after offset mode) (least_is (offset + 1) (instants_of mode)) where
+    by : (next : Option ℕ) → IsLeastFrom (offset + 1) (instants_of mode) next → IfSome next (λ m. (offset < m) × (m ≤ limit))
+    by None h = tt
+    by (Some m) h = (let le = h.0 in omega arith, All-contains (λ x. x ≤ limit) (instants_of mode) m instants_within h.1)

@@ -1,14 +1,18 @@
 -- What a table keeps of a mode, where its rows are copies.
-use Rattle.std.proofs.Common.{ℕ, ◌≡◌, List, map, refl, sym, ap, ◌∙◌, subst}
+use Rattle.std.proofs.Common.{ℕ, ◌≡◌, ◌<◌, List, length, map, refl, sym, ap, ◌∙◌, subst}
+use Rattle.std.proofs.lemmas.List.{get_or-map}
+use Rattle.tt_base.specs.declared.number.ModeNo.{ModeNo}
 use Rattle.tt_world.specs.declared.config.Activation.{Activation}
 use Rattle.tt_world.specs.declared.config.Enable.{Enable}
 use Rattle.tt_world.specs.declared.config.ModeDef.{ModeDef}
 use Rattle.tt_world.specs.declared.world.Point.{Point}
 use Rattle.round_table.specs.declared.checks.Check.{Check}
+use Rattle.tt_world.specs.declared.config.ConfigParts.{ConfigParts}
+use Rattle.tt_world.specs.Rows.{no_mode}
 use Rattle.tt_world.specs.Points.{point_of}
 use Rattle.round_table.specs.CheckLists.{AreChecks}
 use Rattle.round_table.specs.Inside.{IsTable}
-use Rattle.round_table.specs.TableRows.{TableRows}
+use Rattle.round_table.specs.TableRows.{TableRows, table_of, tables_of, mode_at, table_at, no_table}
 
 abbrev pub mode_with : List Activation → List Enable → ModeDef
 mode_with activations enables = record { activations = activations; enables = enables }
@@ -26,3 +30,7 @@ table_seen table limit mode points checks instants is h = subst (λ (t : TableRo
 
 pub checks_kept : (limit : ℕ) (mode : ModeDef) (points : List Point) (checks : List Check) (instants : List ℕ) → IsTable limit mode points checks instants → AreChecks (map (point_of mode) mode.activations) checks
 checks_kept limit mode points checks instants h = subst (λ (ps : List Point). AreChecks ps checks) h.points_are h.checks_are
+
+-- the table of a mode among all tables
+pub table_of_mode : (c : ConfigParts) (mode : ModeNo) → mode.0 < length c.modes → table_at (tables_of c) mode ≡ table_of c (mode_at c mode)
+table_of_mode c mode l = get_or-map (table_of c) c.modes mode.0 no_mode no_table l

@@ -9,3 +9,4 @@ pub mod Kept
 pub mod Places
 pub mod TableEntries
 pub mod FreeOffsets
+pub mod RowOrder

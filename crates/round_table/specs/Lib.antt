@@ -4,3 +4,4 @@ pub mod NextOffset
 pub mod Cuts
 pub mod CheckLists
 pub mod Inside
+pub mod TableLaws

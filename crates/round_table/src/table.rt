@@ -1,6 +1,6 @@
 //! The dispatcher table of a mode.
 
-ghost use Rattle.std.specs.Prelude.{◌≡◌, ◌≤◌, ◌<◌, ℕ, nat_le, nat_lt, length, slice_get, slice_range, IfOk};
+ghost use Rattle.std.specs.Prelude.{◌≡◌, ◌≤◌, ◌<◌, ℕ, nat_le, nat_lt, length, slice_get, slice_range, IfOk, IfSome};
 ghost use Rattle.std.specs.List.Sorted.{IsNonDecreasingBy};
 ghost use Rattle.tt_world.specs.Monitoring.{is_at, is_at_end};
 ghost use Rattle.tt_world.specs.Points.{point_of};
@@ -197,6 +197,7 @@ impl Table {
     /// The least offset behind this one at which a check, an enable or an activation stands. It is None exactly where there is none.
     pub fn next_after(&self, offset: u64) -> Option<u64>
         ensures least { result ≡ next_after offset self.now.mode }
+        ensures ahead { IfSome result (λ next. (offset < next) × (next ≤ self.now.limit)) }
         ensures free { (between : ℕ) → offset < between → IsBefore between result → IsFree between self.now.mode }
     {
         self.instants.least_after(offset)
