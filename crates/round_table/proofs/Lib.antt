@@ -10,3 +10,4 @@ pub mod Places
 pub mod TableEntries
 pub mod FreeOffsets
 pub mod RowOrder
+pub mod ExampleRules

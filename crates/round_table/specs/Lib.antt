@@ -5,3 +5,4 @@ pub mod Cuts
 pub mod CheckLists
 pub mod Inside
 pub mod TableLaws
+pub mod Example
