@@ -64,3 +64,12 @@ all_from P n (p ∷ ps) h =
 
 pub all_numbered : (P : Point → Type 0) (points : List Point) → All P points → All (λ (check : Check). P check.point) (numbered points)
 all_numbered P points h = all_from P 0 points h
+
+-- each entry number is a place of the points
+entries_from : (n : ℕ) (points : List Point) (end : ℕ) → end ≡ n + length points → All (λ (check : Check). check.entry < end) (map check_of (enumerate_from n points))
+entries_from n [] end is = All-nil (λ (check : Check). check.entry < end)
+entries_from n (p ∷ ps) end is =
+    All-cons (λ (check : Check). check.entry < end) (check_of (n, p)) _ (omega arith) (entries_from (n + 1) ps end (omega arith))
+
+pub entries_within : (points : List Point) → All (λ (check : Check). check.entry < length points) (numbered points)
+entries_within points = entries_from 0 points (length points) (omega arith)

@@ -1,12 +1,13 @@
 -- Where the checks of a table stand in its list.
-use Rattle.std.proofs.Common.{ℕ, zero, suc, ◌≡◌, ◌≤◌, ◌<◌, ◌+◌, ◌-◌, Bool, true, false, List, [], ◌∷◌, ◌++◌, length, get_or, map, take, drop, refl, sym, ap, ◌∙◌, subst, ⊎_elim, arith}
-use Rattle.std.specs.Prelude.{◌&&◌, ◌||◌, not, nat_lt, filter, slice_range}
+use Rattle.std.proofs.Common.{ℕ, zero, suc, ◌≡◌, ◌≤◌, ◌<◌, ◌+◌, ◌-◌, Bool, true, false, Some, List, [], ◌∷◌, ◌++◌, length, get_or, map, take, drop, refl, sym, ap, ◌∙◌, subst, ⊎_elim, arith}
+use Rattle.std.specs.Prelude.{◌&&◌, ◌||◌, not, nat_lt, filter, slice_get, slice_range}
 use Rattle.std.specs.List.{All}
 use Rattle.std.proofs.lemmas.Bool.{cases_lt}
 use Rattle.std.proofs.lemmas.Bool.Decides.{nat_tests}
 use Rattle.std.proofs.lemmas.List.{take-map, drop-map, length-map, map-append}
-use Rattle.std.proofs.lemmas.List.Elements.{All-weaker, filter_agree}
+use Rattle.std.proofs.lemmas.List.Elements.{All-map, All-weaker, filter_agree}
 use Rattle.std.proofs.lemmas.List.Sorted.{All-permutation}
+use Rattle.std.proofs.lemmas.Option.{get_or_from_slice_get, slice_get_within}
 use Rattle.tt_world.specs.declared.config.ModeDef.{ModeDef}
 use Rattle.tt_world.specs.declared.world.Point.{Point}
 use Rattle.tt_world.specs.declared.world.Point.TheVariants as point
@@ -20,7 +21,7 @@ use Rattle.round_table.specs.Inside.{IsWithin}
 use Rattle.round_table.specs.TableRows.{TableRows}
 use Rattle.round_table.proofs.CheckOrder.{below_partitioned, below_up_to, below_apart, below_more, below_none, below_no_end, up_to_is, end_is, grouped_at, grouped_end}
 use Rattle.round_table.proofs.Cutting.{filter_all, filter_none, filter_alike, filter_split, cut_alike, cut_all, cut_between, cut_length}
-use Rattle.round_table.proofs.Entries.{numbered_entries, all_numbered}
+use Rattle.round_table.proofs.Entries.{numbered_entries, all_numbered, entries_within}
 use Rattle.round_table.proofs.PointLimits.{IfOffset, IsOffset, points_within, points_one_end, within_or_end, end_alone, end_at}
 
 abbrev pub kept : (Point → Bool) → List Check → List Check
@@ -83,6 +84,16 @@ module _ (limit : ℕ) (mode : ModeDef) (checks : List Check) (within : IsWithin
       ∙ map-append (λ (check : Check). check.entry) (kept (is_below (suc limit)) checks) (kept is_round_end checks)
       ∙ ap (λ entries. entries ++ entries_in (kept is_round_end checks)) (entries_below (suc limit))
       ∙ ap (λ entries. checks_below mode (suc limit) ++ entries) entries_end
+
+  -- they are entries of the mode
+  pub entry_within : (place entry : ℕ) → slice_get (entries_in checks) place ≡ Some entry → entry < length mode.activations
+  entry_within place entry is =
+      let all = All-map (λ n. n < length points) (λ (check : Check). check.entry) checks
+      (All-permutation (λ (check : Check). check.entry < length points) (numbered points) checks are.permutation (entries_within points)) in
+      let less = all place 0 (slice_get_within (entries_in checks) place entry is) in
+      let same = get_or_from_slice_get (entries_in checks) place entry 0 is in
+      let long = length-map mode.activations (point_of mode) in
+      omega arith
 
   pub length_whole : length checks ≡ length (checks_of table)
   length_whole = sym (length-map checks (λ (check : Check). check.entry)) ∙ ap length entries_whole

@@ -77,10 +77,8 @@ fn entry_at(rows: &[Activation], offset: u64) -> Option<usize>
     ensures { result ≡ entry_at offset rows.now }
 {
     let place = activations_before(rows, offset);
-    match rows.get(place) {
-        Some(row) if row.offset == offset => Some(place),
-        _ => None,
-    }
+    let row = rows.get(place)?;
+    if row.offset == offset { Some(place) } else { None }
 }
 
 fn copied<T: Copy>(alloc: Global, items: &[T]) -> Result<Vec<T>, Memory>
@@ -149,7 +147,8 @@ impl Table {
     /// The entry number of the check at a place of the table's list of checks.
     pub fn check_at(&self, place: usize) -> usize
         requires { place < length (checks_of self.now) }
-        ensures { slice_get (checks_of self.now) place ≡ Some result }
+        ensures at { slice_get (checks_of self.now) place ≡ Some result }
+        ensures within { result < length self.now.mode.activations }
     {
         entry_in(&self.checks, place)
     }
@@ -172,6 +171,7 @@ impl Table {
         ensures enables { slice_range (enables_of self.now) result.enables_from result.enables_to ≡ enables_at offset self.now.mode }
         ensures enables_within { result.enables_to ≤ length (enables_of self.now) }
         ensures activation { result.activation ≡ entry_at offset self.now.mode.activations }
+        ensures activation_within { IfSome result.activation (λ entry. entry < length self.now.mode.activations) }
     {
         Due {
             checks_from: first_from(&self.checks, offset),

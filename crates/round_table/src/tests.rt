@@ -1,7 +1,6 @@
 //! Tables of small modes.
 
-ghost use Rattle.std.specs.Prelude.{◌≡◌, ◌<◌, [], ◌∷◌, ◌++◌, true, IfOk, OnOk};
-ghost use Rattle.tt_base.specs.Name.{is_name};
+ghost use Rattle.std.specs.Prelude.{◌≡◌, ◌<◌, ◌≤◌, [], ◌∷◌, ◌++◌, IfOk, OnOk};
 ghost use Rattle.tt_base.specs.Names.{count_of};
 ghost use Rattle.round_table.specs.Example.{body, example, isrs, modes, names, task, tasks};
 ghost use Rattle.round_table.specs.TableRows.{mode_at, table_of};
@@ -169,10 +168,134 @@ fn table(alloc: Global, mode: ModeNo) -> Result<Table, Fail>
     Ok(Table::build(alloc, &config(alloc)?, mode)?)
 }
 
+/// A line of a table.
+#[derive(Clone, Copy, Debug, PartialEq, Eq)]
+enum Line {
+    Check(u64, TaskNo),
+    Enable(u64, IsrNo),
+    Activate(u64, TaskNo),
+    EndCheck(TaskNo),
+}
+
+/// Appends the checks, the enables and the activation of an offset.
+fn put_due(table: &Table, offset: u64, lines: &mut Vec<Line>) -> Result<(), Fail> {
+    let due = table.due(offset);
+    for place in due.checks_from..due.checks_to {
+        let entry = table.check_at(place);
+        lines.push(Line::Check(offset, table.activation(entry).task))?;
+    }
+    for place in due.enables_from..due.enables_to {
+        lines.push(Line::Enable(offset, table.enable_at(place)))?;
+    }
+    if let Some(entry) = due.activation {
+        lines.push(Line::Activate(offset, table.activation(entry).task))?;
+    }
+    Ok(())
+}
+
+/// Appends the checks at the end of a round of this length.
+fn put_end(table: &Table, round_length: u64, lines: &mut Vec<Line>) -> Result<(), Fail>
+    requires { table.now.limit ≤ round_length }
+{
+    let (from, to) = table.end_checks(round_length);
+    for place in from..to {
+        let entry = table.check_at(place);
+        lines.push(Line::EndCheck(table.activation(entry).task))?;
+    }
+    Ok(())
+}
+
+/// The lines of a table, from offset to offset, where the checks of a round of this length are those of its end.
+fn lines(alloc: Global, table: &Table, round_length: u64) -> Result<Vec<Line>, Fail>
+    requires { table.now.limit ≤ round_length }
+{
+    let mut lines = Vec::new(alloc);
+    put_due(table, 0, &mut lines)?;
+    let mut offset = 0;
+    while let Some(next) = table.next_after(offset) {
+        put_due(table, next, &mut lines)?;
+        offset = next;
+    }
+    put_end(table, round_length, &mut lines)?;
+    Ok(lines)
+}
+
+/// The monitoring points of a table.
+fn points(alloc: Global, table: &Table) -> Result<Vec<Point>, Fail> {
+    let mut points = Vec::new(alloc);
+    for entry in 0..table.entries() {
+        points.push(table.monitor(entry))?;
+    }
+    Ok(points)
+}
+
 #[test]
-fn a_stringent_deadline_is_checked_there(rt: HostRuntime) -> Result<(), Fail> {
+fn a_stringent_deadline_is_its_point(rt: HostRuntime) -> Result<(), Fail> {
     let table = table(rt.alloc(), ModeNo(0))?;
-    assert_eq!(rt; table.entries(), 1);
-    assert_eq!(rt; table.monitor(0), Point::At(5));
+    assert_eq!(rt; points(rt.alloc(), &table)?.as_slice(), [Point::At(5)].as_slice());
+    assert_eq!(rt;
+        lines(rt.alloc(), &table, 10)?.as_slice(),
+        [Line::Activate(0, A), Line::Check(5, A)].as_slice()
+    );
+    Ok(())
+}
+
+#[test]
+fn a_deadline_with_nothing_behind_is_checked_at_the_end(rt: HostRuntime) -> Result<(), Fail> {
+    let table = table(rt.alloc(), ModeNo(1))?;
+    assert_eq!(rt; points(rt.alloc(), &table)?.as_slice(), [Point::RoundEnd].as_slice());
+    assert_eq!(rt;
+        lines(rt.alloc(), &table, 8)?.as_slice(),
+        [Line::Activate(0, A), Line::EndCheck(A)].as_slice()
+    );
+    Ok(())
+}
+
+#[test]
+fn an_enable_is_a_point(rt: HostRuntime) -> Result<(), Fail> {
+    let table = table(rt.alloc(), ModeNo(2))?;
+    assert_eq!(rt; points(rt.alloc(), &table)?.as_slice(), [Point::At(7)].as_slice());
+    let want = [Line::Activate(0, A), Line::Check(7, A), Line::Enable(7, K)];
+    assert_eq!(rt; lines(rt.alloc(), &table, 10)?.as_slice(), want.as_slice());
+    Ok(())
+}
+
+#[test]
+fn checks_of_one_offset_come_by_entry(rt: HostRuntime) -> Result<(), Fail> {
+    let table = table(rt.alloc(), ModeNo(3))?;
+    let want = [Point::At(4), Point::At(4), Point::At(7), Point::At(8)];
+    assert_eq!(rt; points(rt.alloc(), &table)?.as_slice(), want.as_slice());
+    let want = [
+        Line::Activate(0, B),
+        Line::Activate(1, A),
+        Line::Check(4, B),
+        Line::Check(4, A),
+        Line::Enable(5, K),
+        Line::Activate(5, B),
+        Line::Check(7, B),
+        Line::Activate(7, A),
+        Line::Check(8, A),
+    ];
+    assert_eq!(rt; lines(rt.alloc(), &table, 9)?.as_slice(), want.as_slice());
+    assert_eq!(rt; table.end_checks(8), (3, 4));
+    let due = Due {
+        checks_from: 2,
+        checks_to: 3,
+        enables_from: 1,
+        enables_to: 1,
+        activation: Some(3),
+    };
+    assert_eq!(rt; table.due(7), due);
+    Ok(())
+}
+
+#[test]
+fn each_mode_has_its_table(rt: HostRuntime) -> Result<(), Fail> {
+    let config = config(rt.alloc())?;
+    let tables = Tables::build(rt.alloc(), &config)?;
+    assert_eq!(rt; tables.get(ModeNo(3)).entries(), 4);
+    let empty = tables.get(ModeNo(4));
+    assert_eq!(rt; empty.entries(), 0);
+    assert_eq!(rt; empty.next_after(0), None);
     Ok(())
 }
