@@ -1,5 +1,5 @@
 -- Entry numbers of checks.
-use Rattle.std.proofs.Common.{ℕ, zero, suc, ◌≡◌, ◌≤◌, ◌<◌, ◌+◌, Bool, true, false, cond, List, [], ◌∷◌, ◌++◌, length, get_or, take, map, refl, sym, ap, ◌∙◌, zero-add, arith}
+use Rattle.std.proofs.Common.{ℕ, suc, ◌≡◌, ◌<◌, ◌+◌, Bool, true, false, cond, List, [], ◌∷◌, ◌++◌, length, get_or, take, map, refl, sym, ap, ◌∙◌, zero-add, arith}
 use Rattle.std.specs.Prelude.{filter}
 use Rattle.std.specs.List.{enumerate_from, range_with_len, All}
 use Rattle.std.proofs.lemmas.List.{take_more, map-append, length-take-le}
@@ -41,15 +41,15 @@ module _ {X : Type 0} (point_of : X → Point) (is_due : Point → Bool) (row_at
   numbered_from n (row ∷ rows) h =
       at (is_due (point_of row)) (numbered_from (n + 1) rows (λ k entry is l. h (suc k) entry (omega arith) (omega arith)))
       ∙ ap (λ b. cond b (n ∷ entries) entries) (ap (λ r. is_due (point_of r)) (sym (h 0 n (omega arith) (omega arith)))) where
-    checks : List Check
-    checks = filter (λ (check : Check). is_due check.point) (map check_of (enumerate_from (n + 1) (map point_of rows)))
+        checks : List Check
+        checks = filter (λ (check : Check). is_due check.point) (map check_of (enumerate_from (n + 1) (map point_of rows)))
 
-    entries : List ℕ
-    entries = filter (λ entry. is_due (point_of (row_at entry))) (range_with_len (n + 1) (length rows))
+        entries : List ℕ
+        entries = filter (λ entry. is_due (point_of (row_at entry))) (range_with_len (n + 1) (length rows))
 
-    at : (b : Bool) → entries_in checks ≡ entries → entries_in (cond b (check_of (n, point_of row) ∷ checks) checks) ≡ cond b (n ∷ entries) entries
-    at true rest = ap (λ ns. n ∷ ns) rest
-    at false rest = rest
+        at : (b : Bool) → entries_in checks ≡ entries → entries_in (cond b (check_of (n, point_of row) ∷ checks) checks) ≡ cond b (n ∷ entries) entries
+        at true rest = ap (λ ns. n ∷ ns) rest
+        at false rest = rest
 
 pub numbered_entries : (mode : ModeDef) (is_due : Point → Bool)
     → entries_in (filter (λ (check : Check). is_due check.point) (numbered (map (point_of mode) mode.activations))) ≡ entries_due is_due mode

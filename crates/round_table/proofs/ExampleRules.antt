@@ -1,21 +1,15 @@
 -- The configuration that the tests build tables of meets the rules.
-use Rattle.std.proofs.Common.{ℕ, ◌≡◌, ◌≤◌, ◌<◌, ◌^◌, Bool, true, List, [], ◌∷◌, length, refl, sym, ap, ◌∙◌, arith}
-use Rattle.std.specs.Prelude.{◌&&◌, IsTrue}
+use Rattle.std.proofs.Common.{ℕ, ◌≡◌, Bool, true, [], ◌∷◌, refl, ap, ◌∙◌, arith}
+use Rattle.std.specs.Prelude.{◌&&◌}
 use Rattle.std.specs.List.{All}
 use Rattle.std.proofs.lemmas.List.Elements.{All-cons, All-from_recursion, All-nil}
 use Rattle.task_lang.specs.declared.allowed.OwnerKind.{OwnerKind}
 use Rattle.task_lang.specs.declared.allowed.OwnerKind.TheVariants as owner
 use Rattle.task_lang.specs.declared.syntax.Stmt.TheOpen.{Stmt-F}
-use Rattle.task_lang.specs.declared.syntax.Stmt.TheVariants as s
 use Rattle.task_lang.specs.Opening.{fold-Work}
 use Rattle.task_lang.specs.Allowed.{is_allowed}
-use Rattle.task_lang.specs.Limits.{each_in, each_of, inner_pass, nesting_in, nesting_of, nesting_step, count_in, count_of, count_step}
-use Rattle.task_lang.specs.Worst.{worst_in, worst_of, worst_step}
-use Rattle.tt_world.specs.declared.config.IsrDef.{IsrDef}
-use Rattle.tt_world.specs.declared.config.ModeDef.{ModeDef}
-use Rattle.tt_world.specs.declared.config.TaskDef.{TaskDef}
-use Rattle.tt_world.specs.declared.config.OsekDef.{OsekDef}
-use Rattle.tt_world.specs.declared.config.OisrDef.{OisrDef}
+use Rattle.task_lang.specs.Limits.{each_in, inner_pass, nesting_step, count_step}
+use Rattle.task_lang.specs.Worst.{worst_step}
 use Rattle.tt_world.specs.ConfigRules.{IsConfig, IsBody, IsRoutine, IsTask, IsIsr, IsMode, IsOsek, IsOisr}
 use Rattle.round_table.specs.Example.{body, example, modes, routine, task, stringent_mode, late_mode, enabling_mode, mixed_mode, empty_mode}
 

@@ -1,6 +1,6 @@
 -- Nothing stands between an offset and the next at which something does.
-use Rattle.std.proofs.Common.{ℕ, ◌≡◌, ◌≤◌, ◌<◌, ◌+◌, Bool, true, false, List, [], ◌∷◌, ◌++◌, length, get_or, map, Option, None, Some, refl, sym, ap, ◌∙◌, arith}
-use Rattle.std.specs.Prelude.{◌==◌, filter, IfSome}
+use Rattle.std.proofs.Common.{ℕ, ◌≡◌, ◌≤◌, ◌<◌, ◌+◌, false, List, [], ◌∷◌, ◌++◌, length, get_or, map, Option, None, Some, refl, ap, arith}
+use Rattle.std.specs.Prelude.{◌==◌, IfSome}
 use Rattle.std.specs.List.{All}
 use Rattle.std.proofs.lemmas.Bool.{ne_eqb}
 use Rattle.std.proofs.lemmas.List.FromFn.{length-range_with_len, get_or-range_with_len}
@@ -11,11 +11,11 @@ use Rattle.tt_world.specs.declared.config.ModeDef.{ModeDef}
 use Rattle.tt_world.specs.declared.world.Point.{Point}
 use Rattle.tt_world.specs.declared.world.Point.TheVariants as point
 use Rattle.tt_world.specs.Monitoring.{is_at}
-use Rattle.tt_world.specs.Points.{point_of, least_from}
+use Rattle.tt_world.specs.Points.{point_of}
 use Rattle.tt_world.specs.Rows.{no_row, row_of}
 use Rattle.round_table.specs.DueRows.{entries_of, isrs_of}
 use Rattle.round_table.specs.Inside.{IsWithin}
-use Rattle.round_table.specs.NextOffset.{offset_in, offsets_among, row_offsets, instants_of, next_after, IsFree, IsBefore}
+use Rattle.round_table.specs.NextOffset.{offsets_among, row_offsets, instants_of, next_after, IsFree, IsBefore}
 use Rattle.round_table.proofs.Cutting.{filter_none}
 use Rattle.round_table.proofs.LeastOffsets.{IsLeastFrom, least_is}
 use Rattle.round_table.proofs.PointLimits.{IfOffset, all_right, points_within}
@@ -39,9 +39,6 @@ all_among P (point.At offset ∷ points) h =
 all_among P (point.RoundEnd ∷ points) h = All-cons (IfOffset P) point.RoundEnd points tt (all_among P points h)
 
 -- ---- offsets between
-
-
-
 
 module _ (offset between : ℕ) (after : offset < between) where
   others : (xs : List ℕ) (next : Option ℕ) → IsLeastFrom (offset + 1) xs next → IsBefore between next → All (λ x. x ≡ between → ⊥) xs

@@ -1,12 +1,12 @@
 -- The least of some offsets that is at or after another.
-use Rattle.std.proofs.Common.{ℕ, zero, suc, ◌≡◌, ◌≤◌, ◌<◌, ◌+◌, Bool, true, false, cond, List, [], ◌∷◌, ◌++◌, length, get_or, Option, None, Some, refl, sym, ap, ◌∙◌, subst, ⊎_elim, arith}
+use Rattle.std.proofs.Common.{ℕ, zero, suc, ◌≡◌, ◌≤◌, ◌<◌, ◌+◌, Bool, true, false, cond, List, [], ◌∷◌, length, get_or, Option, None, Some, refl, sym, ap, subst, ⊎_elim, arith}
 use Rattle.std.specs.Prelude.{min, nat_le, nat_lt, MatchOption, slice_get}
 use Rattle.std.specs.List.{All, Contains}
 use Rattle.std.specs.List.Sorted.{IsPermutation, IsNonDecreasing}
 use Rattle.std.proofs.lemmas.Bool.{cases_lt, leb-true, leb-false, ltb-true, ltb-false}
 use Rattle.std.proofs.lemmas.Bool.Decides.{nat_tests}
 use Rattle.std.proofs.lemmas.List.Elements.{All-cons, All-contains, All-weaker, Contains-get_or, Contains-append_left, Contains-append_right, Contains-push}
-use Rattle.std.proofs.lemmas.List.Sorted.{All-permutation, Contains-permutation, IsPermutation-sym}
+use Rattle.std.proofs.lemmas.List.Sorted.{All-permutation, Contains-permutation}
 use Rattle.std.proofs.lemmas.Option.{slice_get-get_or, slice_get_past}
 use Rattle.tt_world.specs.Points.{least_from, lesser_or}
 use Rattle.round_table.specs.Cuts.{IsCut}
@@ -26,14 +26,13 @@ contains_behind x xs y h = Contains-append_right (x ∷ []) xs y h
 module _ (from : ℕ) where
   lesser : (x m : ℕ) (xs : List ℕ) → from ≤ x → IsLeastFrom from xs (Some m) → IsLeastFrom from (x ∷ xs) (Some (min x m))
   lesser x m xs here h =
-      let later = h.0 in
-      (
+      let later = h.0 in (
         omega arith,
         ⊎_elim
-        (λ (lt : x < m). let same : x ≡ min x m = omega arith in subst (Contains (x ∷ xs)) same (contains_first x xs))
-        (λ (ge : m ≤ x). let same : m ≡ min x m = omega arith in subst (Contains (x ∷ xs)) same (contains_behind x xs m h.1)) (cases_lt x m),
+            (λ (lt : x < m). let same : x ≡ min x m = omega arith in subst (Contains (x ∷ xs)) same (contains_first x xs))
+            (λ (ge : m ≤ x). let same : m ≡ min x m = omega arith in subst (Contains (x ∷ xs)) same (contains_behind x xs m h.1)) (cases_lt x m),
         All-cons (λ y. from ≤ y → min x m ≤ y) x xs (λ _. omega arith)
-        (All-weaker (λ y. from ≤ y → m ≤ y) (λ y. from ≤ y → min x m ≤ y) (λ y k le. let less : m ≤ y = k le in omega arith) xs h.2),
+            (All-weaker (λ y. from ≤ y → m ≤ y) (λ y. from ≤ y → min x m ≤ y) (λ y k le. let less : m ≤ y = k le in omega arith) xs h.2),
       )
 
   alone : (x : ℕ) (xs : List ℕ) → from ≤ x → All (λ y. y < from) xs → IsLeastFrom from (x ∷ xs) (Some x)
@@ -41,7 +40,7 @@ module _ (from : ℕ) where
     here,
     contains_first x xs,
     All-cons (λ y. from ≤ y → x ≤ y) x xs (λ _. omega arith)
-    (All-weaker (λ y. y < from) (λ y. from ≤ y → x ≤ y) (λ y less le. absurd (omega arith)) xs h),
+        (All-weaker (λ y. y < from) (λ y. from ≤ y → x ≤ y) (λ y less le. absurd (omega arith)) xs h),
   )
 
   passed : (x : ℕ) (xs : List ℕ) (rest : Option ℕ) → x < from → IsLeastFrom from xs rest → IsLeastFrom from (x ∷ xs) rest
@@ -85,8 +84,7 @@ module _ (from : ℕ) where
       ⊎_elim
       (λ (l : place < length xs).
       let m = get_or xs place 0 in
-      subst (IsLeastFrom from xs) (sym (slice_get-get_or xs place 0 l))
-      (
+      subst (IsLeastFrom from xs) (sym (slice_get-get_or xs place 0 l)) (
         ltb-false m from (cut.back place 0 (omega arith) l),
         Contains-get_or xs place 0 l,
         λ k d in' le.
@@ -97,10 +95,10 @@ module _ (from : ℕ) where
       (λ (g : length xs ≤ place).
       subst (IsLeastFrom from xs) (sym (slice_get_past xs place g)) (λ k d l. ltb-true (get_or xs k d) from (cut.front k d (omega arith))))
       (cases_lt place (length xs)) where
-    same_default : (ys : List ℕ) (i a b : ℕ) → i < length ys → get_or ys i a ≡ get_or ys i b
-    same_default [] i a b l = absurd (omega arith)
-    same_default (y ∷ ys) zero a b l = refl
-    same_default (y ∷ ys) (suc i) a b l = same_default ys i a b (omega arith)
+        same_default : (ys : List ℕ) (i a b : ℕ) → i < length ys → get_or ys i a ≡ get_or ys i b
+        same_default [] i a b l = absurd (omega arith)
+        same_default (y ∷ ys) zero a b l = refl
+        same_default (y ∷ ys) (suc i) a b l = same_default ys i a b (omega arith)
 
   pub least_at : (xs : List ℕ) (place : ℕ) → IsNonDecreasing xs → IsCut (λ x. nat_lt x from) xs place → slice_get xs place ≡ least_from from xs
   least_at xs place up cut = least_one xs (slice_get xs place) (least_from from xs) (least_cut xs place up cut) (least_is xs)
@@ -109,5 +107,5 @@ module _ (from : ℕ) where
 pub least_behind : (offset : ℕ) (xs : List ℕ) (place : ℕ) → IsNonDecreasing xs → IsCut (λ x. nat_le x offset) xs place → slice_get xs place ≡ least_from (offset + 1) xs
 least_behind offset xs place up cut =
     least_at (offset + 1) xs place up (cut_alike (λ x. nat_le x offset) (λ x. nat_lt x (offset + 1)) (λ x. same x offset) xs place cut) where
-  same : (x n : ℕ) → nat_lt x (n + 1) ≡ nat_le x n
-  same x n = grind (arith, nat_tests)
+      same : (x n : ℕ) → nat_lt x (n + 1) ≡ nat_le x n
+      same x n = grind (arith, nat_tests)

@@ -1,12 +1,11 @@
 -- The monitoring points of a mode whose rows are within a limit: none comes after it, and where one is the limit none is the round's
 -- end.
-use Rattle.std.proofs.Common.{ℕ, zero, suc, ◌≡◌, ◌≤◌, ◌<◌, ◌+◌, Bool, true, false, List, [], ◌∷◌, ◌++◌, length, get_or, map, drop, Option, None, Some, refl, sym, ap, ◌∙◌, subst, inl, inr, ⊎_elim, arith}
-use Rattle.std.specs.Prelude.{◌||◌, ◌==◌, ◌⊎◌, nat_le, nat_lt}
+use Rattle.std.proofs.Common.{ℕ, suc, ◌≡◌, ◌≤◌, ◌<◌, Bool, true, false, List, [], ◌∷◌, ◌++◌, length, get_or, map, Option, None, Some, refl, ap, subst, inl, inr, ⊎_elim, arith}
+use Rattle.std.specs.Prelude.{◌||◌, ◌⊎◌, nat_lt}
 use Rattle.std.specs.List.{All, Contains}
-use Rattle.std.proofs.lemmas.Bool.{cases_lt, lt-ltb, lt-leb, le-leb, eq-eqb}
+use Rattle.std.proofs.lemmas.Bool.{cases_lt, lt-ltb, lt-leb}
 use Rattle.std.proofs.lemmas.Bool.Decides.{nat_tests}
-use Rattle.std.proofs.lemmas.List.{drop_at}
-use Rattle.std.proofs.lemmas.List.Elements.{All-append, All-cons, All-contains, All-drop, All-head, All-map, All-nil, All-tail, All-weaker, Contains-append_left, Contains-append_right, Contains-push}
+use Rattle.std.proofs.lemmas.List.Elements.{All-append, All-cons, All-contains, All-head, All-map, All-nil, All-tail, Contains-append_left, Contains-append_right, Contains-push}
 use Rattle.tt_world.specs.declared.config.Activation.{Activation}
 use Rattle.tt_world.specs.declared.config.Enable.{Enable}
 use Rattle.tt_world.specs.declared.config.ModeDef.{ModeDef}
@@ -17,7 +16,6 @@ use Rattle.tt_world.specs.Points.{deadline_if, stringent_deadlines, offsets_in, 
 use Rattle.round_table.specs.CheckLists.{is_below}
 use Rattle.round_table.specs.DueRows.{is_round_end}
 use Rattle.round_table.specs.Inside.{IsWithin}
-use Rattle.round_table.specs.NextOffset.{row_offsets}
 use Rattle.round_table.proofs.LeastOffsets.{IsLeastFrom, least_is}
 
 -- ---- lists
@@ -113,13 +111,13 @@ module _ (limit : ℕ) (mode : ModeDef) (within : IsWithin limit mode) where
   points_offsets there =
       All-map (IsOffset (λ offset. offset ≤ limit)) (point_of mode) mode.activations
       (λ k d l. by (get_or mode.activations k d).stringent (get_or mode.activations k d).deadline (within.deadlines k d l)) where
-    least : (from : ℕ) → from ≤ limit → (m : Option ℕ) → IsLeastFrom from (offsets_in mode) m → IsOffset (λ offset. offset ≤ limit) (at_or_end m)
-    least from le None is = let less : limit < from = All-contains (λ x. x < from) (offsets_in mode) limit is there in omega arith
-    least from le (Some m) is = All-contains (λ o. o ≤ limit) (offsets_in mode) m offsets_within is.1
+        least : (from : ℕ) → from ≤ limit → (m : Option ℕ) → IsLeastFrom from (offsets_in mode) m → IsOffset (λ offset. offset ≤ limit) (at_or_end m)
+        least from le None is = let less : limit < from = All-contains (λ x. x < from) (offsets_in mode) limit is there in omega arith
+        least from le (Some m) is = All-contains (λ o. o ≤ limit) (offsets_in mode) m offsets_within is.1
 
-    by : (stringent : Bool) (deadline : ℕ) → deadline ≤ limit → IsOffset (λ offset. offset ≤ limit) (point_by stringent mode deadline)
-    by true deadline le = le
-    by false deadline le = least deadline le (least_from deadline (offsets_in mode)) (least_is deadline (offsets_in mode))
+        by : (stringent : Bool) (deadline : ℕ) → deadline ≤ limit → IsOffset (λ offset. offset ≤ limit) (point_by stringent mode deadline)
+        by true deadline le = le
+        by false deadline le = least deadline le (least_from deadline (offsets_in mode)) (least_is deadline (offsets_in mode))
 
   pub points_one_end : All (IfOffset (λ offset. offset < limit)) (map (point_of mode) mode.activations) ⊎ All (IsOffset (λ offset. offset ≤ limit)) (map (point_of mode) mode.activations)
   points_one_end =

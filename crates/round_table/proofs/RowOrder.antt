@@ -1,16 +1,13 @@
 -- The order of what is due together.
-use Rattle.std.proofs.Common.{ℕ, zero, suc, ◌≡◌, ◌≤◌, ◌<◌, ◌+◌, ◌-◌, Bool, true, false, cond, List, [], ◌∷◌, length, get_or, map, Option, None, Some, refl, sym, ap, subst, ⊎_elim, add-one, arith}
+use Rattle.std.proofs.Common.{ℕ, zero, suc, ◌≡◌, ◌≤◌, ◌<◌, ◌+◌, ◌-◌, Bool, true, false, cond, List, [], ◌∷◌, length, get_or, map, Option, None, Some, refl, subst, ⊎_elim, add-one, arith}
 use Rattle.std.specs.Prelude.{◌&&◌, ◌==◌, nat_lt, filter}
 use Rattle.std.specs.List.{All, list_all, range_with_len}
 use Rattle.std.specs.List.Sorted.{IsStrictlyIncreasing}
-use Rattle.std.proofs.lemmas.Bool.{and_parts, or_cases, cases_Bool, eqb-true, ltb-true}
+use Rattle.std.proofs.lemmas.Bool.{and_parts, or_cases, eqb-true, ltb-true}
 use Rattle.std.proofs.lemmas.List.Elements.{All-cons, All-nil}
 use Rattle.tt_base.specs.declared.number.IsrNo.{IsrNo}
 use Rattle.tt_world.specs.declared.config.Enable.{Enable}
-use Rattle.tt_world.specs.declared.config.ModeDef.{ModeDef}
-use Rattle.tt_world.specs.declared.world.Point.{Point}
-use Rattle.tt_world.specs.declared.world.Point.TheVariants as point
-use Rattle.tt_world.specs.ConfigRules.{IsMode, comes_before, enables_ascend}
+use Rattle.tt_world.specs.ConfigRules.{comes_before, enables_ascend}
 use Rattle.tt_world.specs.Points.{at_or_end, least_from, offsets_in, point_by, point_of}
 use Rattle.tt_world.specs.Rows.{no_row, row_of}
 use Rattle.tt_world.specs.RunLaws.{IsAfter}
@@ -85,28 +82,28 @@ unfolding numbers_at
 numbers_above offset e here [] h = All-nil (λ n. e.isr.0 < n)
 numbers_above offset e here (row ∷ rows) h =
     at (row.offset == offset) refl (numbers_above offset e here rows (and_parts (comes_before e row) (list_all (comes_before e) rows) h).1) where
-  rest : List Enable
-  rest = filter (λ (r : Enable). r.offset == offset) rows
+      rest : List Enable
+      rest = filter (λ (r : Enable). r.offset == offset) rows
 
-  at : (b : Bool) → (row.offset == offset) ≡ b → All (λ n. e.isr.0 < n) (map (λ (isr : IsrNo). isr.0) (isrs_of rest))
-      → All (λ n. e.isr.0 < n) (map (λ (isr : IsrNo). isr.0) (isrs_of (cond b (row ∷ rest) rest)))
-  at true is k =
-      All-cons (λ n. e.isr.0 < n) row.isr.0 (map (λ (isr : IsrNo). isr.0) (isrs_of rest))
-      (later_number e row offset here (eqb-true row.offset offset is) (and_parts (comes_before e row) (list_all (comes_before e) rows) h).0) k
-  at false is k = k
+      at : (b : Bool) → (row.offset == offset) ≡ b → All (λ n. e.isr.0 < n) (map (λ (isr : IsrNo). isr.0) (isrs_of rest))
+          → All (λ n. e.isr.0 < n) (map (λ (isr : IsrNo). isr.0) (isrs_of (cond b (row ∷ rest) rest)))
+      at true is k =
+          All-cons (λ n. e.isr.0 < n) row.isr.0 (map (λ (isr : IsrNo). isr.0) (isrs_of rest))
+          (later_number e row offset here (eqb-true row.offset offset is) (and_parts (comes_before e row) (list_all (comes_before e) rows) h).0) k
+      at false is k = k
 
 rises_numbers : (offset : ℕ) (rows : List Enable) → enables_ascend rows ≡ true → Rises (numbers_at offset rows)
 unfolding Rises numbers_at
 rises_numbers offset [] h = tt
 rises_numbers offset (row ∷ rows) h =
     at (row.offset == offset) refl (rises_numbers offset rows (and_parts (list_all (comes_before row) rows) (enables_ascend rows) h).1) where
-  rest : List Enable
-  rest = filter (λ (r : Enable). r.offset == offset) rows
+      rest : List Enable
+      rest = filter (λ (r : Enable). r.offset == offset) rows
 
-  at : (b : Bool) → (row.offset == offset) ≡ b → Rises (map (λ (isr : IsrNo). isr.0) (isrs_of rest)) → Rises (map (λ (isr : IsrNo). isr.0) (isrs_of (cond b (row ∷ rest) rest)))
-  at true is k =
-      (numbers_above offset row (eqb-true row.offset offset is) rows (and_parts (list_all (comes_before row) rows) (enables_ascend rows) h).0, k)
-  at false is k = k
+      at : (b : Bool) → (row.offset == offset) ≡ b → Rises (map (λ (isr : IsrNo). isr.0) (isrs_of rest)) → Rises (map (λ (isr : IsrNo). isr.0) (isrs_of (cond b (row ∷ rest) rest)))
+      at true is k =
+          (numbers_above offset row (eqb-true row.offset offset is) rows (and_parts (list_all (comes_before row) rows) (enables_ascend rows) h).0, k)
+      at false is k = k
 
 pub enables_by_number : EnablesAreByNumber
 unfolding numbers_at
@@ -117,13 +114,13 @@ enables_by_number c mode rules offset = increasing _ (rises_numbers offset mode.
 pub points_behind : PointsAreBehind
 points_behind c mode rules entry l =
     by (row_of mode entry).stringent (deadline_after c mode entry (record { activations = rules.activations; ascending = rules.ascending; apart = rules.apart }) l) where
-  least : (offset deadline : ℕ) → offset < deadline → (m : Option ℕ) → IsLeastFrom deadline (offsets_in mode) m → IsAfter offset (at_or_end m)
-  least offset deadline after None h = tt
-  least offset deadline after (Some m) h = let le = h.0 in omega arith
+      least : (offset deadline : ℕ) → offset < deadline → (m : Option ℕ) → IsLeastFrom deadline (offsets_in mode) m → IsAfter offset (at_or_end m)
+      least offset deadline after None h = tt
+      least offset deadline after (Some m) h = let le = h.0 in omega arith
 
-  by : {offset deadline : ℕ} → (stringent : Bool) → offset < deadline → IsAfter offset (point_by stringent mode deadline)
-  by true after = after
-  by {offset} {deadline} false after = least offset deadline after (least_from deadline (offsets_in mode)) (least_is deadline (offsets_in mode))
+      by : {offset deadline : ℕ} → (stringent : Bool) → offset < deadline → IsAfter offset (point_by stringent mode deadline)
+      by true after = after
+      by {offset} {deadline} false after = least offset deadline after (least_from deadline (offsets_in mode)) (least_is deadline (offsets_in mode))
 
 pub points_one : PointsHaveOneEnd
 points_one c mode rules entry other l m at_limit at_end =

@@ -5,7 +5,6 @@ use Rattle.tt_base.specs.declared.names.NameEntry.{NameEntry}
 use Rattle.tt_base.specs.declared.number.TaskNo.{TaskNo}
 use Rattle.task_lang.specs.declared.syntax.Stmt.{Stmt}
 use Rattle.task_lang.specs.declared.syntax.Stmt.TheVariants as s
-use Rattle.tt_world.specs.declared.config.Activation.{Activation}
 use Rattle.tt_world.specs.declared.config.Enable.{Enable}
 use Rattle.tt_world.specs.declared.config.TaskDef.{TaskDef}
 use Rattle.tt_world.specs.declared.config.IsrDef.{IsrDef}

@@ -11,7 +11,9 @@ mod table;
 mod tables;
 
 pub use due::Due;
-pub use laws::{checks_are_by_offset, enables_are_by_number, points_are_behind, points_have_one_end};
+pub use laws::{
+    checks_are_by_offset, enables_are_by_number, points_are_behind, points_have_one_end,
+};
 pub use table::Table;
 pub use tables::Tables;
 

@@ -97,11 +97,7 @@ fn point_among(row: Activation, offsets: &Offsets) -> Point
 }
 
 /// The monitoring points of activations, in order.
-fn points_among(
-    alloc: Global,
-    rows: &[Activation],
-    offsets: &Offsets,
-) -> Result<Vec<Point>, Memory>
+fn points_among(alloc: Global, rows: &[Activation], offsets: &Offsets) -> Result<Vec<Point>, Memory>
     ensures { IfOk result (λ points. points.items ≡ map (point_among offsets.now) rows.now) }
 {
     let mut points = Vec::new(alloc);

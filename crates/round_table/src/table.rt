@@ -78,7 +78,11 @@ fn entry_at(rows: &[Activation], offset: u64) -> Option<usize>
 {
     let place = activations_before(rows, offset);
     let row = rows.get(place)?;
-    if row.offset == offset { Some(place) } else { None }
+    if row.offset == offset {
+        Some(place)
+    } else {
+        None
+    }
 }
 
 fn copied<T: Copy>(alloc: Global, items: &[T]) -> Result<Vec<T>, Memory>

@@ -104,11 +104,7 @@ fn series<T: Copy + Drop>(alloc: Global, items: &[T]) -> Result<Series<T>, Fail>
     Ok(list)
 }
 
-fn mode(
-    alloc: Global,
-    activations: &[Activation],
-    enables: &[Enable],
-) -> Result<ModeDef, Fail>
+fn mode(alloc: Global, activations: &[Activation], enables: &[Enable]) -> Result<ModeDef, Fail>
     ensures { IfOk result (λ def. def ≡ record { activations = activations.now; enables = enables.now }) }
 {
     Ok(ModeDef {
@@ -123,7 +119,11 @@ fn modes(alloc: Global) -> Result<Series<ModeDef>, Fail>
     let mut modes = Series::new(alloc);
     modes.push(mode(alloc, &[at(0, A, 5, true)], &[])?)?;
     modes.push(mode(alloc, &[at(0, A, 5, false)], &[])?)?;
-    modes.push(mode(alloc, &[at(0, A, 5, false)], &[Enable { offset: 7, isr: K }])?)?;
+    modes.push(mode(
+        alloc,
+        &[at(0, A, 5, false)],
+        &[Enable { offset: 7, isr: K }],
+    )?)?;
     let rows = [
         at(0, B, 3, false),
         at(1, A, 4, true),
@@ -232,7 +232,10 @@ fn points(alloc: Global, table: &Table) -> Result<Vec<Point>, Fail> {
 #[test]
 fn a_stringent_deadline_is_its_point(rt: HostRuntime) -> Result<(), Fail> {
     let table = table(rt.alloc(), ModeNo(0))?;
-    assert_eq!(rt; points(rt.alloc(), &table)?.as_slice(), [Point::At(5)].as_slice());
+    assert_eq!(rt;
+        points(rt.alloc(), &table)?.as_slice(),
+        [Point::At(5)].as_slice()
+    );
     assert_eq!(rt;
         lines(rt.alloc(), &table, 10)?.as_slice(),
         [Line::Activate(0, A), Line::Check(5, A)].as_slice()
@@ -243,7 +246,10 @@ fn a_stringent_deadline_is_its_point(rt: HostRuntime) -> Result<(), Fail> {
 #[test]
 fn a_deadline_with_nothing_behind_is_checked_at_the_end(rt: HostRuntime) -> Result<(), Fail> {
     let table = table(rt.alloc(), ModeNo(1))?;
-    assert_eq!(rt; points(rt.alloc(), &table)?.as_slice(), [Point::RoundEnd].as_slice());
+    assert_eq!(rt;
+        points(rt.alloc(), &table)?.as_slice(),
+        [Point::RoundEnd].as_slice()
+    );
     assert_eq!(rt;
         lines(rt.alloc(), &table, 8)?.as_slice(),
         [Line::Activate(0, A), Line::EndCheck(A)].as_slice()
@@ -254,7 +260,10 @@ fn a_deadline_with_nothing_behind_is_checked_at_the_end(rt: HostRuntime) -> Resu
 #[test]
 fn an_enable_is_a_point(rt: HostRuntime) -> Result<(), Fail> {
     let table = table(rt.alloc(), ModeNo(2))?;
-    assert_eq!(rt; points(rt.alloc(), &table)?.as_slice(), [Point::At(7)].as_slice());
+    assert_eq!(rt;
+        points(rt.alloc(), &table)?.as_slice(),
+        [Point::At(7)].as_slice()
+    );
     let want = [Line::Activate(0, A), Line::Check(7, A), Line::Enable(7, K)];
     assert_eq!(rt; lines(rt.alloc(), &table, 10)?.as_slice(), want.as_slice());
     Ok(())

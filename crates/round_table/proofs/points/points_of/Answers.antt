@@ -1,4 +1,4 @@
-use Rattle.std.proofs.Common.{ℕ, ◌≡◌, List, map, ap, ◌∙◌, subst}
+use Rattle.std.proofs.Common.{ℕ, List, map, ap, ◌∙◌, subst}
 use Rattle.std.specs.List.Sorted.{IsPermutation}
 use Rattle.std.proofs.lemmas.Result.{IfOk-weaker}
 use Rattle.tt_world.specs.Points.{offsets_in}

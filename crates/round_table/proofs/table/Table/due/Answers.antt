@@ -1,5 +1,5 @@
-use Rattle.std.proofs.Common.{◌≡◌, ℕ, List, Option, length, sym, ap, ◌∙◌, subst, arith}
-use Rattle.std.specs.Prelude.{◌==◌, nat_le, nat_lt, filter, slice_range}
+use Rattle.std.proofs.Common.{List, length, ap, ◌∙◌, subst, arith}
+use Rattle.std.specs.Prelude.{nat_le, nat_lt}
 use Rattle.tt_world.specs.declared.config.Activation.{Activation}
 use Rattle.tt_world.specs.declared.config.Enable.{Enable}
 use Rattle.tt_world.specs.Rows.{entry_at}
