@@ -1,5 +1,6 @@
-//! The dispatcher tables of a configuration, as the dispatcher walks them: which checks, enables and activation stand at an offset of
-//! the round, and at which offset something stands next.
+//! The dispatcher tables of a configuration, as the dispatcher of the OSEK/VDX time-triggered operating system walks them in each round:
+//! which checks, enables and activation stand at an offset, in ticks from the start of the round, and at which offset something stands
+//! next. Deadline monitoring is the standard's; the points at which it looks at a deadline are the bench's own.
 #![tactic(auto)]
 
 mod checks;

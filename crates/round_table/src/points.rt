@@ -124,9 +124,9 @@ pub(crate) fn instants_of(
     points: &[Point],
 ) -> Result<Vec<u64>, Memory>
     requires { points.now ≡ map (point_of mode.now) mode.now.activations }
-    ensures { IfOk result (λ offsets. offsets.items ≡ instants_of mode.now) }
+    ensures { IfOk result (λ instants. instants.items ≡ instants_of mode.now) }
 {
-    let mut offsets = row_offsets(alloc, mode)?;
-    put_points(points, &mut offsets)?;
-    Ok(offsets)
+    let mut instants = row_offsets(alloc, mode)?;
+    put_points(points, &mut instants)?;
+    Ok(instants)
 }

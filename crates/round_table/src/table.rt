@@ -20,8 +20,9 @@ use std::marker::Model;
 use tt_base::{IsrNo, Memory, ModeNo};
 use tt_world::{Activation, Config, Enable, ModeDef, Point};
 
-/// The dispatcher table of a mode: its rows, and the checks of the deadlines at their monitoring points. Contracts see the rows, and the
-/// offset up to which deadlines stand.
+/// The dispatcher table of an application mode: its rows, and the checks of its deadlines at their monitoring points, which are computed
+/// once. Offsets are in ticks from the start of the round. Contracts see the rows, and the round's length less the greatest correction,
+/// at which a round ends at the earliest. No call but `build` takes memory.
 #[derive(Debug, Drop)]
 pub struct Table {
     activations: Vec<Activation>,
@@ -165,9 +166,9 @@ impl Table {
         self.enables[place].isr
     }
 
-    /// What is due at an offset of the round, found by binary search: the checks of the activations whose monitoring point it is, in
-    /// ascending order of entry; the enables at it, by number of the routine; and the entry number of the activation, which is None
-    /// exactly where there is none.
+    /// What is due at an offset of the round, found by binary search: the places of the checks whose monitoring point it is, in ascending
+    /// order of entry, which is that of the offset of activation; the places of the enables at it, by number of the routine; and the
+    /// entry number of the activation, which is None exactly where there is none.
     pub fn due(&self, offset: u64) -> Due
         ensures exact { result ≡ due_at offset self.now }
         ensures checks { slice_range (checks_of self.now) result.checks_from result.checks_to ≡ entries_due (is_at offset) self.now.mode }
@@ -186,9 +187,9 @@ impl Table {
         }
     }
 
-    /// The range of places, up to below the second, of the checks at the end of a round of this length in ticks: those whose
-    /// monitoring point is not an offset below the length, in ascending order of entry. A round is not shorter than its length in
-    /// the configuration less the greatest correction.
+    /// The places, from the first up to below the second, of the checks at the end of a round of this length, in ticks: those whose
+    /// monitoring point is not an offset below the length, in ascending order of entry. The length is at least the round's length of the
+    /// configuration less the greatest correction: no correction makes a round shorter.
     pub fn end_checks(&self, round_length: u64) -> (usize, usize)
         requires { self.now.limit ≤ round_length }
         ensures from { result.0 ≡ length (checks_below self.now.mode round_length) }
@@ -198,7 +199,8 @@ impl Table {
         (first_from(&self.checks, round_length), self.checks.len())
     }
 
-    /// The least offset behind this one at which a check, an enable or an activation stands. It is None exactly where there is none.
+    /// The least offset behind this one at which a check, an enable or an activation stands, found by binary search. It is None exactly
+    /// where there is none. At no offset between does anything stand.
     pub fn next_after(&self, offset: u64) -> Option<u64>
         ensures least { result ≡ next_after offset self.now.mode }
         ensures ahead { IfSome result (λ next. (offset < next) × (next ≤ self.now.limit)) }
