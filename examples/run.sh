@@ -44,6 +44,8 @@ one=$here/one_task.osektime
 "$program" trace x <"$one" >"$work/out" 2>"$work/err"; status=$?; check "two words" 2 "$work/nothing"
 "$program" <"$one" >"$work/out" 2>"$work/err"; status=$?; check "no word" 2 "$work/nothing"
 "$program" trace $'\xff' <"$one" >"$work/out" 2>"$work/err"; status=$?; check "a word that is no text" 13 "$work/nothing"
+(ulimit -v 20000 && "$program" trace <"$here/half_a_million_outputs.osektime") >"$work/out" 2>"$work/err"; status=$?
+check "more events than there is memory for" 1 "$work/nothing"
 head -c 1048577 /dev/zero | "$program" show >"$work/out" 2>"$work/err"; status=$?; check "a byte too many" 5 "$work/nothing"
 "$program" show <"$here" >"$work/out" 2>"$work/err"; status=$?; check "a failing read" 3 "$work/nothing"
 : >"$work/out"
