@@ -48,8 +48,11 @@ one=$here/one_task.osektime
 check "more events than there is memory for" 1 "$work/nothing"
 head -c 1048577 /dev/zero | "$program" show >"$work/out" 2>"$work/err"; status=$?; check "a byte too many" 5 "$work/nothing"
 "$program" show <"$here" >"$work/out" 2>"$work/err"; status=$?; check "a failing read" 3 "$work/nothing"
+"$program" table <"$here" >"$work/out" 2>"$work/err"; status=$?; check "a failing read of a table" 3 "$work/nothing"
 : >"$work/out"
 "$program" trace <"$one" >/dev/full 2>"$work/err"; status=$?; check "a full output" 4 "$work/nothing"
+: >"$work/out"
+"$program" table <"$one" >/dev/full 2>"$work/err"; status=$?; check "a full output of a table" 4 "$work/nothing"
 : >"$work/out"
 "$program" trace <"$one" 1>&- 2>"$work/err"; status=$?; check "a closed output" 4 "$work/nothing"
 (
