@@ -4,6 +4,8 @@ import os
 import sys
 
 LIMIT = 1 << 20
+MODES = "abcdefghijklmnop"
+SOURCES = "ABCDEFGHIJKLMNOP"
 
 EVERY_ROW = """osektime 1
 round 10000
@@ -76,16 +78,44 @@ def numbered(form, count):
 def table_rows():
     """33,008 rows of the dispatcher tables of 16 modes, from the last offset to the first, the modes in turn: in each 1,500
     activations of one task, each at the deadline of the one before, and 563 enables of one source."""
-    modes = "abcdefghijklmnop"
     rows = ["osektime 1\nround 10000\n"]
-    rows += [f"mode {mode}\n" for mode in modes]
+    rows += [f"mode {mode}\n" for mode in MODES]
     rows.append("task A 8\nwork 1\nend\nisr K 1 4\nwork 1\nend\n")
     for i in reversed(range(1500)):
-        rows += [f"at {6 * i} {mode} activate A {6 * i + 6} stringent\n" for mode in modes]
+        rows += [f"at {6 * i} {mode} activate A {6 * i + 6} stringent\n" for mode in MODES]
     for i in reversed(range(563)):
-        rows += [f"at {16 * i} {mode} enable K\n" for mode in modes]
+        rows += [f"at {16 * i} {mode} enable K\n" for mode in MODES]
     rows.append("start a\nrounds 1\n")
     return "".join(rows)
+
+
+def filled(head, rows, tail):
+    """As many of the rows as a document has room for, the last of them first."""
+    room = LIMIT - len(head) - len(tail)
+    taken = []
+    for row in rows:
+        if len(row) > room:
+            break
+        room -= len(row)
+        taken.append(row)
+    return head + "".join(reversed(taken)) + tail
+
+
+def most_rows():
+    """The most rows of dispatcher tables that a document can have: 59,793 enables of 16 sources in 16 modes, from the last offset to
+    the first, the modes in turn."""
+    head = "osektime 1\nround 256\n" + "".join(f"mode {mode}\n" for mode in MODES)
+    head += "".join(f"isr {source} {i + 1} 0\nsync\nend\n" for i, source in enumerate(SOURCES))
+    rows = (f"at {offset} {mode} enable {source}\n" for offset in range(256) for source in SOURCES for mode in MODES)
+    return filled(head, rows, "start a\nrounds 1\n")
+
+
+def most_points():
+    """27,337 activations in 16 modes, from the last offset to the first, the modes in turn. Their deadlines are not stringent, and each is
+    monitored at the next activation of the mode."""
+    head = "osektime 1\nround 10000\n" + "".join(f"mode {mode}\n" for mode in MODES) + "task A 8\nwork 1\nend\n"
+    rows = (f"at {2 * i} {mode} activate A {2 * i + 1} nonstringent\n" for i in range(4096) for mode in MODES)
+    return filled(head, rows, "start a\nrounds 1\n")
 
 
 def used_names():
@@ -117,11 +147,10 @@ def deep_blocks():
 
 def arrivals():
     """60,000 interrupts of 32 sources in turn."""
-    upper = "ABCDEFGHIJKLMNOP"
-    sources = upper + upper.lower()
+    sources = SOURCES + SOURCES.lower()
     rows = ["osektime 1\nround 1000000\nmode Z\n"]
-    rows += [f"isr {name} {i + 1} 4\nwork 1\nend\n" for i, name in enumerate(upper)]
-    rows += [f"oisr {name} {i + 1}\nwork 1\nend\n" for i, name in enumerate(upper.lower())]
+    rows += [f"isr {name} {i + 1} 4\nwork 1\nend\n" for i, name in enumerate(SOURCES)]
+    rows += [f"oisr {name} {i + 1}\nwork 1\nend\n" for i, name in enumerate(SOURCES.lower())]
     rows.append("start Z\nrounds 1\n")
     rows += [f"arrive {sources[i % 32]} {500 * (i // 32)}\n" for i in range(60000)]
     return "".join(rows)
@@ -157,6 +186,8 @@ DOCUMENTS = [
     every_row,
     many_ends,
     table_rows,
+    most_rows,
+    most_points,
     used_names,
     many_names,
     deep_blocks,

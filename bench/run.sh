@@ -7,7 +7,7 @@ here=$(cd "$(dirname "${BASH_SOURCE[0]}")" && pwd)
 work=$(mktemp -d)
 trap 'rm -rf "$work"' EXIT
 python3 "$here/documents.py" "$work/documents"
-for name in show rules run; do
+for name in show rules run table; do
   rustc --edition 2021 -O -o "$work/$name" "$here/baseline/$name.rs"
 done
 "$here/../osektime" >/dev/null 2>&1 </dev/null || true
@@ -35,8 +35,12 @@ print(f"{min(times) * 1000:8.1f} ms {max(peaks) / 1024:8.1f} MiB  status {status
 PY
 }
 
-runs_plainly() { # DOCUMENT: whether the rules accept it and it has no rows beyond those that run
-  "$work/rules" <"$1" >/dev/null || return 1
+is_accepted() { # DOCUMENT: whether it meets the rules
+  "$work/rules" <"$1" >/dev/null
+}
+
+runs_plainly() { # DOCUMENT: whether it meets the rules and has no rows beyond those that run
+  is_accepted "$1" || return 1
   local status=0
   "$work/run" <"$1" >/dev/null || status=$?
   [ "$status" -ne 11 ]
@@ -49,4 +53,8 @@ for document in "$work"/documents/*; do
   measure "$document" "$program" trace
   measure "$document" "$work/rules"
   if runs_plainly "$document"; then measure "$document" "$work/run"; fi
+  if is_accepted "$document"; then
+    measure "$document" "$program" table
+    measure "$document" "$work/table"
+  fi
 done

@@ -1,14 +1,13 @@
-//! What `osektime trace` does with an accepted document of one mode with stringent activations, hand-written in plain Rust: it runs
-//! the document tick by tick and prints what happens. It applies no rule.
+//! What `osektime trace` does with an accepted document without interrupts, services, global time and OSEK tasks, hand-written in
+//! plain Rust: it runs the start mode tick by tick and prints what happens. It applies no rule.
 
 mod document;
+mod mode;
 
-use document::{declared, read, Kind, NumberedRow, Op, Row, Term};
-use std::collections::HashMap;
+use document::{read, Kind, NumberedRow, Op, Row, Term};
+use mode::{modes_of, numbers_of, Activation, Mode, Numbers};
 use std::io::{BufWriter, Read, Write};
 use std::process::ExitCode;
-
-type Numbers<'a> = HashMap<(Kind, &'a str), usize>;
 
 enum Expr {
     Const(i32),
@@ -35,12 +34,6 @@ struct Task<'a> {
     body: Vec<Stmt>,
 }
 
-struct Activation {
-    offset: u64,
-    task: usize,
-    deadline: u64,
-}
-
 #[derive(Default)]
 struct Config<'a> {
     mode: &'a str,
@@ -49,7 +42,9 @@ struct Config<'a> {
     vars: Vec<i32>,
     demands: Vec<Demand>,
     tasks: Vec<Task<'a>>,
-    activations: Vec<Activation>,
+    error_hook: Vec<Stmt>,
+    shutdown_hook: Vec<Stmt>,
+    table: Mode,
 }
 
 fn expression(numbers: &Numbers, terms: &mut std::slice::Iter<Term>) -> Option<Expr> {
@@ -86,18 +81,6 @@ fn block(numbers: &Numbers, rows: &mut std::slice::Iter<NumberedRow>) -> Option<
     }
 }
 
-/// The number of each declared name: the count of names of its kind above it.
-fn numbers_of<'a>(rows: &[NumberedRow<'a>]) -> Numbers<'a> {
-    let mut numbers: Numbers = HashMap::new();
-    let mut counts: HashMap<Kind, usize> = HashMap::new();
-    for (kind, name) in rows.iter().filter_map(|r| declared(&r.row)) {
-        let count = counts.entry(kind).or_default();
-        numbers.insert((kind, name), *count);
-        *count += 1;
-    }
-    numbers
-}
-
 fn demand_of(row: &NumberedRow) -> Option<Demand> {
     if let Row::Demand { usual, .. } = row.row {
         Some(Demand { usual, values: Vec::new() })
@@ -109,28 +92,24 @@ fn demand_of(row: &NumberedRow) -> Option<Demand> {
 /// The configuration and script of accepted rows; None where a row is none of those that run here.
 fn config<'a>(rows: &'a [NumberedRow<'a>]) -> Option<Config<'a>> {
     let numbers = numbers_of(rows);
-    if numbers.keys().filter(|(kind, _)| *kind == Kind::Mode).count() != 1 {
-        return None;
-    }
+    let mut modes = modes_of(rows, &numbers)?;
     let mut config = Config { demands: rows.iter().filter_map(demand_of).collect(), ..Config::default() };
     let mut rest = rows.iter();
     while let Some(row) = rest.next() {
         match row.row {
-            Row::Header | Row::Mode(_) | Row::Demand { .. } => {}
+            Row::Header | Row::Mode(_) | Row::Demand { .. } | Row::AtActivate { .. } => {}
             Row::Round(length) => config.round = length,
             Row::Var(_, value) => config.vars.push(value),
             Row::Task { name, .. } => config.tasks.push(Task { name, body: block(&numbers, &mut rest)?.0 }),
-            Row::AtActivate { offset, task, deadline, stringent: true, .. } => {
-                let task = *numbers.get(&(Kind::Task, task))?;
-                config.activations.push(Activation { offset, task, deadline });
-            }
+            Row::HookError => config.error_hook = block(&numbers, &mut rest)?.0,
+            Row::HookShutdown => config.shutdown_hook = block(&numbers, &mut rest)?.0,
             Row::Start(mode) => config.mode = mode,
             Row::Rounds(count) => config.rounds = count,
             Row::Value(demand, ticks) => config.demands[*numbers.get(&(Kind::Demand, demand))?].values.push(ticks),
             _ => return None,
         }
     }
-    config.activations.sort_by_key(|a| a.offset);
+    config.table = modes.swap_remove(*numbers.get(&(Kind::Mode, config.mode))?);
     Some(config)
 }
 
@@ -225,7 +204,8 @@ impl<'a> Unfinished<'a> {
 /// The run at a tick.
 struct Run<'a, W> {
     config: &'a Config<'a>,
-    checks: &'a [usize],
+    /// The offset and the entry of each check, those at the round's end with its length.
+    checks: &'a [(u64, usize)],
     out: W,
     tick: u64,
     start: u64,
@@ -243,21 +223,36 @@ enum End {
 }
 
 impl<'a, W: Write> Run<'a, W> {
-    /// Checks the activations whose deadline is this offset; tells whether one is missed.
+    /// Plays the body of a hook, which takes no time.
+    fn play(&mut self, hook: &str, body: &[Stmt]) -> std::io::Result<()> {
+        for stmt in body {
+            match stmt {
+                Stmt::Set(var, expr) => self.state.vars[*var] = value(expr, &self.state.vars),
+                Stmt::Out(expr) => writeln!(self.out, "{} out {hook} {}", self.tick, value(expr, &self.state.vars))?,
+                _ => {}
+            }
+        }
+        Ok(())
+    }
+
+    /// Checks the activations that are monitored at this offset; tells whether one is missed.
     fn check(&mut self, offset: u64) -> std::io::Result<bool> {
-        while let Some(entry) = self.checks.get(self.next_check) {
-            let Activation { task, deadline, .. } = self.config.activations[*entry];
-            if deadline != offset {
+        let (at, config) = (self.tick, self.config);
+        while let Some((point, entry)) = self.checks.get(self.next_check) {
+            if *point != offset {
                 break;
             }
             self.next_check += 1;
-            let name = self.config.tasks[task].name;
+            let name = config.tasks[config.table.activations[*entry].task].name;
             if self.unfinished.iter().any(|u| u.entry == *entry) {
-                let at = self.tick;
-                writeln!(self.out, "{at} check {name} missed\n{at} hook ttErrorHook {name}\n{at} hook ttShutdownHook\n{at} shutdown")?;
+                writeln!(self.out, "{at} check {name} missed\n{at} hook ttErrorHook {name}")?;
+                self.play("ttErrorHook", &config.error_hook)?;
+                writeln!(self.out, "{at} hook ttShutdownHook")?;
+                self.play("ttShutdownHook", &config.shutdown_hook)?;
+                writeln!(self.out, "{at} shutdown")?;
                 return Ok(true);
             }
-            writeln!(self.out, "{} check {name} met", self.tick)?;
+            writeln!(self.out, "{at} check {name} met")?;
         }
         Ok(false)
     }
@@ -278,9 +273,9 @@ impl<'a, W: Write> Run<'a, W> {
             self.next_activation = 0;
             writeln!(self.out, "{} round {} {}", self.tick, self.number, self.config.mode)?;
         }
-        if let Some(activation) = self.config.activations.get(self.next_activation) {
-            if activation.offset == self.tick - self.start {
-                let Task { name, body } = &self.config.tasks[activation.task];
+        if let Some(Activation { offset, task, .. }) = self.config.table.activations.get(self.next_activation) {
+            if *offset == self.tick - self.start {
+                let Task { name, body } = &self.config.tasks[*task];
                 let frames = vec![Frame { body, place: 0, turns: 0 }];
                 self.unfinished.push(Unfinished { entry: self.next_activation, work: 0, frames });
                 self.next_activation += 1;
@@ -294,7 +289,7 @@ impl<'a, W: Write> Run<'a, W> {
     fn step(&mut self) -> std::io::Result<()> {
         let config = self.config;
         let running = self.unfinished.last_mut();
-        let name = running.as_ref().map_or("idle", |u| config.tasks[config.activations[u.entry].task].name);
+        let name = running.as_ref().map_or("idle", |u| config.tasks[config.table.activations[u.entry].task].name);
         if self.last != Some(name) {
             writeln!(self.out, "{} run {name}", self.tick)?;
             self.last = Some(name);
@@ -326,8 +321,9 @@ impl<'a, W: Write> Run<'a, W> {
 }
 
 fn run(config: &Config) -> std::io::Result<End> {
-    let mut checks: Vec<usize> = (0..config.activations.len()).collect();
-    checks.sort_by_key(|entry| config.activations[*entry].deadline);
+    let at_end = |(entry, point): (usize, Option<u64>)| (point.unwrap_or(config.round), entry);
+    let mut checks: Vec<(u64, usize)> = config.table.points().into_iter().enumerate().map(at_end).collect();
+    checks.sort_unstable();
     let state = State { vars: config.vars.clone(), used: vec![0; config.demands.len()] };
     let run = Run {
         config,
