@@ -11,13 +11,13 @@ use Rattle.task_lang.specs.Allowed.{is_allowed}
 use Rattle.task_lang.specs.Limits.{each_in, inner_pass, nesting_step, count_step}
 use Rattle.task_lang.specs.Worst.{worst_step}
 use Rattle.tt_world.specs.ConfigRules.{IsConfig, IsBody, IsRoutine, IsTask, IsIsr, IsMode, IsOsek, IsOisr}
-use Rattle.round_table.specs.Example.{body, example, modes, routine, task, stringent_mode, late_mode, enabling_mode, mixed_mode, empty_mode}
+use Rattle.round_table.specs.Example.{example, example_body, example_modes, example_routine, example_task, stringent_mode, late_mode, enabling_mode, mixed_mode, empty_mode}
 
-each : (test : Stmt-F Bool → Bool) → test (Stmt-F.Work 1) ≡ true → each_in test body ≡ true
+each : (test : Stmt-F Bool → Bool) → test (Stmt-F.Work 1) ≡ true → each_in test example_body ≡ true
 each test is =
     ap (λ b. b && true) (fold-Work Bool (λ stmt. test stmt && inner_pass stmt) 1 ∙ ap (λ b. b && true) is)
 
-is_body : (kind : OwnerKind) → is_allowed {A = Bool} kind (Stmt-F.Work 1) ≡ true → IsBody example kind body
+is_body : (kind : OwnerKind) → is_allowed {A = Bool} kind (Stmt-F.Work 1) ≡ true → IsBody example kind example_body
 is_body kind allowed = record {
   nested = rw (fold-Work ℕ nesting_step 1) (omega arith);
   counted = rw (fold-Work ℕ count_step 1) (omega arith);
@@ -29,7 +29,7 @@ is_body kind allowed = record {
   allowed = each (is_allowed kind) allowed;
 }
 
-is_routine : (kind : OwnerKind) → is_allowed {A = Bool} kind (Stmt-F.Work 1) ≡ true → IsRoutine example kind body 1
+is_routine : (kind : OwnerKind) → is_allowed {A = Bool} kind (Stmt-F.Work 1) ≡ true → IsRoutine example kind example_body 1
 is_routine kind allowed = record {
   is_body = is_body kind allowed;
   some = omega arith;
@@ -37,10 +37,10 @@ is_routine kind allowed = record {
   bounded = omega arith;
 }
 
-is_task : IsTask example task
+is_task : IsTask example example_task
 is_task = record { routine = is_routine owner.Task refl; stack = omega arith }
 
-is_isr : IsIsr example routine
+is_isr : IsIsr example example_routine
 is_isr = record { routine = is_routine owner.Isr refl; stack = omega arith; level = omega arith; distance = refl }
 
 is_hook : IsBody example owner.Hook []
@@ -70,8 +70,8 @@ is_mixed = record { activations = refl; ascending = refl; apart = refl; enables 
 is_empty : IsMode example empty_mode
 is_empty = record { activations = refl; ascending = refl; apart = refl; enables = refl; enables_ascending = refl; few = omega arith }
 
-example_modes : All (IsMode example) modes
-example_modes = All-from_recursion (IsMode example) modes (is_stringent, (is_late, (is_enabling, (is_mixed, (is_empty, tt)))))
+modes_meet : All (IsMode example) example_modes
+modes_meet = All-from_recursion (IsMode example) example_modes (is_stringent, (is_late, (is_enabling, (is_mixed, (is_empty, tt)))))
 
 pub example_rules : IsConfig example
 example_rules = record {
@@ -92,8 +92,8 @@ example_rules = record {
   };
   mosts = refl;
   usuals = refl;
-  tasks = All-cons (IsTask example) task (task ∷ []) is_task (All-cons (IsTask example) task [] is_task (All-nil (IsTask example)));
-  isrs = All-cons (IsIsr example) routine [] is_isr (All-nil (IsIsr example));
+  tasks = All-cons (IsTask example) example_task (example_task ∷ []) is_task (All-cons (IsTask example) example_task [] is_task (All-nil (IsTask example)));
+  isrs = All-cons (IsIsr example) example_routine [] is_isr (All-nil (IsIsr example));
   oseks = All-nil (IsOsek example);
   oisrs = All-nil (IsOisr example);
   levels = refl;
@@ -101,5 +101,5 @@ example_rules = record {
   oisr_priorities = refl;
   error_hook = is_hook;
   shutdown_hook = is_hook;
-  modes = example_modes;
+  modes = modes_meet;
 }

@@ -2,7 +2,7 @@
 
 ghost use Rattle.std.specs.Prelude.{◌≡◌, ◌<◌, ◌≤◌, [], ◌∷◌, ◌++◌, IfOk, OnOk};
 ghost use Rattle.tt_base.specs.Names.{count_of};
-ghost use Rattle.round_table.specs.Example.{body, example, isrs, modes, names, task, tasks};
+ghost use Rattle.round_table.specs.Example.{example, example_body, example_isrs, example_modes, example_names, example_task, example_tasks};
 ghost use Rattle.round_table.specs.TableRows.{mode_at, table_of};
 
 use crate::{Due, Table, Tables};
@@ -28,7 +28,7 @@ fn add(names: &mut Names, kind: NameKind, text: &[u8]) -> Result<(), Fail>
 }
 
 fn names(alloc: Global) -> Result<Names, Fail>
-    ensures { IfOk result (λ all. all ≡ names) }
+    ensures { IfOk result (λ all. all ≡ example_names) }
 {
     let mut names = Names::new(alloc);
     add(&mut names, NameKind::Mode, b"m")?;
@@ -43,7 +43,7 @@ fn names(alloc: Global) -> Result<Names, Fail>
 }
 
 fn body(alloc: Global) -> Result<Body, Fail>
-    ensures { IfOk result (λ stmts. stmts ≡ body) }
+    ensures { IfOk result (λ stmts. stmts ≡ example_body) }
 {
     let mut body = Items::new(alloc);
     body.push(Stmt::Work(1))?;
@@ -51,7 +51,7 @@ fn body(alloc: Global) -> Result<Body, Fail>
 }
 
 fn task(alloc: Global) -> Result<TaskDef, Fail>
-    ensures { IfOk result (λ def. def ≡ task) }
+    ensures { IfOk result (λ def. def ≡ example_task) }
 {
     Ok(TaskDef {
         stack: 8,
@@ -61,7 +61,7 @@ fn task(alloc: Global) -> Result<TaskDef, Fail>
 }
 
 fn tasks(alloc: Global) -> Result<Series<TaskDef>, Fail>
-    ensures { IfOk result (λ defs. defs ≡ tasks) }
+    ensures { IfOk result (λ defs. defs ≡ example_tasks) }
 {
     let mut tasks = Series::new(alloc);
     tasks.push(task(alloc)?)?;
@@ -70,7 +70,7 @@ fn tasks(alloc: Global) -> Result<Series<TaskDef>, Fail>
 }
 
 fn isrs(alloc: Global) -> Result<Series<IsrDef>, Fail>
-    ensures { IfOk result (λ defs. defs ≡ isrs) }
+    ensures { IfOk result (λ defs. defs ≡ example_isrs) }
 {
     let mut isrs = Series::new(alloc);
     isrs.push(IsrDef {
@@ -114,7 +114,7 @@ fn mode(alloc: Global, activations: &[Activation], enables: &[Enable]) -> Result
 }
 
 fn modes(alloc: Global) -> Result<Series<ModeDef>, Fail>
-    ensures { IfOk result (λ defs. defs ≡ modes) }
+    ensures { IfOk result (λ defs. defs ≡ example_modes) }
 {
     let mut modes = Series::new(alloc);
     modes.push(mode(alloc, &[at(0, A, 5, true)], &[])?)?;
@@ -177,17 +177,30 @@ enum Line {
     EndCheck(TaskNo),
 }
 
-/// Appends the checks, the enables and the activation of an offset.
-fn put_due(table: &Table, offset: u64, lines: &mut Vec<Line>) -> Result<(), Fail> {
+/// Appends the checks of an offset.
+fn put_checks(table: &Table, offset: u64, lines: &mut Vec<Line>) -> Result<(), Fail> {
     let due = table.due(offset);
     for place in due.checks_from..due.checks_to {
         let entry = table.check_at(place);
         lines.push(Line::Check(offset, table.activation(entry).task))?;
     }
+    Ok(())
+}
+
+/// Appends the enables of an offset.
+fn put_enables(table: &Table, offset: u64, lines: &mut Vec<Line>) -> Result<(), Fail> {
+    let due = table.due(offset);
     for place in due.enables_from..due.enables_to {
         lines.push(Line::Enable(offset, table.enable_at(place)))?;
     }
-    if let Some(entry) = due.activation {
+    Ok(())
+}
+
+/// Appends the checks, the enables and the activation of an offset.
+fn put_due(table: &Table, offset: u64, lines: &mut Vec<Line>) -> Result<(), Fail> {
+    put_checks(table, offset, lines)?;
+    put_enables(table, offset, lines)?;
+    if let Some(entry) = table.due(offset).activation {
         lines.push(Line::Activate(offset, table.activation(entry).task))?;
     }
     Ok(())
