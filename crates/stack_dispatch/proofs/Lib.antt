@@ -1,6 +1,7 @@
+pub mod Activated
 pub mod Checking
 pub mod Playing
-pub mod Offsets
-pub mod Unfinished
+pub mod Quiet
 pub mod Rounds
 pub mod Running
+pub mod Unfinished

@@ -1,24 +1,30 @@
 -- What the plain runner keeps: the world and the events are those of the schedule at the present tick.
-use Rattle.std.proofs.Common.{ℕ, suc, ◌≡◌, ◌<◌, ◌≤◌, ◌+◌, ◌-◌, ◌*◌, List, [], ◌++◌, true, false, None, Some, refl, ap, sym, ◌∙◌, subst, arith, add-one}
+use Rattle.std.proofs.Common.{ℕ, suc, ◌≡◌, ◌<◌, ◌≤◌, ◌+◌, ◌-◌, ◌*◌, List, [], ◌++◌, length, true, false, None, Some, refl, ap, sym, ◌∙◌, subst, arith, add-one}
 use Rattle.std.proofs.Math.Nat.{mul-le-mul_right}
 use Rattle.tt_base.specs.declared.event.Event.{Event}
+use Rattle.tt_base.specs.declared.number.ModeNo.{ModeNo}
 use Rattle.tt_world.specs.declared.config.ConfigParts.{ConfigParts}
 use Rattle.tt_world.specs.declared.script.ScriptParts.{ScriptParts}
 use Rattle.tt_world.specs.declared.world.World.{World}
 use Rattle.tt_world.specs.declared.world.Outcome.{Outcome}
 use Rattle.tt_world.specs.declared.world.Outcome.TheVariants as outcome
+use Rattle.tt_world.specs.ConfigRules.{IsConfig}
+use Rattle.tt_world.specs.ScriptRules.{IsScript}
 use Rattle.tt_world.specs.Moved.{Gives, is_over}
-use Rattle.tt_world.specs.Rows.{HasMode}
 use Rattle.tt_world.specs.Schedule.{IsBounded, instant, instant_at, world_at, events_before, ends_at, last_instant, schedule, first_world}
 use Rattle.tt_world.specs.Status.{status_of, last_stamp}
 use Rattle.tt_world.proofs.Frames.{frame_of}
 use Rattle.tt_world.proofs.Time.{Timed, Before}
-use Rattle.tt_world.proofs.Ends.{GoesOnBefore, timed_at, few_ticks, goes_on_more, last_is, last_unique, instant_tick, over_tick}
-use Rattle.tt_world.proofs.Modes.{mode_at}
+use Rattle.tt_world.proofs.Ends.{GoesOnBefore, are_bounded, timed_at, few_ticks, goes_on_more, last_is, last_unique, instant_tick, over_tick}
+use Rattle.tt_world.proofs.Modes.{instant_mode}
+use Rattle.tt_world.proofs.RunRule.{kept_at}
 use Rattle.tt_world.proofs.Closing.{status_is, last_stamp_is, status_by as status_of_outcome}
+use Rattle.round_table.specs.TableRows.{table_of, mode_at}
 use Rattle.stack_dispatch.specs.declared.plain.RunEnd.{RunEnd}
 use Rattle.stack_dispatch.specs.declared.plain.RunEnd.TheVariants as end
-use Rattle.stack_dispatch.specs.Parts.{HasRoom}
+use Rattle.stack_dispatch.specs.Activated.{AreActivated}
+use Rattle.stack_dispatch.specs.State.{HasRoom, IsServed}
+use Rattle.stack_dispatch.proofs.Activated.{activated_at}
 use Rattle.stack_dispatch.specs.RunEnd.{run_end_of, status_by}
 
 pub record AtTick (c : ConfigParts) (s : ScriptParts) (w : World) (es : List Event) : Type 0 where
@@ -26,18 +32,37 @@ pub record AtTick (c : ConfigParts) (s : ScriptParts) (w : World) (es : List Eve
   pub events : es ≡ events_before c s w.tick
   pub going : GoesOnBefore c s w.tick
 
+start_mode : (c : ConfigParts) (s : ScriptParts) (n : ℕ) → GoesOnBefore c s n → (world_at c s n).mode ≡ s.start
+start_mode c s = kept_at c s (λ v. v.mode ≡ s.start) refl (λ n _ e g. instant_mode c s (world_at c s n) g ∙ e)
+
 pub at_first : (c : ConfigParts) (s : ScriptParts) → AtTick c s (first_world c s) []
 unfolding world_at events_before
 at_first c s = record { world = refl; events = refl; going = λ k l. absurd (omega arith) }
 
-pub has_room : (c : ConfigParts) (s : ScriptParts) (w : World) (es : List Event) → IsBounded c s → AtTick c s w es → HasRoom c s w
-has_room c s w es bounded a =
-    let t : Timed Before c s (frame_of w) = subst (λ v. Timed Before c s (frame_of v)) (sym a.world) (timed_at c s bounded w.tick a.going) in
-    let few : w.tick ≤ s.rounds * (c.round + c.adjust) = few_ticks c s bounded w.tick a.going in
-    let m : s.rounds * (c.round + c.adjust) ≤ 100000 * (c.round + c.adjust) = mul-le-mul_right (c.round + c.adjust) bounded.few_rounds in
-    let adjust = bounded.adjust in
-    let short = bounded.round_short in
-    record { tick = omega arith; number = t.within; mode = subst (HasMode c) (sym a.world) (mode_at c s bounded w.tick a.going) }
+-- what the instant rests on
+module _ (c : ConfigParts) (s : ScriptParts) (rules : IsConfig c) (script : IsScript c s) (w : World) (es : List Event) (a : AtTick c s w es) where
+  bounded : IsBounded c s
+  bounded = are_bounded c s rules script
+
+  pub has_room : HasRoom s w
+  has_room =
+      let t : Timed Before c s (frame_of w) = subst (λ v. Timed Before c s (frame_of v)) (sym a.world) (timed_at c s bounded w.tick a.going) in
+      let few : w.tick ≤ s.rounds * (c.round + c.adjust) = few_ticks c s bounded w.tick a.going in
+      let m : s.rounds * (c.round + c.adjust) ≤ 100000 * (c.round + c.adjust) = mul-le-mul_right (c.round + c.adjust) bounded.few_rounds in
+      let adjust = bounded.adjust in
+      let short = bounded.round_short in
+      record { tick = omega arith; number = t.within }
+
+  -- a run stays in its start mode
+  pub is_served : IsServed c (table_of c (mode_at c s.start)) w
+  is_served =
+      let mode : w.mode ≡ s.start = ap (λ v. v.mode) a.world ∙ start_mode c s w.tick a.going in
+      record {
+        rules = rules;
+        mode = subst (λ (m : ModeNo). m.0 < length c.modes) (sym mode) script.start;
+        table = ap (λ (m : ModeNo). table_of c (mode_at c m)) (sym mode);
+        activated = subst (AreActivated c 0) (sym a.world) (activated_at c s rules w.tick a.going);
+      }
 
 -- the same at the next tick
 pub going_end : (o : Outcome) → run_end_of o ≡ None → outcome.GoesOn ≡ o

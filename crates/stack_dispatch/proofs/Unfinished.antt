@@ -5,7 +5,7 @@ use Rattle.tt_world.specs.declared.world.Instance.{Instance}
 use Rattle.tt_world.specs.declared.world.Runner.{Runner}
 use Rattle.tt_world.specs.declared.world.Runner.TheVariants.{Activation, Nobody}
 use Rattle.tt_world.specs.Instances.{last_unfinished, or_else, is_done, instance_at}
-use Rattle.stack_dispatch.specs.Parts.{AreDone, IsThere, IsBelow, ChangesOnly, last_of}
+use Rattle.stack_dispatch.specs.Runners.{AreDone, IsThere, IsBelow, ChangesOnly, last_of}
 use Rattle.stack_dispatch.specs.Top.{IsTop}
 
 -- nothing is left of any: there is none

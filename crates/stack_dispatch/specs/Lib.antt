@@ -1,3 +1,6 @@
-pub mod Parts
+pub mod Activated
+pub mod Checking
 pub mod RunEnd
+pub mod Runners
+pub mod State
 pub mod Top

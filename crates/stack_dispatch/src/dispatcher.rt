@@ -1,55 +1,52 @@
 //! The state of a run, and the parts of an instant in their order.
 
-ghost use Rattle.std.specs.Prelude.{◌≡◌, ◌+◌, ◌^◌, ◌<◌, ◌≤◌, length, replicate, IfOk};
+ghost use Rattle.std.specs.Prelude.{◌≡◌, ◌+◌, ◌-◌, ◌^◌, ◌<◌, ◌≤◌, length, replicate, slice_range, Option, IfOk};
+ghost use Rattle.tt_world.specs.ConfigRules.{IsConfig};
 ghost use Rattle.tt_world.specs.Moved.{Gives};
-ghost use Rattle.tt_world.specs.Rows.{HasMode, offset_of, mode_of, entry_at, body_of};
-ghost use Rattle.tt_world.specs.Monitoring.{monitored};
-ghost use Rattle.tt_world.specs.Opening.{head, next_round, round_end, checks, activation, rows, opening};
+ghost use Rattle.tt_world.specs.Rows.{HasMode, offset_of, mode_of, body_of};
+ghost use Rattle.tt_world.specs.Monitoring.{is_at, is_at_end, monitored};
+ghost use Rattle.tt_world.specs.Opening.{head, next_round, round_end, checks, activated, rows, opening};
 ghost use Rattle.tt_world.specs.Step.{runner_of, step};
 ghost use Rattle.tt_world.specs.Schedule.{first_world, instant};
-ghost use Rattle.stack_dispatch.specs.Parts.{ArePoints, HasRoom, is_due, points_of};
+ghost use Rattle.round_table.specs.DueRows.{checks_of, entries_due};
+ghost use Rattle.round_table.specs.TableRows.{table_of};
+ghost use Rattle.stack_dispatch.specs.Checking.{monitored_entries};
+ghost use Rattle.stack_dispatch.specs.State.{HasRoom, IsServed, IsQuiet};
 
 use crate::hooks::{call_error_hook, call_shutdown_hook};
-use crate::monitoring::{Due, check, row};
+use crate::monitoring::{check, row};
 use crate::plain::Events;
-use crate::points::{Points, points_of};
 use crate::runner::{last_below, mode, owner, ran_before, serve, up_to_unfinished};
+use round_table::Table;
 use std::alloc::Global;
 use std::marker::Model;
 use task_lang::{Cursors, Left};
 use tt_base::{Event, Memory, TaskNo, Tick};
-use tt_world::{
-    Activation, ConfigParts, Instance, Instances, Outcome, Point, Runner, ScriptParts, World,
-};
+use tt_world::{ConfigParts, Instance, Instances, Outcome, Runner, ScriptParts, World};
 
-/// The state of a run. Contracts see it as the world.
+/// The state of a run. Contracts see it as the world, and the offset up to below which nothing is due.
 #[derive(Drop)]
 pub struct Dispatcher {
     world: World,
     /// No activation at this place of the world's list or behind it has statements left.
     top: usize,
+    /// Nothing is due at an offset of the round from the present one on up to below this one.
+    next: u64,
 }
 
 impl Model for Dispatcher {
     ghost use Rattle.std.specs.Coded.{codes};
     ghost use Rattle.task_lang.specs.contracts.syntax.Stmt as stmt;
-    ghost use Rattle.tt_world.specs.declared.world.World.{World};
+    ghost use Rattle.stack_dispatch.specs.State.{State};
     ghost use Rattle.stack_dispatch.specs.Top.{IsTop};
 
-    ghost Value = { World };
+    ghost Value = { State };
 
     ghost coded = { Prim.hlevel (codes, stmt.the_row.coded) };
 
-    ghost view = { λ d. d.world };
+    ghost view = { λ d. record { world = d.world; next = d.next } };
 
     ghost invariant = { λ d. IsTop d.top d.world.activations };
-}
-
-/// The entry number of the row that activates at an offset.
-fn entry_at(rows: &[Activation], offset: u64) -> Option<usize>
-    ensures { result ≡ entry_at offset rows.now }
-{
-    rows.iter().position(|row| row.offset == offset)
 }
 
 /// The whole body of a task. A task that is not there has none.
@@ -69,7 +66,7 @@ impl Dispatcher {
         config: &ConfigParts,
         script: &ScriptParts,
     ) -> Result<Dispatcher, Memory>
-        ensures { IfOk result (λ dispatcher. dispatcher ≡ first_world config.now script.now) }
+        ensures { IfOk result (λ dispatcher. dispatcher ≡ record { world = first_world config.now script.now; next = 0 }) }
     {
         let world = World {
             tick: 0,
@@ -81,34 +78,30 @@ impl Dispatcher {
             activations: Instances::new(alloc),
             last: None,
         };
-        Ok(Dispatcher { world, top: 0 })
+        Ok(Dispatcher {
+            world,
+            top: 0,
+            next: 0,
+        })
     }
 
     /// The present tick.
     pub fn tick(&self) -> Tick
-        ensures { result ≡ self.now.tick }
+        ensures { result ≡ self.now.world.tick }
     {
         self.world.tick
     }
 
-    /// The monitoring points of the activations of the present mode.
-    pub fn points(&self, alloc: Global, config: &ConfigParts) -> Result<Points, Memory>
-        requires { HasMode config.now self.now }
-        ensures { IfOk result (λ points. points ≡ points_of (mode_of config.now self.now)) }
-    {
-        points_of(alloc, mode(config, &self.world))
-    }
-
     /// The offset of the instant in the present round.
     fn offset(&self) -> u64
-        ensures { result ≡ offset_of self.now }
+        ensures { result ≡ offset_of self.now.world }
     {
         self.world.tick.saturating_sub(self.world.start)
     }
 
     /// Notes the head of the run.
     fn begin(&self, script: &ScriptParts, events: &mut Events) -> Result<(), Memory>
-        ensures { IfOk result (λ _. Gives events.old events.new self.now Outcome.GoesOn (head script.now self.now)) }
+        ensures { IfOk result (λ _. Gives events.old events.new self.now.world Outcome.GoesOn (head script.now self.now.world)) }
     {
         events.push(Event::OsStart {
             at: self.world.tick,
@@ -121,27 +114,42 @@ impl Dispatcher {
         })
     }
 
-    /// Checks those activations of the round whose point is due. After a missed check the hooks are called, and the run ends.
+    /// Checks the activations of the entries at these places of the table's list of checks, up to below the second place. After a
+    /// missed check the hooks are called, and the run ends.
     fn monitor(
         &mut self,
         config: &ConfigParts,
-        points: &[Point],
-        due: Due,
+        table: &Table,
+        from: usize,
+        to: usize,
         events: &mut Events,
     ) -> Result<Outcome, Memory>
-        requires mode { HasMode config.now self.old }
-        requires points { ArePoints config.now self.old points.now }
-        ensures { IfOk result (λ end. Gives events.old events.new self.new end (monitored config.now (is_due due) self.old)) }
+        requires mode { HasMode config.now self.old.world }
+        requires places { to ≤ length (checks_of table.now) }
+        ensures { IfOk result (λ end. Gives events.old events.new self.new.world end (monitored_entries config.now (slice_range (checks_of table.now) from to) self.old.world)) }
     {
         let at = self.world.tick;
-        let mode = mode(config, &self.world);
-        let activations = self.world.activations.as_slice();
-        let Some(task) = check(at, mode, points, due, activations, events)? else {
+        let Some(task) = check(config, &self.world, table, from, to, events)? else {
             return Ok(Outcome::GoesOn);
         };
         call_error_hook(at, task, config, &mut self.world.vars, events)?;
         call_shutdown_hook(at, config, &mut self.world.vars, events)?;
         Ok(Outcome::Missed(task))
+    }
+
+    /// The checks at the end of a round that has its length.
+    fn check_end(
+        &mut self,
+        config: &ConfigParts,
+        table: &Table,
+        events: &mut Events,
+    ) -> Result<Outcome, Memory>
+        requires served { IsServed config.now table.now self.old.world }
+        requires over { offset_of self.old.world ≡ config.now.round }
+        ensures { IfOk result (λ end. Gives events.old events.new self.new.world end (monitored config.now (is_at_end (offset_of self.old.world)) self.old.world)) }
+    {
+        let places = table.end_checks(self.offset());
+        self.monitor(config, table, places.0, places.1, events)
     }
 
     /// After the last round the run stops, else the next round begins.
@@ -151,8 +159,8 @@ impl Dispatcher {
         script: &ScriptParts,
         events: &mut Events,
     ) -> Result<Outcome, Memory>
-        requires { self.old.number ≤ script.now.rounds }
-        ensures { IfOk result (λ end. Gives events.old events.new self.new end (next_round script.now self.old)) }
+        requires { self.old.world.number ≤ script.now.rounds }
+        ensures { IfOk result (λ end. Gives events.old events.new self.new.world end (next_round script.now self.old.world)) }
     {
         let at = self.world.tick;
         if self.world.number == script.rounds {
@@ -178,56 +186,37 @@ impl Dispatcher {
         alloc: Global,
         config: &ConfigParts,
         script: &ScriptParts,
-        points: &[Point],
+        table: &Table,
         events: &mut Events,
     ) -> Result<Outcome, Memory>
-        requires mode { HasMode config.now self.old }
-        requires points { ArePoints config.now self.old points.now }
-        requires number { self.old.number ≤ script.now.rounds }
-        ensures { IfOk result (λ end. Gives events.old events.new self.new end (round_end config.now script.now self.old)) }
+        requires served { IsServed config.now table.now self.old.world }
+        requires number { self.old.world.number ≤ script.now.rounds }
+        ensures { IfOk result (λ end. Gives events.old events.new self.new.world end (round_end config.now script.now self.old.world)) }
     {
-        let offset = self.offset();
-        if offset != config.round {
+        if self.offset() != config.round {
             return Ok(Outcome::GoesOn);
         }
-        match self.monitor(config, points, Due::AtEnd(offset), events)? {
+        match self.check_end(config, table, events)? {
             Outcome::GoesOn => self.next_round(alloc, script, events),
             end => Ok(end),
         }
     }
 
-    /// The checks of the present offset.
-    #[tactic(auto, unfolding(tt_world::specs::Opening::checks))]
-    fn check_points(
-        &mut self,
-        config: &ConfigParts,
-        points: &[Point],
-        events: &mut Events,
-    ) -> Result<Outcome, Memory>
-        requires mode { HasMode config.now self.old }
-        requires points { ArePoints config.now self.old points.now }
-        ensures { IfOk result (λ end. Gives events.old events.new self.new end (checks config.now self.old)) }
-    {
-        let offset = self.offset();
-        self.monitor(config, points, Due::At(offset), events)
-    }
-
-    /// The activation of the present offset, if there is one.
-    #[tactic(auto, unfolding(tt_world::specs::Opening::activation))]
+    /// Activates the task of a row, if there is one.
     fn activate(
         &mut self,
         alloc: Global,
         config: &ConfigParts,
+        entry: Option<usize>,
         events: &mut Events,
     ) -> Result<(), Memory>
-        requires { HasMode config.now self.old }
-        ensures { IfOk result (λ _. Gives events.old events.new self.new Outcome.GoesOn (activation config.now self.old)) }
+        requires { HasMode config.now self.old.world }
+        ensures { IfOk result (λ _. Gives events.old events.new self.new.world Outcome.GoesOn (activated config.now entry self.old.world)) }
     {
-        let mode = mode(config, &self.world);
-        let Some(entry) = entry_at(mode.activations.as_slice(), self.offset()) else {
+        let Some(entry) = entry else {
             return Ok(());
         };
-        let task = row(mode, entry).task;
+        let task = row(mode(config, &self.world), entry).task;
         let left = begin_body(alloc, config, task)?;
         self.world.activations.push(Instance { entry, left })?;
         self.top = self.world.activations.as_slice().len();
@@ -238,23 +227,22 @@ impl Dispatcher {
     }
 
     /// The rows that are due at the present offset.
-    #[tactic(auto, using(tt_world::proofs::Moves::gives_next, tt_world::proofs::Moves::gives_stop), unfolding(tt_world::specs::Opening::rows, tt_world::specs::Moved::followed))]
     fn open_rows(
         &mut self,
         alloc: Global,
         config: &ConfigParts,
-        points: &[Point],
+        table: &Table,
         events: &mut Events,
     ) -> Result<Outcome, Memory>
-        requires mode { HasMode config.now self.old }
-        requires points { ArePoints config.now self.old points.now }
-        ensures { IfOk result (λ end. Gives events.old events.new self.new end (rows config.now self.old)) }
+        requires { IsServed config.now table.now self.old.world }
+        ensures { IfOk result (λ end. Gives events.old events.new self.new.world end (rows config.now self.old.world)) }
     {
-        match self.check_points(config, points, events)? {
+        let due = table.due(self.offset());
+        match self.monitor(config, table, due.checks_from, due.checks_to, events)? {
             Outcome::GoesOn => {}
             end => return Ok(end),
         }
-        self.activate(alloc, config, events)?;
+        self.activate(alloc, config, due.activation, events)?;
         Ok(Outcome::GoesOn)
     }
 
@@ -265,21 +253,58 @@ impl Dispatcher {
         alloc: Global,
         config: &ConfigParts,
         script: &ScriptParts,
-        points: &[Point],
+        table: &Table,
         events: &mut Events,
     ) -> Result<Outcome, Memory>
-        requires room { HasRoom config.now script.now self.old }
-        requires points { ArePoints config.now self.old points.now }
-        ensures { IfOk result (λ end. Gives events.old events.new self.new end (opening config.now script.now self.old)) }
+        requires served { IsServed config.now table.now self.old.world }
+        requires number { self.old.world.number ≤ script.now.rounds }
+        ensures { IfOk result (λ end. Gives events.old events.new self.new.world end (opening config.now script.now self.old.world)) }
     {
         if self.tick() == 0 {
             self.begin(script, events)?;
-            return self.open_rows(alloc, config, points, events);
+            return self.open_rows(alloc, config, table, events);
         }
-        match self.end_round(alloc, config, script, points, events)? {
-            Outcome::GoesOn => self.open_rows(alloc, config, points, events),
+        match self.end_round(alloc, config, script, table, events)? {
+            Outcome::GoesOn => self.open_rows(alloc, config, table, events),
             end => Ok(end),
         }
+    }
+
+    /// Finds the offset at which something is due next.
+    fn look_ahead(&mut self, config: &ConfigParts, table: &Table)
+        requires rules { IsConfig config.now }
+        requires started { self.old.world.start ≤ self.old.world.tick }
+        requires table { table.now ≡ table_of config.now (mode_of config.now self.old.world) }
+        ensures world { self.new.world ≡ self.old.world }
+        ensures quiet { IsQuiet config.now 1 self.new }
+    {
+        self.next = table.next_after(self.offset()).unwrap_or(config.round);
+    }
+
+    /// The opening of an instant, which looks at nothing where nothing is due.
+    fn open_due(
+        &mut self,
+        alloc: Global,
+        config: &ConfigParts,
+        script: &ScriptParts,
+        table: &Table,
+        events: &mut Events,
+    ) -> Result<Outcome, Memory>
+        requires served { IsServed config.now table.now self.old.world }
+        requires number { self.old.world.number ≤ script.now.rounds }
+        requires quiet { IsQuiet config.now 0 self.old }
+        ensures gives { IfOk result (λ end. Gives events.old events.new self.new.world end (opening config.now script.now self.old.world)) }
+        ensures quiet { IfOk result (λ end. Outcome.GoesOn ≡ end → IsQuiet config.now 1 self.new) }
+    {
+        if self.offset() < self.next {
+            return Ok(Outcome::GoesOn);
+        }
+        match self.open(alloc, config, script, table, events)? {
+            Outcome::GoesOn => {}
+            end => return Ok(end),
+        }
+        self.look_ahead(config, table);
+        Ok(Outcome::GoesOn)
     }
 
     /// One tick of the one who runs.
@@ -291,9 +316,10 @@ impl Dispatcher {
         script: &ScriptParts,
         events: &mut Events,
     ) -> Result<(), Memory>
-        requires tick { self.old.tick + 1 < 2 ^ 64 }
-        requires mode { HasMode config.now self.old }
-        ensures { IfOk result (λ _. Gives events.old events.new self.new Outcome.GoesOn (step config.now script.now self.old)) }
+        requires tick { self.old.world.tick + 1 < 2 ^ 64 }
+        requires mode { HasMode config.now self.old.world }
+        ensures gives { IfOk result (λ _. Gives events.old events.new self.new.world Outcome.GoesOn (step config.now script.now self.old.world)) }
+        ensures next { self.new.next ≡ self.old.next }
     {
         self.top = up_to_unfinished(self.world.activations.as_slice(), self.top);
         let runner = last_below(self.top);
@@ -317,14 +343,16 @@ impl Dispatcher {
         alloc: Global,
         config: &ConfigParts,
         script: &ScriptParts,
-        points: &[Point],
+        table: &Table,
         events: &mut Events,
     ) -> Result<Outcome, Memory>
-        requires room { HasRoom config.now script.now self.old }
-        requires points { ArePoints config.now self.old points.now }
-        ensures { IfOk result (λ end. Gives events.old events.new self.new end (instant config.now script.now self.old)) }
+        requires served { IsServed config.now table.now self.old.world }
+        requires room { HasRoom script.now self.old.world }
+        requires quiet { IsQuiet config.now 0 self.old }
+        ensures gives { IfOk result (λ end. Gives events.old events.new self.new.world end (instant config.now script.now self.old.world)) }
+        ensures quiet { IfOk result (λ end. Outcome.GoesOn ≡ end → IsQuiet config.now 0 self.new) }
     {
-        match self.open(alloc, config, script, points, events)? {
+        match self.open_due(alloc, config, script, table, events)? {
             Outcome::GoesOn => {}
             end => return Ok(end),
         }

@@ -5,10 +5,6 @@ mod dispatcher;
 mod hooks;
 mod monitoring;
 mod plain;
-mod points;
 mod runner;
 
 pub use plain::{Events, PlainRun, RunEnd, run_plain};
-
-#[cfg(test)]
-mod tests;

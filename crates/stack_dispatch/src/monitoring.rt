@@ -1,37 +1,17 @@
 //! Deadline monitoring: the checks of the activations of a round.
 
-ghost use Rattle.std.specs.Prelude.{◌≡◌, ◌<◌, length, IfOk, slice_index_or};
-ghost use Rattle.tt_world.specs.Instances.{is_done};
-ghost use Rattle.tt_world.specs.Rows.{no_mode, row_of, offset_of, mode_of};
-ghost use Rattle.tt_world.specs.Monitoring.{is_at, is_at_end, checked};
-ghost use Rattle.stack_dispatch.specs.Parts.{Checks, is_due, points_of};
+ghost use Rattle.std.specs.Prelude.{◌≡◌, ◌≤◌, length, IfOk, slice_range};
+ghost use Rattle.tt_world.specs.Instances.{is_done, instance_at};
+ghost use Rattle.tt_world.specs.Rows.{HasMode, row_of};
+ghost use Rattle.round_table.specs.DueRows.{checks_of};
+ghost use Rattle.stack_dispatch.specs.Checking.{Checks, checked_now};
 
 use crate::plain::Events;
+use crate::runner::mode;
+use round_table::Table;
 use task_lang::Left;
-use tt_base::{Event, Memory, TaskNo, Tick};
-use tt_world::{Activation, Instance, ModeDef, Point};
-
-/// Which monitoring points are looked at.
-#[derive(Clone, Copy)]
-pub enum Due {
-    /// Those at this offset.
-    At(u64),
-    /// Those that are not offsets of a round of this length.
-    AtEnd(u64),
-}
-
-impl Due {
-    fn includes(self, point: Point) -> bool
-        ensures { result ≡ is_due self point }
-    {
-        match (self, point) {
-            (Due::At(offset), Point::At(place)) => place == offset,
-            (Due::At(_), Point::RoundEnd) => false,
-            (Due::AtEnd(length), Point::At(place)) => length <= place,
-            (Due::AtEnd(_), Point::RoundEnd) => true,
-        }
-    }
-}
+use tt_base::{Event, Memory, TaskNo};
+use tt_world::{Activation, ConfigParts, Instance, ModeDef, World};
 
 /// Whether nothing is left.
 pub fn is_done(left: &Left) -> bool
@@ -55,38 +35,44 @@ pub fn row(mode: &ModeDef, entry: usize) -> Activation
     }
 }
 
-/// The monitoring point of an entry number.
-fn point(points: &[Point], entry: usize) -> Point
-    ensures { result ≡ slice_index_or points.now entry (Point.At 0) }
+/// Whether nothing is left of the activation at a place. Of one that is not there nothing is left.
+fn is_done_at(activations: &[Instance], place: usize) -> bool
+    ensures { result ≡ is_done (instance_at activations.now place).left }
 {
-    points.get(entry).copied().unwrap_or(Point::At(0))
+    match activations.get(place) {
+        Some(instance) => is_done(&instance.left),
+        None => true,
+    }
 }
 
-/// Checks those activations whose point is due, in their order, up to the first that is missed, and answers its task.
-#[tactic(auto, using(crate::proofs::Checking::checked_more), unfolding(tt_world::specs::Monitoring::checked))]
+/// Checks the activations of the entries at these places of the table's list of checks, up to below the second place, up to the first
+/// that is missed, and answers its task. The activation of an entry stands at the place of its number.
+#[tactic(auto, using(crate::proofs::Checking::entries_end), unfolding(crate::specs::Checking::checked_entries))]
 pub fn check(
-    at: Tick,
-    mode: &ModeDef,
-    points: &[Point],
-    due: Due,
-    activations: &[Instance],
+    config: &ConfigParts,
+    world: &World,
+    table: &Table,
+    from: usize,
+    to: usize,
     events: &mut Events,
 ) -> Result<Option<TaskNo>, Memory>
-    requires { points.now ≡ points_of mode.now }
-    ensures { IfOk result (λ missed. Checks events.old events.new missed (checked at mode.now (is_due due) activations.now)) }
+    requires mode { HasMode config.now world.now }
+    requires places { to ≤ length (checks_of table.now) }
+    ensures { IfOk result (λ missed. Checks events.old events.new missed (checked_now config.now (slice_range (checks_of table.now) from to) world.now)) }
 {
-    for instance in activations {
-        let row = row(mode, instance.entry);
-        if due.includes(point(points, instance.entry)) {
-            let met = is_done(&instance.left);
-            events.push(Event::Check {
-                at,
-                task: row.task,
-                met,
-            })?;
-            if !met {
-                return Ok(Some(row.task));
-            }
+    let mode = mode(config, world);
+    let activations = world.activations.as_slice();
+    for place in from..to {
+        let entry = table.check_at(place);
+        let task = row(mode, entry).task;
+        let met = is_done_at(activations, entry);
+        events.push(Event::Check {
+            at: world.tick,
+            task,
+            met,
+        })?;
+        if !met {
+            return Ok(Some(task));
         }
     }
     Ok(None)

@@ -5,7 +5,7 @@ ghost use Rattle.tt_world.specs.Instances.{last_unfinished, instance_at};
 ghost use Rattle.tt_world.specs.Moved.{Gives, event_if, goes_on};
 ghost use Rattle.tt_world.specs.Rows.{HasMode, mode_of};
 ghost use Rattle.tt_world.specs.Step.{task_runner, owner_of, ran_before, effect_events, served, served_events};
-ghost use Rattle.stack_dispatch.specs.Parts.{AreDone, IsThere, IsBelow, ChangesOnly, last_of};
+ghost use Rattle.stack_dispatch.specs.Runners.{AreDone, IsThere, IsBelow, ChangesOnly, last_of};
 
 use crate::monitoring::{is_done, row};
 use crate::plain::Events;

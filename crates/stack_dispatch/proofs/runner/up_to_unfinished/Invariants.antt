@@ -1,5 +1,5 @@
 use Rattle.std.proofs.Common.{◌≤◌, drop, length}
-use Rattle.stack_dispatch.specs.Parts.{AreDone}
+use Rattle.stack_dispatch.specs.Runners.{AreDone}
 use Rattle.stack_dispatch.proofs.runner.up_to_unfinished.Given as goal
 
 -- none from this place on has statements left
