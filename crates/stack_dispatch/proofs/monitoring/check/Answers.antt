@@ -8,7 +8,7 @@ use Rattle.stack_dispatch.proofs.monitoring.check.Goals as goal
 pub returns-then-not-met : goal.returns-then-not-met
 returns-then-not-met c =
     let entry = c.check_at-entry.result in
-    let last = missed_last _ _ _ (checks_of c.args.table.now) c.loop-place.place c.args.to entry c.loop-place-test.true c.check_at-entry.ensures c.row.result
+    let last = missed_last _ _ _ (checks_of c.args.table.now) c.loop-place.place c.args.to entry c.loop-place-test.true c.check_at-entry.ensures.at c.row.result
     (c.row.ensures ∙ ap (λ m. row_of m entry) c.mode-mode.ensures) c.is_done_at-met.result
     (c.is_done_at-met.ensures ∙ ap (λ xs. is_done (instance_at xs entry).left) c.as_slice-activations.ensures) c.loop-place.events c.push.new.self c.in_ok-push.ensures.ok
     c.if-not-met.true in
@@ -22,10 +22,10 @@ loop-place-preserved c =
     record {
       events =
           c.loop-place.invariant.events
-          ∙ met_events _ _ _ (checks_of c.args.table.now) c.loop-place.place c.args.to entry c.loop-place-test.true c.check_at-entry.ensures c.row.result row_is c.is_done_at-met.result met_is
+          ∙ met_events _ _ _ (checks_of c.args.table.now) c.loop-place.place c.args.to entry c.loop-place-test.true c.check_at-entry.ensures.at c.row.result row_is c.is_done_at-met.result met_is
           c.loop-place.events c.push.new.self c.in_ok-push.ensures.ok c.if-not-met.false;
       missed =
           c.loop-place.invariant.missed
-          ∙ met_missed _ _ _ (checks_of c.args.table.now) c.loop-place.place c.args.to entry c.loop-place-test.true c.check_at-entry.ensures c.row.result row_is c.is_done_at-met.result met_is
+          ∙ met_missed _ _ _ (checks_of c.args.table.now) c.loop-place.place c.args.to entry c.loop-place-test.true c.check_at-entry.ensures.at c.row.result row_is c.is_done_at-met.result met_is
           c.loop-place.events c.push.new.self c.in_ok-push.ensures.ok c.if-not-met.false;
     }
