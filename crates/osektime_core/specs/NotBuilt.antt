@@ -1,10 +1,9 @@
 -- Which rows do not run yet: they are read and meet the rules, and a trace of them is not built.
-use Rattle.std.specs.Prelude.{◌||◌, nat_lt, Bool, true, false, List}
-use Rattle.std.specs.List.{count_by, list_any}
+use Rattle.std.specs.Prelude.{Bool, true, false, List}
+use Rattle.std.specs.List.{list_any}
 use Rattle.tt_rows.specs.declared.row.Row.{Row}
 use Rattle.tt_rows.specs.declared.row.Row.TheVariants as r
 use Rattle.tt_rows.specs.declared.row.NumberedRow.{NumberedRow}
-use Rattle.tt_config.specs.Rules.{is_mode}
 
 -- a row of a part of the operating system that does not run yet
 abbrev pub is_row_not_built : Row → Bool
@@ -14,9 +13,6 @@ is_row_not_built (r.IsrFar name level stack distance) = true
 is_row_not_built (r.Osek name priority) = true
 is_row_not_built (r.OsekAuto name priority) = true
 is_row_not_built (r.Oisr name priority) = true
-is_row_not_built r.HookError = true
-is_row_not_built r.HookShutdown = true
-is_row_not_built (r.AtNonstringent offset mode task deadline) = true
 is_row_not_built (r.AtEnable offset mode isr) = true
 is_row_not_built (r.Arrive source tick) = true
 is_row_not_built (r.Time global) = true
@@ -28,10 +24,6 @@ is_row_not_built (r.Chain task) = true
 is_row_not_built r.Terminate = true
 is_row_not_built row = false
 
--- there is a second mode
-abbrev pub has_second_mode : List NumberedRow → Bool
-has_second_mode rows = nat_lt 1 (count_by (λ (row : NumberedRow). is_mode row.row) rows)
-
 -- rows that do not run yet
 abbrev pub is_not_built : List NumberedRow → Bool
-is_not_built rows = list_any (λ (row : NumberedRow). is_row_not_built row.row) rows || has_second_mode rows
+is_not_built rows = list_any (λ (row : NumberedRow). is_row_not_built row.row) rows

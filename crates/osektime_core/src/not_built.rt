@@ -1,10 +1,7 @@
 //! What does not run yet.
 
-ghost use Rattle.std.specs.List.{list_any};
 ghost use Rattle.std.specs.Prelude.{◌≡◌};
-ghost use Rattle.tt_rows.specs.declared.row.NumberedRow.{NumberedRow};
-ghost use Rattle.tt_config.specs.Rules.{is_mode};
-ghost use Rattle.osektime_core.specs.NotBuilt.{has_second_mode, is_not_built, is_row_not_built};
+ghost use Rattle.osektime_core.specs.NotBuilt.{is_not_built, is_row_not_built};
 
 use tt_rows::{NumberedRow, Row};
 
@@ -19,9 +16,6 @@ fn is_row_not_built(row: &Row) -> bool
             | Row::Osek(_, _)
             | Row::OsekAuto(_, _)
             | Row::Oisr(_, _)
-            | Row::HookError
-            | Row::HookShutdown
-            | Row::AtNonstringent(_, _, _, _)
             | Row::AtEnable(_, _, _)
             | Row::Arrive(_, _)
             | Row::Time(_)
@@ -34,28 +28,9 @@ fn is_row_not_built(row: &Row) -> bool
     )
 }
 
-fn is_mode(row: &Row) -> bool
-    ensures { result ≡ is_mode row.now }
-{
-    matches!(row, Row::Mode(_))
-}
-
-fn has_second_mode(rows: &[NumberedRow]) -> bool
-    ensures { result ≡ has_second_mode rows.now }
-{
-    rows.iter().filter(|row| is_mode(&row.row)).count() > 1
-}
-
-fn has_row_not_built(rows: &[NumberedRow]) -> bool
-    ensures { result ≡ list_any (λ (row : NumberedRow). is_row_not_built row.row) rows.now }
-{
-    rows.iter().any(|row| is_row_not_built(&row.row))
-}
-
-/// Whether rows do not run yet: interrupts, the OSEK subsystem, hook bodies, non-stringent deadlines, several modes, services and
-/// global time are not built.
+/// Whether rows do not run yet: interrupts, the OSEK subsystem, services and global time are not built.
 pub(crate) fn is_not_built(rows: &[NumberedRow]) -> bool
     ensures { result ≡ is_not_built rows.now }
 {
-    has_row_not_built(rows) || has_second_mode(rows)
+    rows.iter().any(|row| is_row_not_built(&row.row))
 }
