@@ -1,3 +1,5 @@
 pub mod Told
-pub mod TraceAnswer
+pub mod AcceptedRows
 pub mod EventLines
+pub mod TablePlaces
+pub mod TableTexts

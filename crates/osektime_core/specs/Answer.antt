@@ -15,11 +15,12 @@ use Rattle.tt_config.specs.declared.broken.Broken.{Broken}
 use Rattle.tt_config.specs.Broken.{broken_rule}
 use Rattle.tt_config.specs.Parts.{config_of, script_of}
 use Rattle.osektime_core.specs.declared.words.Command.{Command}
-use Rattle.osektime_core.specs.declared.words.Command.TheVariants.{Trace, Show}
+use Rattle.osektime_core.specs.declared.words.Command.TheVariants.{Trace, Show, Table}
 use Rattle.osektime_core.specs.declared.status.Status.{Status}
 use Rattle.osektime_core.specs.declared.status.Status.TheVariants.{Done, Memory, Usage, ReadFault, WriteFault, TooLong, Form, Rule, Missed, NotBuilt}
 use Rattle.osektime_core.specs.Words.{command_of}
 use Rattle.osektime_core.specs.NotBuilt.{is_not_built}
+use Rattle.osektime_core.specs.TableText.{table_text}
 
 pub record Answer : Type 0 where
   pub text : List ℕ
@@ -52,14 +53,24 @@ run_status (ending.Missed task tick) = Missed task tick
 abbrev pub run_answer : ConfigParts → ScriptParts → Answer
 run_answer c s = record { text = text_of c.names (schedule c s); status = run_status (ending.status_of (schedule c s)) }
 
+-- the refusal of rows that break a rule
+abbrev pub rule_answer : ℕ → ℕ → Answer
+rule_answer number line = record { text = rule_line number line; status = Rule number line }
+
 -- the answer of a trace for rows and the rule that they break, if they break one; rows that do not run yet have no text
 abbrev pub trace_answer : Option Broken → List NumberedRow → Answer
-trace_answer (Some broken) rows = record { text = rule_line broken.number broken.line; status = Rule broken.number broken.line }
+trace_answer (Some broken) rows = rule_answer broken.number broken.line
 trace_answer None rows = if is_not_built rows then silent NotBuilt else run_answer (config_of rows) (script_of rows)
+
+-- the dispatcher tables of rows, or the rule that they break
+abbrev pub table_answer : Option Broken → List NumberedRow → Answer
+table_answer (Some broken) rows = rule_answer broken.number broken.line
+table_answer None rows = record { text = table_text (config_of rows); status = Done }
 
 -- the answer to a command for the rows of a document; to show them, no rule is applied
 abbrev pub rows_answer : Command → List NumberedRow → Answer
 rows_answer Trace rows = trace_answer (broken_rule rows) rows
+rows_answer Table rows = table_answer (broken_rule rows) rows
 rows_answer Show rows = record { text = canonical_text rows; status = Done }
 
 abbrev pub document_answer : Command → Document → Answer

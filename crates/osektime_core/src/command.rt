@@ -16,11 +16,11 @@ use tt_io::{Sink, Source, TakeFault, take_all};
 pub const MOST_BYTES: usize = 1 << 20;
 
 /// Answers a command: reads its input to the end, and writes the text of the answer. The order of refusals is: words that
-/// are no command; want of memory; a failed read, or a byte too many, as reading meets them; the first faulty line; for `trace` the least
-/// rule that is broken, and then rows that do not run yet. Want of memory may stand in place of any answer before the first byte is
-/// written, and a failed write in place of the answer whose text was being written. A run that has ended with a missed deadline is no
-/// refusal: its whole text is written. The steps are those of the run, and no clause speaks of them. Commands and statuses are the bench's
-/// own.
+/// are no command; want of memory; a failed read, or a byte too many, as reading meets them; the first faulty line; for `trace` and
+/// `table` the least rule that is broken; for `trace` then rows that do not run yet. Want of memory may stand in place of any answer
+/// before the first byte is written, and a failed write in place of the answer whose text was being written. A run that has ended with
+/// a missed deadline is no refusal: its whole text is written. The steps are those of the run, and no clause speaks of them. Commands
+/// and statuses are the bench's own.
 pub fn serve<I: Source, O: Sink, L: Ledger>(
     alloc: Global,
     words: &Words,

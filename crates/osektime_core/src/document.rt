@@ -7,10 +7,11 @@ ghost use Rattle.tt_io.specs.Known.{AppendsPart};
 ghost use Rattle.tt_rows.specs.Sound.{AreSound};
 ghost use Rattle.tt_read.specs.Document.{document_of, canonical_text};
 ghost use Rattle.tt_config.specs.Broken.{broken_rule};
-ghost use Rattle.osektime_core.specs.Answer.{document_answer, rows_answer, trace_answer};
+ghost use Rattle.osektime_core.specs.Answer.{document_answer, rows_answer, rule_answer, table_answer, trace_answer};
 
 use crate::not_built::is_not_built;
 use crate::refusal::{form_line, rule_line};
+use crate::table::table_text;
 use crate::trace::run;
 use crate::{Command, Status};
 use std::alloc::Global;
@@ -31,7 +32,7 @@ fn status_after(written: Result<(), WriteFault>, status: Status) -> Status
     }
 }
 
-/// Writes the text of an answer that is told by its status.
+/// Writes the text of an answer of this status.
 fn put_text<O: Sink>(text: &[u8], status: Status, output: &mut O) -> Status
     ensures answered { result ≢ Status.WriteFault → (result ≡ status) × Appends (O.written output.old) (O.written output.new) text.now }
     ensures part { result ≡ Status.WriteFault → status ≢ Status.WriteFault → AppendsPart (O.written output.old) (O.written output.new) text.now }
@@ -39,6 +40,21 @@ fn put_text<O: Sink>(text: &[u8], status: Status, output: &mut O) -> Status
     ensures never_falls { O.faults output.old ≤ O.faults output.new }
 {
     status_after(put_all(output, text), status)
+}
+
+/// Writes the line of a broken rule.
+fn put_rule<O: Sink>(alloc: Global, number: u8, line: u32, output: &mut O) -> Status
+    ensures answered { result ≢ Status.Memory → result ≢ Status.WriteFault → (result ≡ (rule_answer number line).status)
+        × Appends (O.written output.old) (O.written output.new) (rule_answer number line).text }
+    ensures memory { result ≡ Status.Memory → output.new ≡ output.old }
+    ensures part { result ≡ Status.WriteFault → AppendsPart (O.written output.old) (O.written output.new) (rule_answer number line).text }
+    ensures cause { result ≡ Status.WriteFault → Rose (O.faults output.old) (O.faults output.new) }
+    ensures never_falls { O.faults output.old ≤ O.faults output.new }
+{
+    match rule_line(alloc, number, line) {
+        Ok(text) => put_text(text.as_bytes(), Status::Rule { number, line }, output),
+        Err(_) => Status::Memory,
+    }
 }
 
 /// Runs rows that meet the rules, where they run already, and writes the text of the schedule. Else says which rule they break.
@@ -61,10 +77,27 @@ fn trace<O: Sink, L: Ledger>(
         Ok(_) if not_built => Status::NotBuilt,
         Ok(Accepted { config, script }) => run(alloc, &config, script, output, steps),
         Err(AcceptFault::Memory) => Status::Memory,
-        Err(AcceptFault::Rule { number, line }) => match rule_line(alloc, number, line) {
-            Ok(text) => put_text(text.as_bytes(), Status::Rule { number, line }, output),
+        Err(AcceptFault::Rule { number, line }) => put_rule(alloc, number, line, output),
+    }
+}
+
+/// Writes the dispatcher tables of rows that meet the rules. Else says which rule they break.
+fn table<O: Sink>(alloc: Global, rows: Rows, output: &mut O) -> Status
+    requires { AreSound rows }
+    ensures answered { result ≢ Status.Memory → result ≢ Status.WriteFault → (result ≡ (table_answer (broken_rule rows) rows).status)
+        × Appends (O.written output.old) (O.written output.new) (table_answer (broken_rule rows) rows).text }
+    ensures memory { result ≡ Status.Memory → output.new ≡ output.old }
+    ensures part { result ≡ Status.WriteFault → AppendsPart (O.written output.old) (O.written output.new) (table_answer (broken_rule rows) rows).text }
+    ensures cause { result ≡ Status.WriteFault → Rose (O.faults output.old) (O.faults output.new) }
+    ensures never_falls { O.faults output.old ≤ O.faults output.new }
+{
+    match accept(alloc, rows) {
+        Ok(accepted) => match table_text(alloc, &accepted.config) {
+            Ok(text) => put_text(&text, Status::Done, output),
             Err(_) => Status::Memory,
         },
+        Err(AcceptFault::Memory) => Status::Memory,
+        Err(AcceptFault::Rule { number, line }) => put_rule(alloc, number, line, output),
     }
 }
 
@@ -100,6 +133,7 @@ fn respond_to_rows<O: Sink, L: Ledger>(
     match command {
         Command::Trace => trace(alloc, rows, output, steps),
         Command::Show => shown(&rows, output),
+        Command::Table => table(alloc, rows, output),
     }
 }
 

@@ -6,6 +6,8 @@ mod document;
 mod not_built;
 mod refusal;
 mod status;
+mod table;
+mod table_lines;
 mod trace;
 mod words;
 

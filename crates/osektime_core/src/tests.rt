@@ -62,6 +62,44 @@ const STATEMENTS: &str =
 const STATEMENTS_TEXT: &str =
     "0 os start m\n0 round 1 m\n0 activate A\n0 run A\n5 out A 2147483647\n7 end A\n7 run idle\n8 check A met\n10 stop\n";
 
+const HOOKS: &str =
+    "osektime 1\nround 10\nmode m\ntask A 8\nwork 6\nend\nhook error\nout 1\nend\nhook shutdown\nout 2\nend\nat 0 m activate A 5 stringent\nstart m\nrounds 1\n";
+
+const HOOKS_TEXT: &str =
+    "0 os start m\n0 round 1 m\n0 activate A\n0 run A\n5 check A missed\n5 hook ttErrorHook A\n5 out ttErrorHook 1\n5 hook ttShutdownHook\n5 out ttShutdownHook 2\n5 shutdown\n";
+
+const ONE_TASK_TABLE: &str = "mode m\n0 activate A 5 stringent\n5 check A\n";
+
+const NONSTRINGENT: &str =
+    "osektime 1\nround 10\nmode m\ntask A 8\nwork 6\nend\nat 0 m activate A 5 nonstringent\nstart m\nrounds 1\n";
+
+const NONSTRINGENT_TEXT: &str =
+    "0 os start m\n0 round 1 m\n0 activate A\n0 run A\n6 end A\n6 run idle\n10 check A met\n10 stop\n";
+
+const NONSTRINGENT_TABLE: &str = "mode m\n0 activate A 5 nonstringent\nend check A\n";
+
+const LATE: &str =
+    "osektime 1\nround 10\nmode m\ntask A 8\nwork 11\nend\nat 0 m activate A 5 nonstringent\nstart m\nrounds 1\n";
+
+const LATE_TEXT: &str =
+    "0 os start m\n0 round 1 m\n0 activate A\n0 run A\n10 check A missed\n10 hook ttErrorHook A\n10 hook ttShutdownHook\n10 shutdown\n";
+
+const ENABLING: &str =
+    "osektime 1\nround 10\nmode m\ntask A 8\nwork 6\nend\nat 0 m activate A 5 nonstringent\nisr K 1 4\nwork 1\nend\nat 7 m enable K\nstart m\nrounds 1\n";
+
+const ENABLING_TABLE: &str = "mode m\n0 activate A 5 nonstringent\n7 check A\n7 enable K\n";
+
+const TWO_MODES: &str =
+    "osektime 1\nround 10\nmode m\nmode n\ntask A 8\nwork 3\nend\nat 4 n activate A 8 nonstringent\nat 2 n activate A 4 stringent\nat 0 m activate A 5 stringent\nstart m\nrounds 1\n";
+
+const TWO_MODES_TABLE: &str =
+    "mode m\n0 activate A 5 stringent\n5 check A\nmode n\n2 activate A 4 stringent\n4 check A\n4 activate A 8 nonstringent\nend check A\n";
+
+const CORRECTED: &str =
+    "osektime 1\nround 10\nadjust 2\nmode m\ntask A 8\nwork 3\nend\nat 0 m activate A 8 stringent\nstart m\nrounds 1\n";
+
+const CORRECTED_TABLE: &str = "mode m\n0 activate A 8 stringent\n8 check A\n";
+
 const NO_ROUND: &str =
     "osektime 1\nmode m\ntask A 8\nwork 3\nend\nat 0 m activate A 5 stringent\nrounds 1\n";
 
@@ -179,6 +217,26 @@ fn traces(rt: HostRuntime) -> Result<(), Fail> {
         make_case("trace", LONG, Status::Done, LONG_TEXT),
         make_case("trace", STATEMENTS, Status::Done, STATEMENTS_TEXT),
         make_case("trace", SPACED, Status::Done, ONE_TASK_TEXT),
+        make_case("trace", HOOKS, missed(5), HOOKS_TEXT),
+        make_case("trace", NONSTRINGENT, Status::Done, NONSTRINGENT_TEXT),
+        make_case("trace", LATE, missed(10), LATE_TEXT),
+        make_case("trace", TWO_MODES, Status::Done, ONE_TASK_TEXT),
+    ];
+    for row in &rows {
+        answers::<Brand>(&rt, rt.alloc(), Blank::new(1), row)?;
+    }
+    Ok(())
+}
+
+#[test]
+fn tables(rt: HostRuntime) -> Result<(), Fail> {
+    let rows = [
+        make_case("table", ONE_TASK, Status::Done, ONE_TASK_TABLE),
+        make_case("table", NONSTRINGENT, Status::Done, NONSTRINGENT_TABLE),
+        make_case("table", ENABLING, Status::Done, ENABLING_TABLE),
+        make_case("table", TWO_MODES, Status::Done, TWO_MODES_TABLE),
+        make_case("table", CORRECTED, Status::Done, CORRECTED_TABLE),
+        make_case("table", NO_ROUND, rule(4, 1), "rule 4 line 1\n"),
     ];
     for row in &rows {
         answers::<Brand>(&rt, rt.alloc(), Blank::new(1), row)?;
@@ -221,6 +279,7 @@ fn refuses(rt: HostRuntime) -> Result<(), Fail> {
         make_case("trace", NO_END, rule(2, 6), "rule 2 line 6\n"),
         make_case("trace", NO_OSEK_TASK, rule(14, 5), "rule 14 line 5\n"),
         make_case("trace", OSEK_TASK, Status::NotBuilt, ""),
+        make_case("trace", ENABLING, Status::NotBuilt, ""),
     ];
     for row in &rows {
         answers::<Brand>(&rt, rt.alloc(), Blank::new(1), row)?;

@@ -14,6 +14,8 @@ pub enum Command {
     Trace,
     /// `show`: the document in its canonical text.
     Show,
+    /// `table`: the dispatcher tables of all modes.
+    Table,
 }
 
 /// The words of a command line, without the program's name. Contracts see them as a list of byte lists.
@@ -76,6 +78,9 @@ fn command_named(word: &[u8]) -> Option<Command>
     }
     if word == b"show".as_slice() {
         return Some(Command::Show);
+    }
+    if word == b"table".as_slice() {
+        return Some(Command::Table);
     }
     None
 }

@@ -1,4 +1,4 @@
-//! A line of a trace, and what is appended to it word by word.
+//! A printed line, and what is appended to it word by word.
 
 ghost use Rattle.std.specs.Prelude.{◌≡◌, ◌+◌, ◌≤◌, [], ◌∷◌, ◌++◌, length, decimal};
 ghost use Rattle.tt_base.specs.Names.{name_of};
@@ -12,7 +12,7 @@ use tt_base::{Call, Declared, Names, Owner, Tick};
 /// How many bytes a line has at most, its LF included.
 const LINE_BYTES: usize = 96;
 
-/// A line of a trace. Contracts see it as the list of its bytes.
+/// A printed line: words with one space between them, and a LF at the end. Contracts see it as the list of its bytes.
 #[derive(Debug, Drop)]
 pub struct Line {
     bytes: ArrayVec<u8, LINE_BYTES>,
@@ -35,8 +35,20 @@ impl Line {
         self.bytes.as_slice()
     }
 
-    /// A line whose first word is a stamp in ticks.
-    pub(crate) fn stamped(at: Tick) -> Line
+    /// A line whose first word is this one.
+    pub fn begun(word: &[u8]) -> Line
+        requires { length word.now ≤ 96 }
+        ensures { result ≡ word.now }
+    {
+        let mut line = Line {
+            bytes: ArrayVec::new(),
+        };
+        line.text(word);
+        line
+    }
+
+    /// A line whose first word is a stamp, or an offset of the round, in ticks.
+    pub fn stamped(at: Tick) -> Line
         ensures text { result ≡ decimal at }
         ensures few { length result ≤ 20 }
     {
@@ -47,8 +59,8 @@ impl Line {
         line
     }
 
-    /// One more word.
-    pub(crate) fn word(&mut self, word: &[u8])
+    /// One more word, with a space in front of it.
+    pub fn word(&mut self, word: &[u8])
         requires { length self.old + 1 + length word.now ≤ 96 }
         ensures { self.new ≡ self.old ++ 32 ∷ word.now }
     {
@@ -57,7 +69,7 @@ impl Line {
     }
 
     /// One more word: a number in decimal.
-    pub(crate) fn number<I: Integer>(&mut self, number: I)
+    pub fn number<I: Integer>(&mut self, number: I)
         requires { length self.old + 1 + I.MAX_STR_LEN ≤ 96 }
         ensures text { self.new ≡ self.old ++ 32 ∷ I.text number }
         ensures few { length self.new ≤ length self.old + 1 + I.MAX_STR_LEN }
@@ -80,7 +92,7 @@ impl Line {
     }
 
     /// One more word: the name of a declared thing, an empty word where it has none.
-    pub(crate) fn name(&mut self, names: &Names, which: Declared)
+    pub fn name(&mut self, names: &Names, which: Declared)
         requires { length self.old + 17 ≤ 96 }
         ensures text { self.new ≡ self.old ++ 32 ∷ name_of names.now which }
         ensures few { length self.new ≤ length self.old + 17 }
@@ -134,7 +146,7 @@ impl Line {
     }
 
     /// The LF at the end.
-    pub(crate) fn end(&mut self)
+    pub fn end(&mut self)
         requires { length self.old + 1 ≤ 96 }
         ensures { self.new ≡ self.old ++ 10 ∷ [] }
     {

@@ -1,7 +1,7 @@
 use Rattle.std.proofs.Common.{rules, sym, subst}
 use Rattle.tt_io.specs.Known.{AppendsPart}
 use Rattle.osektime_core.specs.Answer.{Answer}
-use Rattle.osektime_core.proofs.TraceAnswer.{answer_of_run}
+use Rattle.osektime_core.proofs.AcceptedRows.{answer_of_run}
 use Rattle.osektime_core.proofs.document.trace.Goals as goal
 
 pub returns-in-Ok-2-clause-part : goal.returns-in-Ok-2-clause-part

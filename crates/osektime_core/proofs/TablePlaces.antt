@@ -1,0 +1,75 @@
+-- The places of a dispatcher table, one after another.
+use Rattle.std.proofs.Common.{◌≡◌, ℕ, zero, suc, ◌≤◌, ◌<◌, ◌+◌, ◌-◌, Bool, List, [], ◌∷◌, ◌++◌, Some, length, get_or, take, drop, sym, ap, ◌∙◌, subst, add-one, arith}
+use Rattle.std.specs.Prelude.{slice_get, slice_range}
+use Rattle.std.specs.List.{All, flat_map}
+use Rattle.std.proofs.Math.Seq.{take-suc, drop-append_seam}
+use Rattle.std.proofs.lemmas.List.{get_or-drop, length-drop, take_all, flat_map_more, length-append}
+use Rattle.std.proofs.lemmas.List.Elements.{All-append, All-filter, All-nil}
+use Rattle.std.proofs.lemmas.List.FromFn.{length-range_with_len, get_or-range_with_len}
+use Rattle.std.proofs.lemmas.Option.{slice_get_within, get_or_from_slice_get}
+use Rattle.tt_world.specs.declared.config.ModeDef.{ModeDef}
+use Rattle.tt_world.specs.declared.world.Point.{Point}
+use Rattle.tt_world.specs.Monitoring.{is_at}
+use Rattle.tt_world.specs.Points.{point_of}
+use Rattle.tt_world.specs.Rows.{row_of}
+use Rattle.round_table.specs.DueRows.{checks_below, checks_of, entries_due, entries_of, is_round_end}
+use Rattle.round_table.specs.TableRows.{TableRows}
+
+-- ---- a range of places
+
+range_more : {X : Type 0} (xs : List X) (from place : ℕ) (x : X) → from ≤ place → slice_get xs place ≡ Some x
+    → slice_range xs from (place + 1) ≡ slice_range xs from place ++ x ∷ []
+range_more xs from place x le at =
+    let longer : (place + 1) - from ≡ suc (place - from) = omega arith in
+    let within : place < length xs = slice_get_within xs place x at in
+    let short : place - from < length (drop from xs) = omega (arith, length-drop from xs) in
+    let same : from + (place - from) ≡ place = omega arith in
+    let item : get_or (drop from xs) (place - from) x ≡ x =
+    get_or-drop from xs (place - from) x ∙ ap (λ k. get_or xs k x) same ∙ get_or_from_slice_get xs place x x at in
+    ap (λ k. take k (drop from xs)) longer ∙ take-suc (drop from xs) (place - from) x short ∙ ap (λ y. slice_range xs from place ++ y ∷ []) item
+
+-- the text of a range, and then that of the next place
+pub text_more : {X : Type 0} (text_of : X → List ℕ) (before now after : List ℕ) (xs : List X) (from place : ℕ) (x : X) → from ≤ place
+    → slice_get xs place ≡ Some x → now ≡ before ++ flat_map text_of (slice_range xs from place) → after ≡ now ++ text_of x
+    → after ≡ before ++ flat_map text_of (slice_range xs from (place + 1))
+text_more text_of before now after xs from place x le at so_far one =
+    one ∙ ap (λ t. t ++ text_of x) so_far ∙ flat_map_more text_of before (slice_range xs from place) x
+    ∙ ap (λ ys. before ++ flat_map text_of ys) (sym (range_more xs from place x le at))
+
+-- ---- the checks of a table
+
+due_are_entries : (mode : ModeDef) (is_due : Point → Bool) → All (λ entry. entry < length mode.activations) (entries_due is_due mode)
+due_are_entries mode is_due =
+    All-filter (λ entry. is_due (point_of mode (row_of mode entry))) (λ entry. entry < length mode.activations) (entries_of mode)
+    (λ k d l.
+    let within : k < length mode.activations = omega (arith, length-range_with_len 0 (length mode.activations)) in
+    let same : get_or (entries_of mode) k d ≡ 0 + k = get_or-range_with_len 0 (length mode.activations) k d within in
+    omega arith)
+
+below_are_entries : (mode : ModeDef) (offset : ℕ) → All (λ entry. entry < length mode.activations) (checks_below mode offset)
+unfolding checks_below
+below_are_entries mode zero = All-nil (λ entry. entry < length mode.activations)
+below_are_entries mode (suc offset) =
+    All-append (λ entry. entry < length mode.activations) (checks_below mode offset) (entries_due (is_at offset) mode)
+    (below_are_entries mode offset) (due_are_entries mode (is_at offset))
+
+-- each check is of an entry
+pub check_is_entry : (table : TableRows) (place entry : ℕ) → slice_get (checks_of table) place ≡ Some entry → entry < length table.mode.activations
+unfolding checks_of
+check_is_entry table place entry at =
+    let all : All (λ e. e < length table.mode.activations) (checks_of table) =
+    All-append (λ e. e < length table.mode.activations) (checks_below table.mode (suc table.limit)) (entries_due is_round_end table.mode)
+    (below_are_entries table.mode (suc table.limit)) (due_are_entries table.mode is_round_end) in
+    subst (λ e. e < length table.mode.activations) (get_or_from_slice_get (checks_of table) place entry entry at)
+    (all place entry (slice_get_within (checks_of table) place entry at))
+
+-- behind the checks of all offsets stand those of the round's end
+pub checks_at_end : (table : TableRows) (past from to : ℕ) → past ≡ table.limit + 1 → from ≡ length (checks_below table.mode past) → to ≡ length (checks_of table)
+    → slice_range (checks_of table) from to ≡ entries_due is_round_end table.mode
+unfolding checks_of
+checks_at_end table past from to is one other =
+    let below = checks_below table.mode (suc table.limit) in
+    let last = entries_due is_round_end table.mode in
+    let first : from ≡ length below = one ∙ ap (λ n. length (checks_below table.mode n)) (is ∙ add-one table.limit) in
+    let long : length last ≤ to - from = omega (arith, length-append below last) in
+    ap (λ k. take (to - from) (drop k (below ++ last))) first ∙ ap (take (to - from)) (drop-append_seam below last) ∙ take_all (to - from) last long
