@@ -4,4 +4,4 @@ pub mod Playing
 pub mod Quiet
 pub mod Rounds
 pub mod Running
-pub mod Unfinished
+pub mod LastUnfinished

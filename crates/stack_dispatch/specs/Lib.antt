@@ -3,4 +3,4 @@ pub mod Checking
 pub mod RunEnd
 pub mod Runners
 pub mod State
-pub mod Top
+pub mod Unfinished

@@ -16,7 +16,8 @@ ghost use Rattle.stack_dispatch.specs.State.{HasRoom, IsServed, IsQuiet};
 use crate::hooks::{call_error_hook, call_shutdown_hook};
 use crate::monitoring::{check, row};
 use crate::plain::Events;
-use crate::runner::{last_below, mode, owner, ran_before, serve, up_to_unfinished};
+use crate::runner::{mode, owner, ran_before, runner_at, serve};
+use crate::unfinished::Unfinished;
 use round_table::Table;
 use std::alloc::Global;
 use std::marker::Model;
@@ -28,8 +29,8 @@ use tt_world::{ConfigParts, Instance, Instances, Outcome, Runner, ScriptParts, W
 #[derive(Drop)]
 pub struct Dispatcher {
     world: World,
-    /// No activation at this place of the world's list or behind it has statements left.
-    top: usize,
+    /// No activation of the world's list at another place has statements left.
+    unfinished: Unfinished,
     /// Nothing is due at an offset of the round from the present one on up to below this one.
     next: u64,
 }
@@ -38,7 +39,8 @@ impl Model for Dispatcher {
     ghost use Rattle.std.specs.Coded.{codes};
     ghost use Rattle.task_lang.specs.contracts.syntax.Stmt as stmt;
     ghost use Rattle.stack_dispatch.specs.State.{State};
-    ghost use Rattle.stack_dispatch.specs.Top.{IsTop};
+    ghost use Rattle.std.specs.Prelude.{length};
+    ghost use Rattle.stack_dispatch.specs.Unfinished.{AreUnfinished};
 
     ghost Value = { State };
 
@@ -46,7 +48,7 @@ impl Model for Dispatcher {
 
     ghost view = { λ d. record { world = d.world; next = d.next } };
 
-    ghost invariant = { λ d. IsTop d.top d.world.activations };
+    ghost invariant = { λ d. AreUnfinished d.unfinished (length d.world.activations) d.world.activations };
 }
 
 /// The whole body of a task. A task that is not there has none.
@@ -80,7 +82,7 @@ impl Dispatcher {
         };
         Ok(Dispatcher {
             world,
-            top: 0,
+            unfinished: Unfinished::new(alloc),
             next: 0,
         })
     }
@@ -170,7 +172,7 @@ impl Dispatcher {
         self.world.start = at;
         self.world.number += 1;
         self.world.activations = Instances::new(alloc);
-        self.top = 0;
+        self.unfinished.clear();
         events.push(Event::Round {
             at,
             number: self.world.number,
@@ -203,6 +205,7 @@ impl Dispatcher {
     }
 
     /// Activates the task of a row, if there is one.
+    #[tactic(auto, using(crate::proofs::LastUnfinished::with_more))]
     fn activate(
         &mut self,
         alloc: Global,
@@ -218,8 +221,12 @@ impl Dispatcher {
         };
         let task = row(mode(config, &self.world), entry).task;
         let left = begin_body(alloc, config, task)?;
-        self.world.activations.push(Instance { entry, left })?;
-        self.top = self.world.activations.as_slice().len();
+        self.unfinished
+            .push(self.world.activations.as_slice().len())?;
+        if let Err(want) = self.world.activations.push(Instance { entry, left }) {
+            self.unfinished.pop();
+            return Err(want);
+        }
         events.push(Event::Activate {
             at: self.world.tick,
             task,
@@ -308,7 +315,7 @@ impl Dispatcher {
     }
 
     /// One tick of the one who runs.
-    #[tactic(auto, using(crate::proofs::Unfinished::there_below, crate::proofs::Unfinished::top_kept), unfolding(tt_world::specs::Step::step, tt_world::specs::Step::runner_of))]
+    #[tactic(auto, using(crate::proofs::LastUnfinished::runner_there, crate::proofs::LastUnfinished::with_changed), unfolding(tt_world::specs::Step::step, tt_world::specs::Step::runner_of))]
     fn take_tick(
         &mut self,
         alloc: Global,
@@ -321,8 +328,8 @@ impl Dispatcher {
         ensures gives { IfOk result (λ _. Gives events.old events.new self.new.world Outcome.GoesOn (step config.now script.now self.old.world)) }
         ensures next { self.new.next ≡ self.old.next }
     {
-        self.top = up_to_unfinished(self.world.activations.as_slice(), self.top);
-        let runner = last_below(self.top);
+        self.unfinished.settle(self.world.activations.as_slice());
+        let runner = runner_at(self.unfinished.last());
         let who = owner(config, &self.world, runner);
         if !ran_before(self.world.last, who) {
             events.push(Event::Run {

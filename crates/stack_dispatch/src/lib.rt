@@ -6,5 +6,6 @@ mod hooks;
 mod monitoring;
 mod plain;
 mod runner;
+mod unfinished;
 
 pub use plain::{Events, PlainRun, RunEnd, run_plain};

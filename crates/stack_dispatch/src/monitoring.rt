@@ -36,7 +36,7 @@ pub fn row(mode: &ModeDef, entry: usize) -> Activation
 }
 
 /// Whether nothing is left of the activation at a place. Of one that is not there nothing is left.
-fn is_done_at(activations: &[Instance], place: usize) -> bool
+pub fn is_done_at(activations: &[Instance], place: usize) -> bool
     ensures { result ≡ is_done (instance_at activations.now place).left }
 {
     match activations.get(place) {

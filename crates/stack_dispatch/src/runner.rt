@@ -1,43 +1,23 @@
 //! Who runs, and one tick of it.
 
-ghost use Rattle.std.specs.Prelude.{◌≡◌, ◌+◌, ◌^◌, ◌<◌, ◌≤◌, drop, length, IfOk, ◌++◌, option_to_list};
-ghost use Rattle.tt_world.specs.Instances.{last_unfinished, instance_at};
+ghost use Rattle.std.specs.Prelude.{◌≡◌, ◌+◌, ◌^◌, ◌<◌, IfOk, ◌++◌, option_to_list};
 ghost use Rattle.tt_world.specs.Moved.{Gives, event_if, goes_on};
 ghost use Rattle.tt_world.specs.Rows.{HasMode, mode_of};
 ghost use Rattle.tt_world.specs.Step.{task_runner, owner_of, ran_before, effect_events, served, served_events};
-ghost use Rattle.stack_dispatch.specs.Runners.{AreDone, IsThere, IsBelow, ChangesOnly, last_of};
+ghost use Rattle.stack_dispatch.specs.Runners.{IsThere, ChangesOnly};
 
 use crate::monitoring::{is_done, row};
 use crate::plain::Events;
 use std::alloc::Global;
 use task_lang::Effect;
 use tt_base::{Event, Memory, Owner, Tick};
-use tt_world::{ConfigParts, Instance, ModeDef, Outcome, Runner, ScriptParts, World};
+use tt_world::{ConfigParts, ModeDef, Outcome, Runner, ScriptParts, World};
 
-/// How many of the activations there are up to the last that has statements left, where none from this place on has.
-#[tactic(auto, using(crate::proofs::Unfinished::last_here, crate::proofs::Unfinished::last_none, crate::proofs::Unfinished::done_more))]
-pub fn up_to_unfinished(activations: &[Instance], mut top: usize) -> usize
-    requires within { top ≤ length activations.now }
-    requires done { AreDone (drop top activations.now) }
-    ensures within { result ≤ length activations.now }
-    ensures done { AreDone (drop result activations.now) }
-    ensures last { last_of result ≡ last_unfinished 0 activations.now }
+/// The runner where this is the place of the last activation with statements left.
+pub fn runner_at(place: Option<usize>) -> Runner
+    ensures { result ≡ task_runner place }
 {
-    while top > 0 {
-        if !is_done(&activations[top - 1].left) {
-            return top;
-        }
-        top -= 1;
-    }
-    top
-}
-
-/// The runner where the last activation with statements left is the last of so many.
-pub fn last_below(top: usize) -> Runner
-    ensures value { result ≡ task_runner (last_of top) }
-    ensures below { IsBelow result top }
-{
-    match top.checked_sub(1) {
+    match place {
         Some(place) => Runner::Activation(place),
         None => Runner::Nobody,
     }
