@@ -1,18 +1,11 @@
 -- The places of a dispatcher table, one after another.
-use Rattle.std.proofs.Common.{◌≡◌, ℕ, zero, suc, ◌≤◌, ◌<◌, ◌+◌, ◌-◌, Bool, List, [], ◌∷◌, ◌++◌, Some, length, get_or, take, drop, sym, ap, ◌∙◌, subst, add-one, arith}
+use Rattle.std.proofs.Common.{◌≡◌, ℕ, suc, ◌≤◌, ◌<◌, ◌+◌, ◌-◌, List, [], ◌∷◌, ◌++◌, Some, length, get_or, take, drop, sym, ap, ◌∙◌, add-one, arith}
 use Rattle.std.specs.Prelude.{slice_get, slice_range}
-use Rattle.std.specs.List.{All, flat_map}
+use Rattle.std.specs.List.{flat_map}
 use Rattle.std.proofs.Math.Seq.{take-suc, drop-append_seam}
 use Rattle.std.proofs.lemmas.List.{get_or-drop, length-drop, take_all, flat_map_more, length-append}
-use Rattle.std.proofs.lemmas.List.Elements.{All-append, All-filter, All-nil}
-use Rattle.std.proofs.lemmas.List.FromFn.{length-range_with_len, get_or-range_with_len}
 use Rattle.std.proofs.lemmas.Option.{slice_get_within, get_or_from_slice_get}
-use Rattle.tt_world.specs.declared.config.ModeDef.{ModeDef}
-use Rattle.tt_world.specs.declared.world.Point.{Point}
-use Rattle.tt_world.specs.Monitoring.{is_at}
-use Rattle.tt_world.specs.Points.{point_of}
-use Rattle.tt_world.specs.Rows.{row_of}
-use Rattle.round_table.specs.DueRows.{checks_below, checks_of, entries_due, entries_of, is_round_end}
+use Rattle.round_table.specs.DueRows.{checks_below, checks_of, entries_due, is_round_end}
 use Rattle.round_table.specs.TableRows.{TableRows}
 
 -- ---- a range of places
@@ -37,31 +30,6 @@ text_more text_of before now after xs from place x le at so_far one =
     ∙ ap (λ ys. before ++ flat_map text_of ys) (sym (range_more xs from place x le at))
 
 -- ---- the checks of a table
-
-due_are_entries : (mode : ModeDef) (is_due : Point → Bool) → All (λ entry. entry < length mode.activations) (entries_due is_due mode)
-due_are_entries mode is_due =
-    All-filter (λ entry. is_due (point_of mode (row_of mode entry))) (λ entry. entry < length mode.activations) (entries_of mode)
-    (λ k d l.
-    let within : k < length mode.activations = omega (arith, length-range_with_len 0 (length mode.activations)) in
-    let same : get_or (entries_of mode) k d ≡ 0 + k = get_or-range_with_len 0 (length mode.activations) k d within in
-    omega arith)
-
-below_are_entries : (mode : ModeDef) (offset : ℕ) → All (λ entry. entry < length mode.activations) (checks_below mode offset)
-unfolding checks_below
-below_are_entries mode zero = All-nil (λ entry. entry < length mode.activations)
-below_are_entries mode (suc offset) =
-    All-append (λ entry. entry < length mode.activations) (checks_below mode offset) (entries_due (is_at offset) mode)
-    (below_are_entries mode offset) (due_are_entries mode (is_at offset))
-
--- each check is of an entry
-pub check_is_entry : (table : TableRows) (place entry : ℕ) → slice_get (checks_of table) place ≡ Some entry → entry < length table.mode.activations
-unfolding checks_of
-check_is_entry table place entry at =
-    let all : All (λ e. e < length table.mode.activations) (checks_of table) =
-    All-append (λ e. e < length table.mode.activations) (checks_below table.mode (suc table.limit)) (entries_due is_round_end table.mode)
-    (below_are_entries table.mode (suc table.limit)) (due_are_entries table.mode is_round_end) in
-    subst (λ e. e < length table.mode.activations) (get_or_from_slice_get (checks_of table) place entry entry at)
-    (all place entry (slice_get_within (checks_of table) place entry at))
 
 -- behind the checks of all offsets stand those of the round's end
 pub checks_at_end : (table : TableRows) (past from to : ℕ) → past ≡ table.limit + 1 → from ≡ length (checks_below table.mode past) → to ≡ length (checks_of table)
