@@ -21,10 +21,10 @@ use Rattle.stack_dispatch.specs.Checking.{checked_entries, Checks}
 
 -- ---- places of a list
 
-pub range_past : (xs : List ℕ) (i j : ℕ) → j ≤ i → slice_range xs i j ≡ []
+range_past : (xs : List ℕ) (i j : ℕ) → j ≤ i → slice_range xs i j ≡ []
 range_past xs i j l = let none : j - i ≡ 0 = omega arith in ap (λ n. take n (drop i xs)) none
 
-pub range_more : (xs : List ℕ) (i j x : ℕ) → i < j → slice_get xs i ≡ Some x → slice_range xs i j ≡ x ∷ slice_range xs (i + 1) j
+range_more : (xs : List ℕ) (i j x : ℕ) → i < j → slice_get xs i ≡ Some x → slice_range xs i j ≡ x ∷ slice_range xs (i + 1) j
 range_more xs i j x l e =
     let some : j - i ≡ suc (j - (i + 1)) = omega arith in
     let next : suc i ≡ i + 1 = omega arith in

@@ -1,7 +1,7 @@
 -- The parts of an opening: the checks of the entries that are due, the activation, and the round's end.
 use Rattle.std.proofs.Common.{ℕ, ◌≡◌, ◌<◌, ◌≤◌, ◌+◌, ◌-◌, ◌^◌, List, length, Bool, true, Option, ap, sym, ◌∙◌, subst, arith, ⊎_elim}
 use Rattle.std.specs.Prelude.{slice_index_or}
-use Rattle.std.proofs.lemmas.Bool.{cases_lt, cond-true, eq-eqb, eqb-true}
+use Rattle.std.proofs.lemmas.Bool.{cases_lt, eqb-true}
 use Rattle.std.proofs.lemmas.List.Elements.{All-get_or}
 use Rattle.tt_base.specs.declared.event.Event.{Event}
 use Rattle.tt_base.specs.declared.number.ModeNo.{ModeNo}
@@ -18,9 +18,9 @@ use Rattle.tt_world.specs.Rows.{no_mode, no_row, HasMode, offset_of, mode_of, ro
 use Rattle.tt_world.specs.RunLaws.{IsAfter}
 use Rattle.tt_world.specs.Points.{point_of}
 use Rattle.tt_world.specs.Monitoring.{Checked, monitored, after_checks, is_at, is_at_end}
-use Rattle.tt_world.specs.Opening.{checks, activated, activation, rows, next_round, round_end, opening, is_round_over}
+use Rattle.tt_world.specs.Opening.{checks, activated, activation, rows, round_end, opening}
 use Rattle.tt_world.proofs.Moves.{gives_next, gives_stop}
-use Rattle.tt_world.proofs.Frames.{checks_frame, checks_going, round_end_mode, opening_mode, opening_tick}
+use Rattle.tt_world.proofs.Frames.{checks_going, round_end_mode, opening_mode, opening_tick}
 use Rattle.round_table.specs.DueRows.{entries_due}
 use Rattle.round_table.specs.TableRows.{TableRows, table_of}
 use Rattle.round_table.proofs.ModeRows.{mode_within}
@@ -88,10 +88,6 @@ module _ (c : ConfigParts) (table : TableRows) (w : World) (served : IsServed c 
     unfolding rows
     rows_missed over = gives_stop a b u middle (checks c w) (activation c) over checks_given
 
-    -- checks leave the mode
-    pub mode_checked : HasMode c u
-    mode_checked = subst (λ (m : ModeNo). m.0 < length c.modes) (sym (ap (λ (v : World). v.mode) checks_given.world_is ∙ ap (λ f. f.mode) (checks_frame c w))) served.mode
-
     module _ (d : List Event) (v : World) (entry : Option ℕ) (found : entry ≡ entry_at (offset_of w) table.mode.activations) (on : middle ≡ GoesOn) (h : Gives b d v GoesOn (activated c entry u)) where
       same_world : u ≡ w
       same_world = checks_given.world_is ∙ checks_going c w (sym on ∙ checks_given.end_is)
@@ -112,15 +108,6 @@ module _ (c : ConfigParts) (table : TableRows) (w : World) (served : IsServed c 
   -- ---- the round's end
 
   module _ (s : ScriptParts) where
-    -- the checks of the round's end and then the next round are the round's end
-    pub round_ended : (a b d : List Event) (u v : World) (middle end : Outcome) → offset_of w ≡ c.round → middle ≡ GoesOn → Gives a b u middle (monitored c (is_at_end (offset_of w)) w) → Gives b d v end (next_round s u) → Gives a d v end (round_end c s w)
-    unfolding round_end
-    round_ended a b d u v middle end over on g h =
-        let over' : is_round_over c w ≡ true = eq-eqb _ _ over in
-        let g' = subst (λ o. Gives a b u o (monitored c (is_at_end (offset_of w)) w)) on g in
-        let both = gives_next a b d u v end (monitored c (is_at_end (offset_of w)) w) (next_round s) g' h in
-        subst (λ m. Gives a d v end m) (sym (cond-true _ _ _ over')) both
-
     pub served_next : (v : World) → v ≡ (round_end c s w).world → GoesOn ≡ (round_end c s w).end → IsServed c table v
     served_next v e g =
         let mode : v.mode ≡ w.mode = ap (λ (u : World). u.mode) e ∙ round_end_mode c s w in

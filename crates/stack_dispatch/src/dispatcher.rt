@@ -1,14 +1,14 @@
 //! The state of a run, and the parts of an instant in their order.
 
-ghost use Rattle.std.specs.Prelude.{◌≡◌, ◌+◌, ◌-◌, ◌^◌, ◌<◌, ◌≤◌, length, replicate, slice_range, Option, IfOk};
+ghost use Rattle.std.specs.Prelude.{◌≡◌, ◌+◌, ◌^◌, ◌<◌, ◌≤◌, length, slice_range, IfOk};
 ghost use Rattle.tt_world.specs.ConfigRules.{IsConfig};
 ghost use Rattle.tt_world.specs.Moved.{Gives};
 ghost use Rattle.tt_world.specs.Rows.{HasMode, offset_of, mode_of, body_of};
-ghost use Rattle.tt_world.specs.Monitoring.{is_at, is_at_end, monitored};
-ghost use Rattle.tt_world.specs.Opening.{head, next_round, round_end, checks, activated, rows, opening};
-ghost use Rattle.tt_world.specs.Step.{runner_of, step};
+ghost use Rattle.tt_world.specs.Monitoring.{is_at_end, monitored};
+ghost use Rattle.tt_world.specs.Opening.{head, next_round, round_end, activated, rows, opening};
+ghost use Rattle.tt_world.specs.Step.{step};
 ghost use Rattle.tt_world.specs.Schedule.{first_world, instant};
-ghost use Rattle.round_table.specs.DueRows.{checks_of, entries_due};
+ghost use Rattle.round_table.specs.DueRows.{checks_of};
 ghost use Rattle.round_table.specs.TableRows.{table_of};
 ghost use Rattle.stack_dispatch.specs.Checking.{monitored_entries};
 ghost use Rattle.stack_dispatch.specs.State.{HasRoom, IsServed, IsQuiet};
@@ -23,7 +23,7 @@ use std::alloc::Global;
 use std::marker::Model;
 use task_lang::{Cursors, Left};
 use tt_base::{Event, Memory, TaskNo, Tick};
-use tt_world::{ConfigParts, Instance, Instances, Outcome, Runner, ScriptParts, World};
+use tt_world::{ConfigParts, Instance, Instances, Outcome, ScriptParts, World};
 
 /// The state of a run. Contracts see it as the world, and the offset up to below which nothing is due.
 #[derive(Drop)]
@@ -36,10 +36,10 @@ pub struct Dispatcher {
 }
 
 impl Model for Dispatcher {
+    ghost use Rattle.std.specs.Prelude.{length};
     ghost use Rattle.std.specs.Coded.{codes};
     ghost use Rattle.task_lang.specs.contracts.syntax.Stmt as stmt;
     ghost use Rattle.stack_dispatch.specs.State.{State};
-    ghost use Rattle.std.specs.Prelude.{length};
     ghost use Rattle.stack_dispatch.specs.Unfinished.{AreUnfinished};
 
     ghost Value = { State };
@@ -337,7 +337,7 @@ impl Dispatcher {
                 who,
             })?;
         }
-        serve(alloc, config, script, runner, &mut self.world, events)?;
+        serve(alloc, config, script, runner, who, &mut self.world, events)?;
         self.world.tick += 1;
         self.world.last = Some(who);
         Ok(())

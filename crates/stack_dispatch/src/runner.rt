@@ -89,24 +89,24 @@ fn note_tick(
     Ok(())
 }
 
-/// The tick of a runner, but for the tick itself and its owner.
+/// The tick of a runner, which has this owner, but for the tick itself and its owner.
 pub fn serve(
     alloc: Global,
     config: &ConfigParts,
     script: &ScriptParts,
     runner: Runner,
+    who: Owner,
     world: &mut World,
     events: &mut Events,
 ) -> Result<(), Memory>
     requires tick { world.old.tick + 1 < 2 ^ 64 }
-    requires mode { HasMode config.now world.old }
     requires there { IsThere runner world.old.activations }
+    requires owner { who ≡ owner_of config.now world.old runner }
     ensures gives { IfOk result (λ _. Gives events.old events.new world.new Outcome.GoesOn
         (goes_on (served config.now script.now runner world.old) (served_events config.now script.now runner world.old))) }
     // also on want of memory
     ensures others { ChangesOnly runner world.old.activations world.new.activations }
 {
-    let who = owner(config, world, runner);
     match runner {
         Runner::Activation(place) => {
             let left = world.activations.left_mut(place);
