@@ -1,4 +1,4 @@
-//! The text of a trace: the line of each event.
+//! The text of a trace: the line of each event. Other printed lines are made of the same words.
 #![tactic(auto)]
 
 mod event_line;
