@@ -1,6 +1,9 @@
 //! Reading a document, hand-written in plain Rust: its rows, or the first fault of its form. Each program uses a part of the rows.
 #![allow(dead_code)]
 
+use std::io::Read;
+use std::process::ExitCode;
+
 #[derive(Clone, Copy, PartialEq, Eq)]
 pub enum Op {
     Add,
@@ -258,4 +261,19 @@ pub fn read(bytes: &[u8]) -> Result<Vec<NumberedRow<'_>>, FormFault> {
         }
     }
     Ok(rows)
+}
+
+/// Answers the rows of standard input, or tells the first fault of their form.
+pub fn answer_input(answer: fn(&[NumberedRow]) -> ExitCode) -> ExitCode {
+    let mut bytes = Vec::new();
+    if std::io::stdin().lock().read_to_end(&mut bytes).is_err() {
+        return ExitCode::from(3);
+    }
+    match read(&bytes) {
+        Ok(rows) => answer(&rows),
+        Err(fault) => {
+            println!("form line {} {}", fault.line, fault.kind);
+            ExitCode::from(6)
+        }
+    }
 }

@@ -3,10 +3,9 @@
 
 mod document;
 
-use document::{declared, is_top, read, Kind, NumberedRow, Row, Term, Terms};
+use document::{answer_input, declared, is_top, Kind, NumberedRow, Row, Term, Terms};
 use std::collections::{BTreeSet, HashMap, HashSet};
 use std::hash::Hash;
-use std::io::Read;
 use std::process::ExitCode;
 
 type Rows<'a> = [NumberedRow<'a>];
@@ -360,23 +359,16 @@ fn broken(rows: &Rows) -> Option<(usize, usize)> {
     RULES.iter().zip(1..).find_map(|(rule, number)| rule(rows).map(|line| (number, line)))
 }
 
-fn main() -> ExitCode {
-    let mut bytes = Vec::new();
-    if std::io::stdin().lock().read_to_end(&mut bytes).is_err() {
-        return ExitCode::from(3);
-    }
-    let rows = match read(&bytes) {
-        Ok(rows) => rows,
-        Err(fault) => {
-            println!("form line {} {}", fault.line, fault.kind);
-            return ExitCode::from(6);
-        }
-    };
-    match broken(&rows) {
+fn answer(rows: &[NumberedRow]) -> ExitCode {
+    match broken(rows) {
         Some((rule, line)) => {
             println!("rule {rule} line {line}");
             ExitCode::from(7)
         }
         None => ExitCode::SUCCESS,
     }
+}
+
+fn main() -> ExitCode {
+    answer_input(answer)
 }

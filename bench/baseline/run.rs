@@ -4,9 +4,9 @@
 mod document;
 mod mode;
 
-use document::{read, Kind, NumberedRow, Op, Row, Term};
+use document::{answer_input, Kind, NumberedRow, Op, Row, Term};
 use mode::{modes_of, numbers_of, Activation, Mode, Numbers};
-use std::io::{BufWriter, Read, Write};
+use std::io::{BufWriter, Write};
 use std::process::ExitCode;
 
 enum Expr {
@@ -341,15 +341,8 @@ fn run(config: &Config) -> std::io::Result<End> {
     run.run()
 }
 
-fn main() -> ExitCode {
-    let mut bytes = Vec::new();
-    if std::io::stdin().lock().read_to_end(&mut bytes).is_err() {
-        return ExitCode::from(3);
-    }
-    let Ok(rows) = read(&bytes) else {
-        return ExitCode::from(6);
-    };
-    let Some(config) = config(&rows) else {
+fn answer(rows: &[NumberedRow]) -> ExitCode {
+    let Some(config) = config(rows) else {
         return ExitCode::from(11);
     };
     match run(&config) {
@@ -357,4 +350,8 @@ fn main() -> ExitCode {
         Ok(End::Missed) => ExitCode::from(9),
         Err(_) => ExitCode::from(4),
     }
+}
+
+fn main() -> ExitCode {
+    answer_input(answer)
 }

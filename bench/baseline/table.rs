@@ -4,9 +4,9 @@
 mod document;
 mod mode;
 
-use document::{read, Kind, NumberedRow};
+use document::{answer_input, Kind, NumberedRow};
 use mode::{modes_of, names_of, numbers_of, Mode};
-use std::io::{BufWriter, Read, Write};
+use std::io::{BufWriter, Write};
 use std::process::ExitCode;
 
 struct Names<'a> {
@@ -52,19 +52,16 @@ fn put_modes(modes: &[Mode], rows: &[NumberedRow]) -> std::io::Result<()> {
     out.flush()
 }
 
-fn main() -> ExitCode {
-    let mut bytes = Vec::new();
-    if std::io::stdin().lock().read_to_end(&mut bytes).is_err() {
-        return ExitCode::from(3);
-    }
-    let Ok(rows) = read(&bytes) else {
-        return ExitCode::from(6);
-    };
-    let Some(modes) = modes_of(&rows, &numbers_of(&rows)) else {
+fn answer(rows: &[NumberedRow]) -> ExitCode {
+    let Some(modes) = modes_of(rows, &numbers_of(rows)) else {
         return ExitCode::from(7);
     };
-    match put_modes(&modes, &rows) {
+    match put_modes(&modes, rows) {
         Ok(()) => ExitCode::SUCCESS,
         Err(_) => ExitCode::from(4),
     }
+}
+
+fn main() -> ExitCode {
+    answer_input(answer)
 }
