@@ -1,37 +1,31 @@
--- One part of an instant after another.
-use Rattle.std.proofs.Common.{◌≡◌, List, true, false, ◌++◌, refl, ap, ◌∙◌, sym, append_assoc}
+-- One part of an instant after another, as the code does them.
+use Rattle.std.proofs.Common.{ℕ, ◌≡◌, ◌<◌, ◌≤◌, ◌+◌, length, take, get_or, List, [], ◌∷◌, true, false, Bool, ◌++◌, refl, ap, sym, ◌∙◌, subst, append_assoc, append-nil}
+use Rattle.std.specs.Prelude.{map}
+use Rattle.std.proofs.lemmas.List.{take_more, take_all, map-append}
 use Rattle.tt_base.specs.declared.event.Event.{Event}
-use Rattle.tt_world.specs.declared.world.World.{World}
-use Rattle.tt_world.specs.declared.world.Outcome.{Outcome}
-use Rattle.tt_world.specs.declared.world.Outcome.TheVariants.{GoesOn, Stopped, Missed}
-use Rattle.tt_world.specs.Moved.{Moved, Gives, followed, continued, behind, is_over}
+use Rattle.tt_world.specs.World.{World}
+use Rattle.tt_world.specs.Moved.{Moved, Gives, followed, continued, preceded, is_over, goes_on, chain}
+use Rattle.std.specs.Prelude.{None, Some}
+use Rattle.tt_world.specs.declared.world.RunEnd.TheVariants as ending
+use Rattle.tt_world.specs.Moved.{Outcome}
 
 -- an outcome is no end of the run exactly where the run goes on
-pub going_from : (end : Outcome) → is_over end ≡ false → GoesOn ≡ end
-going_from GoesOn e = refl
-going_from Stopped e = cc
-going_from (Missed task) e = cc
+pub going_from : (end : Outcome) → is_over end ≡ false → None ≡ end
+going_from None e = refl
+going_from (Some ending.LastRound) e = cc
+going_from (Some (ending.Missed task)) e = cc
+going_from (Some ending.Shutdown) e = cc
 
-pub over_from : (end : Outcome) → (end ≡ GoesOn → ⊥) → is_over end ≡ true
-over_from GoesOn h = absurd (h refl)
-over_from Stopped h = refl
-over_from (Missed task) h = refl
-
-continued_on : (end : Outcome) (w : World) (es : List Event) (next : World → Moved) → GoesOn ≡ end → continued end w es next ≡ behind es (next w)
-continued_on GoesOn w es next e = refl
-continued_on Stopped w es next e = cc
-continued_on (Missed task) w es next e = cc
-
-continued_over : (end : Outcome) (w : World) (es : List Event) (next : World → Moved) → is_over end ≡ true → continued end w es next ≡ record { world = w; events = es; end = end }
-continued_over GoesOn w es next e = cc
-continued_over Stopped w es next e = refl
-continued_over (Missed task) w es next e = refl
+-- a part that did nothing
+pub gives_none : (a : List Event) (w : World) → Gives a a w None (goes_on w [])
+gives_none a w = record { world_is = refl; events_are = sym (append-nil a); end_is = refl }
 
 -- where the code of a part goes on and the code of the next part follows, both together are one after the other
-pub gives_next : (a b d : List Event) (v w : World) (end : Outcome) (m : Moved) (next : World → Moved) → Gives a b v GoesOn m → Gives b d w end (next v) → Gives a d w end (followed m next)
+pub gives_next : (a b d : List Event) (v w : World) (end : Outcome) (m : Moved) (next : World → Moved) → Gives a b v None m → Gives b d w end (next v) → Gives a d w end (followed m next)
 unfolding followed
 gives_next a b d v w end m next g h =
-    let e = continued_on m.end m.world m.events next g.end_is in
+    let on : is_over m.end ≡ false = ap is_over (sym g.end_is) in
+    let e : continued (is_over m.end) m next ≡ preceded m.events (next m.world) = ap (λ b. continued b m next) on in
     let n : next v ≡ next m.world = ap next g.world_is in
     record {
       world_is = h.world_is ∙ ap (λ x. x.world) n ∙ sym (ap (λ x. x.world) e);
@@ -44,42 +38,56 @@ pub gives_stop : (a b : List Event) (w : World) (end : Outcome) (m : Moved) (nex
 unfolding followed
 gives_stop a b w end m next o g =
     let p : is_over m.end ≡ true = sym (ap is_over g.end_is) ∙ o in
-    let e = continued_over m.end m.world m.events next p in
+    let e : continued (is_over m.end) m next ≡ m = ap (λ b. continued b m next) p in
     record {
       world_is = g.world_is ∙ sym (ap (λ x. x.world) e);
       events_are = g.events_are ∙ sym (ap (λ x. a ++ x.events) e);
       end_is = g.end_is ∙ sym (ap (λ x. x.end) e);
     }
 
--- a property of the world that both parts keep
-continued_keeps : (P : World → Type 0) (end : Outcome) (w : World) (es : List Event) (next : World → Moved) → P w → ((v : World) → P v → P (next v).world) → P (continued end w es next).world
-continued_keeps P GoesOn w es next p h = h w p
-continued_keeps P Stopped w es next p h = p
-continued_keeps P (Missed task) w es next p h = p
+-- a chain of parts: the first, and then the others; and for a loop, a part after those that were done
+pub gives_first : (a b d : List Event) (v w : World) (end : Outcome) (part : World → Moved) (parts : List (World → Moved)) (u : World) → Gives a b v None (part u) → Gives b d w end (chain parts v) → Gives a d w end (chain (part ∷ parts) u)
+unfolding chain
+gives_first a b d v w end part parts u g h = gives_next a b d v w end (part u) (chain parts) g h
 
-pub followed_keeps : (P : World → Type 0) (m : Moved) (next : World → Moved) → P m.world → ((v : World) → P v → P (next v).world) → P (followed m next).world
+pub gives_over : (a b : List Event) (w : World) (end : Outcome) (part : World → Moved) (parts : List (World → Moved)) (u : World) → is_over end ≡ true → Gives a b w end (part u) → Gives a b w end (chain (part ∷ parts) u)
+unfolding chain
+gives_over a b w end part parts u o g = gives_stop a b w end (part u) (chain parts) o g
+
+-- a chain of two pieces
+both_same : (over : Bool) (m : Moved) (parts more : List (World → Moved)) → is_over m.end ≡ over → ((v : World) → chain (parts ++ more) v ≡ followed (chain parts v) (chain more)) → continued over m (chain (parts ++ more)) ≡ followed (continued over m (chain parts)) (chain more)
 unfolding followed
-followed_keeps P m next p h = continued_keeps P m.end m.world m.events next p h
+both_same true m parts more e h = ap (λ b. continued b m (chain more)) (sym e)
+both_same false m parts more e h = ap (preceded m.events) (h m.world) ∙ pieces (is_over (chain parts m.world).end) (chain parts m.world)
+  where
+    pieces : (b : Bool) (n : Moved) → preceded m.events (continued b n (chain more)) ≡ continued b (preceded m.events n) (chain more)
+    pieces true n = refl
+    pieces false n = ap (λ es. record { world = (chain more n.world).world; events = es; end = (chain more n.world).end }) (sym (append_assoc m.events n.events (chain more n.world).events))
 
--- where the run goes on after a part, this holds of the world that it leaves
-abbrev pub OnGoing : (World → Type 0) → Moved → Type 0
-OnGoing P m = GoesOn ≡ m.end → P m.world
+pub chain_both : (parts more : List (World → Moved)) (w : World) → chain (parts ++ more) w ≡ followed (chain parts w) (chain more)
+unfolding chain followed
+chain_both [] more w = refl
+chain_both (part ∷ parts) more w = both_same (is_over (part w).end) (part w) parts more refl (chain_both parts more)
 
-continued_going : (P : World → Type 0) (end : Outcome) (w : World) (es : List Event) (next : World → Moved) → (GoesOn ≡ end → OnGoing P (next w)) → OnGoing P (continued end w es next)
-continued_going P GoesOn w es next h = h refl
-continued_going P Stopped w es next h = λ e. cc
-continued_going P (Missed task) w es next h = λ e. cc
+-- for a loop: none of the parts was done yet, and one more is done
+pub gives_begin : {X : Type 0} (part : X → World → Moved) (xs : List X) (a : List Event) (w : World) → Gives a a w None (chain (map part (take 0 xs)) w)
+unfolding chain
+gives_begin part xs a w = gives_none a w
 
-pub followed_going : (P : World → Type 0) (m : Moved) (next : World → Moved) → (GoesOn ≡ m.end → OnGoing P (next m.world)) → OnGoing P (followed m next)
-unfolding followed
-followed_going P m next h = continued_going P m.end m.world m.events next h
+one_part : (part : World → Moved) (a b : List Event) (u w : World) → Gives a b w None (part u) → Gives a b w None (chain (part ∷ []) u)
+unfolding chain
+one_part part a b u w g = gives_next a b b w w None (part u) (chain []) g (gives_none b w)
 
--- where the run has ended after a part
-continued_ended : (P : World → Type 0) (end : Outcome) (w : World) (es : List Event) (next : World → Moved) → P w → ((v : World) → P v → is_over (next v).end ≡ true → P (next v).world) → is_over (continued end w es next).end ≡ true → P (continued end w es next).world
-continued_ended P GoesOn w es next p h e = h w p e
-continued_ended P Stopped w es next p h e = p
-continued_ended P (Missed task) w es next p h e = p
+pub gives_done : (a : List Event) (w : World) → Gives a a w None (chain [] w)
+unfolding chain
+gives_done a w = gives_none a w
 
-pub followed_ended : (P : World → Type 0) (m : Moved) (next : World → Moved) → P m.world → ((v : World) → P v → is_over (next v).end ≡ true → P (next v).world) → is_over (followed m next).end ≡ true → P (followed m next).world
-unfolding followed
-followed_ended P m next p h e = continued_ended P m.end m.world m.events next p h e
+pub gives_more : {X : Type 0} (part : X → World → Moved) (xs : List X) (i : ℕ) (x : X) (a b d : List Event) (u v w : World) → i < length xs → get_or xs i x ≡ x → Gives a b v None (chain (map part (take i xs)) u) → Gives b d w None (part x v) → Gives a d w None (chain (map part (take (i + 1) xs)) u)
+gives_more part xs i x a b d u v w l here g h =
+    let e : take (i + 1) xs ≡ take i xs ++ x ∷ [] = take_more xs i x l ∙ ap (λ y. take i xs ++ y ∷ []) here in
+    let f : map part (take (i + 1) xs) ≡ map part (take i xs) ++ part x ∷ [] = ap (map part) e ∙ map-append part (take i xs) (x ∷ []) in
+    let k = gives_next a b d v w None (chain (map part (take i xs)) u) (chain (part x ∷ [])) g (one_part (part x) b d v w h) in
+    subst (Gives a d w None) (sym (ap (λ ps. chain ps u) f ∙ chain_both (map part (take i xs)) (part x ∷ []) u)) k
+
+pub gives_all : {X : Type 0} (part : X → World → Moved) (xs : List X) (i : ℕ) (a b : List Event) (u w : World) → length xs ≤ i → Gives a b w None (chain (map part (take i xs)) u) → Gives a b w None (chain (map part xs) u)
+gives_all part xs i a b u w l g = subst (λ ys. Gives a b w None (chain (map part ys) u)) (take_all i xs l) g

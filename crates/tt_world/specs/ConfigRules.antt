@@ -26,7 +26,7 @@ use Rattle.tt_world.specs.declared.config.ConfigParts.{ConfigParts}
 abbrev pub is_reserved : List ℕ → Bool
 is_reserved name = bytes_eq name (codes "idle") || (bytes_eq name (codes "ttErrorHook") || bytes_eq name (codes "ttShutdownHook"))
 
--- no name is one of those behind it, and none is reserved
+-- no name is one of those after it, and none is reserved
 abbrev pub are_names_free : List NameEntry → Bool
 are_names_free [] = true
 are_names_free (entry ∷ rest) =
@@ -109,7 +109,7 @@ abbrev pub offsets_ascend : ℕ → List Activation → Bool
 offsets_ascend least [] = true
 offsets_ascend least (a ∷ rest) = nat_le least a.offset && offsets_ascend (a.offset + 1) rest
 
--- a row that activates: a task that exists, before L - A, with a deadline behind its offset and at most at L - A
+-- a row that activates: a task that exists, before L - A, with a deadline after its offset and at most at L - A
 abbrev pub is_activation : ConfigParts → Activation → Bool
 is_activation c a =
     nat_lt a.task.0 (length c.tasks) && (nat_lt a.offset a.deadline && nat_le a.deadline (c.round - c.adjust))

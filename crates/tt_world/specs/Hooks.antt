@@ -9,6 +9,11 @@ use Rattle.task_lang.specs.declared.syntax.Stmt.{Stmt, out-Stmt}
 use Rattle.task_lang.specs.declared.syntax.Stmt.TheOpen.{Stmt-F}
 use Rattle.task_lang.specs.Value.{value_of}
 use Rattle.tt_world.specs.declared.config.ConfigParts.{ConfigParts}
+use Rattle.tt_world.specs.World.{World}
+use Rattle.tt_world.specs.Moved.{Moved, moved, preceded}
+use Rattle.std.specs.Prelude.{Some}
+use Rattle.tt_world.specs.declared.world.RunEnd.TheVariants as ending
+use Rattle.tt_world.specs.Moved.{Outcome}
 
 -- ---- a body, which has no statements but `set` and `out`; any other would do nothing
 
@@ -35,18 +40,14 @@ outs_of at hook vars (stmt ∷ rest) =
 
 -- ---- the calls of the hooks
 
--- the variables after ttErrorHook
-abbrev pub error_vars : ConfigParts → List ℤ → List ℤ
-error_vars c vars = vars_after vars c.error_hook
+-- ttShutdownHook is called, and the run ends so by a shutdown
+abbrev pub shuts_down : ConfigParts → Outcome → World → Moved
+shuts_down c end w =
+    moved end (record w { vars = vars_after w.vars c.shutdown_hook })
+    (ShutdownHook w.tick ∷ (outs_of w.tick owner.ShutdownHook w.vars c.shutdown_hook ++ Shutdown w.tick ∷ []))
 
--- ttErrorHook is called with the task that missed its deadline
-abbrev pub error_events : ConfigParts → (at : ℕ) → TaskNo → List ℤ → List Event
-error_events c at task vars = ErrorHook at task ∷ outs_of at owner.ErrorHook vars c.error_hook
-
--- the variables after ttShutdownHook
-abbrev pub shutdown_vars : ConfigParts → List ℤ → List ℤ
-shutdown_vars c vars = vars_after vars c.shutdown_hook
-
--- ttShutdownHook is called, and the run ends by a shutdown
-abbrev pub shutdown_events : ConfigParts → (at : ℕ) → List ℤ → List Event
-shutdown_events c at vars = ShutdownHook at ∷ (outs_of at owner.ShutdownHook vars c.shutdown_hook ++ Shutdown at ∷ [])
+-- a task has missed its deadline: ttErrorHook is called with it, and then the run is shut down
+abbrev pub misses : ConfigParts → TaskNo → World → Moved
+misses c task w =
+    preceded (ErrorHook w.tick task ∷ outs_of w.tick owner.ErrorHook w.vars c.error_hook)
+    (shuts_down c (Some (ending.Missed task)) (record w { vars = vars_after w.vars c.error_hook }))

@@ -1,17 +1,16 @@
 -- Deadline monitoring: what it finds at the monitoring points, and what follows from a missed deadline.
-use Rattle.std.specs.Prelude.{ℕ, ◌==◌, nat_le, Bool, true, false, List, [], ◌∷◌, ◌++◌, Option, None, Some}
+use Rattle.std.specs.Prelude.{ℕ, ◌==◌, nat_le, Bool, true, false, List, [], ◌∷◌, Option, None, Some}
 use Rattle.tt_base.specs.declared.number.TaskNo.{TaskNo}
 use Rattle.tt_base.specs.declared.event.Event.{Event}
 use Rattle.tt_base.specs.declared.event.Event.TheVariants.{Check}
 use Rattle.tt_world.specs.declared.config.ConfigParts.{ConfigParts}
 use Rattle.tt_world.specs.declared.config.ModeDef.{ModeDef}
-use Rattle.tt_world.specs.declared.world.World.{World}
-use Rattle.tt_world.specs.declared.world.Instance.{Instance}
+use Rattle.tt_world.specs.World.{World, Job}
 use Rattle.tt_world.specs.declared.world.Point.{Point}
 use Rattle.tt_world.specs.declared.world.Point.TheVariants as point
-use Rattle.tt_world.specs.Hooks.{error_vars, error_events, shutdown_vars, shutdown_events}
-use Rattle.tt_world.specs.Instances.{is_done}
-use Rattle.tt_world.specs.Moved.{Moved, goes_on, misses, behind}
+use Rattle.tt_world.specs.Hooks.{misses}
+use Rattle.tt_world.specs.Runners.{is_done}
+use Rattle.tt_world.specs.Moved.{Moved, goes_on, preceded}
 use Rattle.tt_world.specs.Points.{point_of}
 use Rattle.tt_world.specs.Rows.{mode_of, row_of}
 
@@ -41,25 +40,18 @@ check_if false check others = others
 
 -- the checks of those activations whose point is due, in their order, up to the first that is missed: one is met where nothing
 -- is left of the activation
-unfoldable pub checked : ℕ → ModeDef → (Point → Bool) → List Instance → Checked
+unfoldable pub checked : ℕ → ModeDef → (Point → Bool) → List Job → Checked
 checked at mode is_due [] = record { events = []; missed = None }
-checked at mode is_due (instance ∷ rest) =
-    let row = row_of mode instance.entry in
-    check_if (is_due (point_of mode row)) (check_then at row.task (is_done instance.left) (checked at mode is_due rest))
+checked at mode is_due (job ∷ rest) =
+    let row = row_of mode job.entry in
+    check_if (is_due (point_of mode row)) (check_then at row.task (is_done job.left) (checked at mode is_due rest))
     (checked at mode is_due rest)
-
--- After a missed check ttErrorHook and then ttShutdownHook are called, which finds the variables that the first one left, and the
--- run ends by a shutdown.
-abbrev pub violation : ConfigParts → TaskNo → World → Moved
-violation c task w =
-    let left = error_vars c w.vars in
-    misses task (record w { vars = shutdown_vars c left }) (error_events c w.tick task w.vars ++ shutdown_events c w.tick left)
 
 abbrev pub after_checks : ConfigParts → List Event → Option TaskNo → World → Moved
 after_checks c events None w = goes_on w events
-after_checks c events (Some task) w = behind events (violation c task w)
+after_checks c events (Some task) w = preceded events (misses c task w)
 
 -- the checks of those activations of the round whose point is due, and what follows from them
 abbrev pub monitored : ConfigParts → (Point → Bool) → World → Moved
 monitored c is_due w =
-    let all = checked w.tick (mode_of c w) is_due w.activations in after_checks c all.events all.missed w
+    let all = checked w.tick (mode_of c w) is_due w.jobs in after_checks c all.events all.missed w

@@ -1,46 +1,46 @@
 -- What a part of an instant gives: the next world, its events, and how it ends.
-use Rattle.std.specs.Prelude.{◌≡◌, Bool, true, false, List, [], ◌∷◌, ◌++◌}
-use Rattle.tt_base.specs.declared.number.TaskNo.{TaskNo}
+use Rattle.std.specs.Prelude.{◌≡◌, Option, None, Some, Bool, true, false, List, [], ◌∷◌, ◌++◌}
 use Rattle.tt_base.specs.declared.event.Event.{Event}
-use Rattle.tt_world.specs.declared.world.World.{World}
-use Rattle.tt_world.specs.declared.world.Outcome.{Outcome}
-use Rattle.tt_world.specs.declared.world.Outcome.TheVariants.{GoesOn, Stopped, Missed}
+use Rattle.tt_world.specs.World.{World}
+use Rattle.tt_world.specs.declared.world.RunEnd.{RunEnd}
+
+-- how a part of an instant ends: the run goes on, or has ended so
+abbrev pub Outcome : Type 0
+Outcome = Option RunEnd
 
 pub record Moved : Type 0 where
   pub world : World
   pub events : List Event
   pub end : Outcome
 
+abbrev pub moved : Outcome → World → List Event → Moved
+moved end w events = record { world = w; events = events; end = end }
+
 -- the run goes on after these events
 abbrev pub goes_on : World → List Event → Moved
-goes_on w events = record { world = w; events = events; end = GoesOn }
-
--- the run ends after these events: its last round has ended
-abbrev pub stops : World → List Event → Moved
-stops w events = record { world = w; events = events; end = Stopped }
-
--- the run ends after these events: a task has missed its deadline
-abbrev pub misses : TaskNo → World → List Event → Moved
-misses task w events = record { world = w; events = events; end = Missed task }
+goes_on = moved None
 
 -- these events came before
-abbrev pub behind : List Event → Moved → Moved
-behind events m = record { world = m.world; events = events ++ m.events; end = m.end }
-
-abbrev pub continued : Outcome → World → List Event → (World → Moved) → Moved
-continued GoesOn w events next = behind events (next w)
-continued Stopped w events next = stops w events
-continued (Missed task) w events next = misses task w events
-
--- the next part follows where the run goes on
-unfoldable pub followed : Moved → (World → Moved) → Moved
-followed m next = continued m.end m.world m.events next
+abbrev pub preceded : List Event → Moved → Moved
+preceded events m = record { world = m.world; events = events ++ m.events; end = m.end }
 
 -- whether the run has ended
 abbrev pub is_over : Outcome → Bool
-is_over GoesOn = false
-is_over Stopped = true
-is_over (Missed task) = true
+is_over None = false
+is_over (Some end) = true
+
+abbrev pub continued : Bool → Moved → (World → Moved) → Moved
+continued false m next = preceded m.events (next m.world)
+continued true m next = m
+
+-- the next part follows where the run goes on
+unfoldable pub followed : Moved → (World → Moved) → Moved
+followed m next = continued (is_over m.end) m next
+
+-- parts of an instant in their order
+unfoldable pub chain : List (World → Moved) → World → Moved
+chain [] w = goes_on w []
+chain (part ∷ parts) w = followed (part w) (chain parts)
 
 -- an event where a test holds
 abbrev pub event_if : Bool → Event → List Event

@@ -1,9 +1,13 @@
 -- The schedule: the events of the instants 0, 1, 2 and so on, up to the first that ends the run.
-use Rattle.std.specs.Prelude.{◌≡◌, ℕ, zero, suc, ◌<◌, ◌≤◌, ◌+◌, ◌*◌, Bool, true, false, List, [], ◌++◌, None, length, replicate, if◌then◌else◌}
+use Rattle.std.specs.Prelude.{◌≡◌, ℕ, zero, suc, ◌<◌, ◌≤◌, ◌+◌, ◌*◌, Bool, true, false, List, [], ◌++◌, None, pos, length, map, replicate, if◌then◌else◌}
 use Rattle.tt_base.specs.declared.event.Event.{Event}
 use Rattle.tt_world.specs.declared.config.ConfigParts.{ConfigParts}
 use Rattle.tt_world.specs.declared.script.ScriptParts.{ScriptParts}
-use Rattle.tt_world.specs.declared.world.World.{World}
+use Rattle.tt_world.specs.declared.config.OsekDef.{OsekDef}
+use Rattle.tt_world.specs.declared.world.Runner.{Runner}
+use Rattle.tt_world.specs.declared.world.Runner.TheVariants.{Nobody}
+use Rattle.tt_world.specs.World.{World}
+use Rattle.tt_world.specs.Runners.{runner_of}
 use Rattle.tt_world.specs.Moved.{Moved, followed, is_over}
 use Rattle.tt_world.specs.Opening.{opening}
 use Rattle.tt_world.specs.Step.{step}
@@ -18,16 +22,27 @@ pub record IsBounded (c : ConfigParts) (s : ScriptParts) : Type 0 where
   pub some_round : 1 ≤ s.rounds
   pub few_rounds : s.rounds ≤ 100000
 
--- before tick 0: round 1 of the start mode, the variables with their initial values, and no script value used
+-- before tick 0: round 1 of the start mode, which is wanted too; no correction; the variables with their initial values, and no
+-- script value or global time used; all sources enabled, and nothing held; and the tasks with the auto mark ready
 abbrev pub first_world : ConfigParts → ScriptParts → World
 first_world c s = record {
   tick = 0;
   start = 0;
   number = 1;
   mode = s.start;
+  wanted = s.start;
+  pending = pos 0;
+  latched = None;
+  times_used = 0;
   vars = c.vars;
   cursors = replicate (length c.demands) 0;
-  activations = [];
+  jobs = [];
+  isrs_enabled = replicate (length c.isrs) true;
+  isrs_held = replicate (length c.isrs) false;
+  isrs = replicate (length c.isrs) [];
+  oisrs_held = replicate (length c.oisrs) false;
+  oisrs = replicate (length c.oisrs) [];
+  oseks = map (λ (task : OsekDef). if task.auto then task.body else []) c.oseks;
   last = None;
 }
 
@@ -48,6 +63,24 @@ unfoldable pub events_before : ConfigParts → ScriptParts → ℕ → List Even
 events_before c s zero = []
 events_before c s (suc n) = events_before c s n ++ (instant_at c s n).events
 
+-- the events of the next k instants from instant m on
+unfoldable pub events_between : ConfigParts → ScriptParts → (m k : ℕ) → List Event
+events_between c s m zero = []
+events_between c s m (suc k) = events_between c s m k ++ (instant_at c s (m + k)).events
+
+abbrev pub runner_if : (over : Bool) → Runner → Runner
+runner_if true runner = Nobody
+runner_if false runner = runner
+
+-- who takes the tick of instant n: nobody where its opening ends the run
+unfoldable pub runner_at : ConfigParts → ScriptParts → ℕ → Runner
+runner_at c s n = let m = opening c s (world_at c s n) in runner_if (is_over m.end) (runner_of c m.world)
+
+-- how many of the next k instants from instant m on such a runner takes
+unfoldable pub ticks_of : (Runner → Bool) → ConfigParts → ScriptParts → (m k : ℕ) → ℕ
+ticks_of test c s m zero = 0
+ticks_of test c s m (suc k) = ticks_of test c s m k + (if test (runner_at c s (m + k)) then 1 else 0)
+
 -- whether instant n ends the run
 abbrev pub ends_at : ConfigParts → ScriptParts → ℕ → Bool
 ends_at c s n = is_over (instant_at c s n).end
@@ -57,7 +90,7 @@ pub record IsLast (c : ConfigParts) (s : ScriptParts) (n : ℕ) : Type 0 where
   pub ends : ends_at c s n ≡ true
   pub first : (k : ℕ) → k < n → ends_at c s k ≡ false
 
--- the least of the next `more` instants from `from` that ends the run, else the one behind them
+-- the least of the next `more` instants from `from` that ends the run, else the one after them
 unfoldable pub last_from : ConfigParts → ScriptParts → (more from : ℕ) → ℕ
 last_from c s zero from = from
 last_from c s (suc more) from = if ends_at c s from then from else last_from c s more (from + 1)

@@ -1,88 +1,78 @@
--- Who runs, and one tick of it.
-use Rattle.std.specs.Prelude.{ℕ, ◌+◌, ◌==◌, not, Bool, true, false, List, [], ◌∷◌, ◌++◌, Option, None, Some}
+-- One tick of the one who runs.
+use Rattle.std.specs.Prelude.{◌+◌, ◌&&◌, ◌||◌, not, Bool, true, false, List, [], ◌∷◌, Some, if◌then◌else◌}
+use Rattle.tt_base.specs.declared.event.Call.{Call}
 use Rattle.tt_base.specs.declared.event.Event.{Event}
-use Rattle.tt_base.specs.declared.event.Event.TheVariants.{Run, End, Out}
+use Rattle.tt_base.specs.declared.event.Event.TheVariants.{Run, End, Out, Called}
 use Rattle.tt_base.specs.declared.event.Owner.{Owner}
-use Rattle.tt_base.specs.declared.event.Owner.TheVariants as owner
 use Rattle.task_lang.specs.declared.syntax.Stmt.{Stmt}
 use Rattle.task_lang.specs.declared.tick.Effect.{Effect}
 use Rattle.task_lang.specs.declared.tick.Effect.TheVariants as effect
 use Rattle.task_lang.specs.Tick.{State, supply_of, state_of, tick}
 use Rattle.tt_world.specs.declared.config.ConfigParts.{ConfigParts}
 use Rattle.tt_world.specs.declared.script.ScriptParts.{ScriptParts}
-use Rattle.tt_world.specs.declared.world.World.{World}
 use Rattle.tt_world.specs.declared.world.Runner.{Runner}
-use Rattle.tt_world.specs.declared.world.Runner.TheVariants.{Activation, Nobody}
-use Rattle.tt_world.specs.Instances.{instance_at, is_done, last_unfinished, with_left}
-use Rattle.tt_world.specs.Moved.{Moved, goes_on, event_if}
-use Rattle.tt_world.specs.Rows.{mode_of, row_of}
+use Rattle.tt_world.specs.declared.world.Runner.TheVariants.{Nobody}
+use Rattle.tt_world.specs.World.{World}
+use Rattle.tt_world.specs.Moved.{Moved, goes_on, preceded, followed, event_if}
+use Rattle.tt_world.specs.Hooks.{shuts_down}
+use Rattle.tt_world.specs.Runners.{is_done, left_of, leaving, runner_of, owner_of, ran_before}
+use Rattle.tt_world.specs.Services.{Answer, service, is_shutdown}
+use Rattle.tt_world.specs.declared.world.RunEnd.TheVariants as ending
 
--- ---- who runs
+-- what a tick does: what it moves, and whether the runner has ended
+pub record RunnerTick : Type 0 where
+  pub move : Moved
+  pub ended : Bool
 
-abbrev pub task_runner : Option ℕ → Runner
-task_runner None = Nobody
-task_runner (Some place) = Activation place
+-- the runner goes on with what is left of it, or has ended where that is nothing
+abbrev pub works : Runner → List Stmt → List Event → World → RunnerTick
+works runner left events w = record { move = goes_on (leaving w runner left) events; ended = is_done left }
 
--- who runs: the last activation of the round that has statements left, else nobody
-unfoldable pub runner_of : World → Runner
-runner_of w = task_runner (last_unfinished 0 w.activations)
-
--- the owner of a tick that a runner takes
-abbrev pub owner_of : ConfigParts → World → Runner → Owner
-owner_of c w (Activation place) = owner.Task (row_of (mode_of c w) (instance_at w.activations place).entry).task
-owner_of c w Nobody = owner.Idle
-
--- whether two owners are one
-abbrev pub same_owner : Owner → Owner → Bool
-same_owner (owner.Task a) (owner.Task b) = a.0 == b.0
-same_owner (owner.Isr a) (owner.Isr b) = a.0 == b.0
-same_owner (owner.Osek a) (owner.Osek b) = a.0 == b.0
-same_owner (owner.Oisr a) (owner.Oisr b) = a.0 == b.0
-same_owner owner.ErrorHook owner.ErrorHook = true
-same_owner owner.ShutdownHook owner.ShutdownHook = true
-same_owner owner.Idle owner.Idle = true
-same_owner a b = false
-
--- whether the tick before had this owner
-abbrev pub ran_before : Option Owner → Owner → Bool
-ran_before None who = false
-ran_before (Some before) who = same_owner before who
-
--- ---- one tick
+-- a service was called
+abbrev pub called : ConfigParts → Runner → Owner → Call → Answer → RunnerTick
+called c runner who call answer =
+    let w = leaving answer.world runner answer.left in
+    let line = Called w.tick who call answer.result ∷ [] in
+    record {
+      move = if is_shutdown call then preceded line (shuts_down c (Some ending.Shutdown) w) else goes_on w line;
+      ended = answer.ends || is_done answer.left;
+    }
 
 -- one tick of a list of statements
-abbrev pub ticked : ConfigParts → ScriptParts → World → List Stmt → State
-ticked c s w left = tick (supply_of c.demands s.values) (state_of left w.vars w.cursors [])
+abbrev pub state_after : ConfigParts → ScriptParts → World → List Stmt → State
+state_after c s w left = tick (supply_of c.demands s.values) (state_of left w.vars w.cursors [])
 
--- the events of what a tick does besides computing; a service has none
-abbrev pub effect_events : ℕ → Owner → List Effect → List Event
-effect_events at who [] = []
-effect_events at who (effect.Out value ∷ rest) = Out at who value ∷ effect_events at who rest
-effect_events at who (effect.Service call ∷ rest) = effect_events at who rest
+-- what follows from the effect of a tick, after which this is left; a tick has at most one
+abbrev pub effected : ConfigParts → ScriptParts → Runner → Owner → List Effect → List Stmt → World → RunnerTick
+effected c s runner who [] left w = works runner left [] w
+effected c s runner who (effect.Out value ∷ rest) left w = works runner left (Out w.tick who value ∷ []) w
+effected c s runner who (effect.Service call ∷ rest) left w = called c runner who call (service c s runner call left w)
 
--- the events of a tick: those of its effect, and the end of the owner where nothing is left
-abbrev pub tick_events : ℕ → Owner → State → List Event
-tick_events at who state = effect_events at who state.effects ++ event_if (is_done state.left) (End (at + 1) who)
+-- the tick of a runner
+abbrev pub runner_tick : ConfigParts → ScriptParts → Runner → Owner → World → RunnerTick
+runner_tick c s runner who w =
+    let state = state_after c s w (left_of w runner) in
+    effected c s runner who state.effects state.left (record w { vars = state.vars; cursors = state.cursors })
 
--- the world after the runner's tick, but for the tick itself and its owner
-abbrev pub served : ConfigParts → ScriptParts → Runner → World → World
-served c s (Activation place) w =
-    let state = ticked c s w (instance_at w.activations place).left in
-    record w { activations = with_left w.activations place state.left; vars = state.vars; cursors = state.cursors }
-served c s Nobody w = w
+-- idle time has no end
+abbrev pub is_somebody : Runner → Bool
+is_somebody Nobody = false
+is_somebody runner = true
 
-abbrev pub served_events : ConfigParts → ScriptParts → Runner → World → List Event
-served_events c s (Activation place) w =
-    tick_events w.tick (owner_of c w (Activation place)) (ticked c s w (instance_at w.activations place).left)
-served_events c s Nobody w = []
+-- a line stands before the tick where its owner is another than the one of the tick before
+abbrev pub run_line : World → Owner → List Event
+run_line w who = event_if (not (ran_before w.last who)) (Run w.tick who)
 
--- a runner takes a tick; before it stands a line where its owner is another than the one of the tick before
-abbrev pub stepped : ConfigParts → ScriptParts → Runner → World → Moved
-stepped c s runner w =
+-- the tick is over: the end of an owner that has ended has a line, and the tick is raised
+abbrev pub tick_over : Owner → Bool → World → Moved
+tick_over who ended w = goes_on (record w { tick = w.tick + 1; last = Some who }) (event_if ended (End (w.tick + 1) who))
+
+abbrev pub runner_step : ConfigParts → ScriptParts → Runner → World → Moved
+runner_step c s runner w =
     let who = owner_of c w runner in
-    goes_on (record (served c s runner w) { tick = w.tick + 1; last = Some who })
-    (event_if (not (ran_before w.last who)) (Run w.tick who) ++ served_events c s runner w)
+    let tick = runner_tick c s runner who w in
+    followed (preceded (run_line w who) tick.move) (tick_over who (is_somebody runner && tick.ended))
 
--- the one who runs takes the tick of the instant
+-- the one who runs takes the tick of the instant; nobody's tick does nothing
 unfoldable pub step : ConfigParts → ScriptParts → World → Moved
-step c s w = stepped c s (runner_of w) w
+step c s w = runner_step c s (runner_of c w) w

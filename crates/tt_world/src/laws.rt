@@ -1,19 +1,36 @@
 //! Laws of every run. Each is the contract of a function with an empty body.
 
-ghost use Rattle.tt_world.specs.RunLaws.{ScheduleEnds, PointsAreAhead, TasksAreSingle};
-
-/// Every run ends: there is exactly one last instant, it and all stamps are within the most ticks that the rounds can take, and
-/// the last event is the one that the status asks for.
-pub fn schedule_ends()
-    ensures { ScheduleEnds }
-{}
+ghost use Rattle.tt_world.specs.RunLaws.{PointsAreAhead, IsrIsBounded, NoMiss, ActivationsLaw, TasksAreSingle, OwnersLaw};
 
 /// An activation with statements left has not reached its monitoring point.
 pub fn points_are_ahead()
     ensures { PointsAreAhead }
 {}
 
+/// In any consecutive instants of a run a time-triggered routine takes at most that many ticks.
+pub fn isr_is_bounded()
+    ensures { IsrIsBounded }
+{}
+
+/// Where the check says yes and the script keeps its bounds, no check is missed, and each activation whose deadline the run
+/// reaches has ended by its deadline.
+pub fn no_miss()
+    ensures { NoMiss }
+{}
+
+/// Each round has exactly the activations of its mode with offsets below its end, each at its offset, in their order; where
+/// ttShutdownOS ends the run, that of its tick too.
+pub fn rounds_activate()
+    ensures { ActivationsLaw }
+{}
+
 /// A task has at most one activation with statements left.
 pub fn tasks_are_single()
     ensures { TasksAreSingle }
+{}
+
+/// A task has a tick where no time-triggered routine is unfinished and it was activated last, a time-triggered routine where it is
+/// the unfinished one of the highest level, and anybody else where neither is unfinished.
+pub fn owners_are_right()
+    ensures { OwnersLaw }
 {}

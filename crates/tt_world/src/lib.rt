@@ -10,6 +10,8 @@ mod world;
 pub use config::{
     Activation, Config, ConfigParts, Enable, IsrDef, ModeDef, OisrDef, OsekDef, TaskDef,
 };
-pub use laws::{points_are_ahead, schedule_ends, tasks_are_single};
+pub use laws::{
+    isr_is_bounded, no_miss, owners_are_right, points_are_ahead, rounds_activate, tasks_are_single,
+};
 pub use script::{Arrivals, Script, ScriptParts};
-pub use world::{Instance, Instances, Outcome, Point, Runner, World};
+pub use world::{Point, RunEnd, Runner};
