@@ -89,7 +89,7 @@ pub is_after : (now : ℕ) (tick : Option ℕ) → IsFrom now tick → is_at now
 is_after now None from other = tt
 is_after now (Some tick) from other = let differ : tick ≢ now = eqb-false tick now other in omega arith
 
-is_not_at : (now : ℕ) (tick : Option ℕ) → IsFrom (now + 1) tick → is_at now tick ≡ false
+pub is_not_at : (now : ℕ) (tick : Option ℕ) → IsFrom (now + 1) tick → is_at now tick ≡ false
 is_not_at now None after = refl
 is_not_at now (Some tick) after = let differ : tick ≢ now = omega arith in ne_eqb tick now differ
 

@@ -7,3 +7,4 @@ pub mod Places
 pub mod Silent
 pub mod Windows
 pub mod Arrivals
+pub mod Acceptances

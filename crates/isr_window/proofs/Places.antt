@@ -68,13 +68,13 @@ place_of isrs (IsrSource isr) = isr.0
 place_of isrs (OisrSource oisr) = isrs + oisr.0
 
 -- a place below the number of the first kind, or after it
-isr_at : (c : ConfigParts) (k : ℕ) → k < length c.isrs → source_at c k ≡ isr_source k
+pub isr_at : (c : ConfigParts) (k : ℕ) → k < length c.isrs → source_at c k ≡ isr_source k
 isr_at c k here =
     get_or-append (map isr_source (range_with_len 0 (length c.isrs))) (map oisr_source (range_with_len 0 (length c.oisrs))) no_source k
     (rw (length-map-range_with_len isr_source 0 (length c.isrs)) here)
     ∙ get_or-map-range_with_len isr_source 0 (length c.isrs) k k no_source here (omega arith)
 
-oisr_at : (c : ConfigParts) (k : ℕ) → k < length c.oisrs → source_at c (length c.isrs + k) ≡ oisr_source k
+pub oisr_at : (c : ConfigParts) (k : ℕ) → k < length c.oisrs → source_at c (length c.isrs + k) ≡ oisr_source k
 oisr_at c k here =
     get_or-append_right (map isr_source (range_with_len 0 (length c.isrs))) (map oisr_source (range_with_len 0 (length c.oisrs))) (length c.isrs) (length c.isrs + k) no_source
     (length-map-range_with_len isr_source 0 (length c.isrs)) (omega arith)
