@@ -15,11 +15,14 @@ range_here i n here =
 
 pub passes_here : (test : ℕ → Bool) (i n : ℕ) → i < n → test i ≡ true → find test (range_with_len i (n - i)) ≡ Some i
 passes_here test i n here passes =
-    ap (find test) (range_here i n here) ∙ ap (λ b. cond b (Some i) (find test (range_with_len (i + 1) (n - (i + 1))))) passes
+    ap (find test) (range_here i n here)
+    ∙ ap (λ b. cond b (Some i) (find test (range_with_len (i + 1) (n - (i + 1))))) passes
 
-pub fails_here : (test : ℕ → Bool) (i n : ℕ) → i < n → test i ≡ false → find test (range_with_len i (n - i)) ≡ find test (range_with_len (i + 1) (n - (i + 1)))
+pub fails_here : (test : ℕ → Bool) (i n : ℕ) → i < n → test i ≡ false
+    → find test (range_with_len i (n - i)) ≡ find test (range_with_len (i + 1) (n - (i + 1)))
 fails_here test i n here fails =
-    ap (find test) (range_here i n here) ∙ ap (λ b. cond b (Some i) (find test (range_with_len (i + 1) (n - (i + 1))))) fails
+    ap (find test) (range_here i n here)
+    ∙ ap (λ b. cond b (Some i) (find test (range_with_len (i + 1) (n - (i + 1))))) fails
 
 pub none_left : (test : ℕ → Bool) (i n : ℕ) → n ≤ i → find test (range_with_len i (n - i)) ≡ None
 none_left test i n past =
@@ -44,7 +47,9 @@ lesser_assoc (Some x) None c = refl
 lesser_assoc (Some x) (Some y) None = refl
 lesser_assoc (Some x) (Some y) (Some z) = ap Some (omega arith)
 
-pub least_more : (least : Option ℕ) (lists : List (List ℕ)) (i : ℕ) → i < length lists → lesser (lesser least (slice_get (get_or lists i []) 0)) (least_next (drop (i + 1) lists)) ≡ lesser least (least_next (drop i lists))
+pub least_more : (least : Option ℕ) (lists : List (List ℕ)) (i : ℕ) → i < length lists
+    → lesser (lesser least (slice_get (get_or lists i []) 0)) (least_next (drop (i + 1) lists)) ≡ lesser least
+    (least_next (drop i lists))
 unfolding least_next
 least_more least lists i here =
     lesser_assoc least (slice_get (get_or lists i []) 0) (least_next (drop (i + 1) lists))
@@ -57,15 +62,19 @@ pub found_below : (test : ℕ → Bool) (i n k : ℕ) → find test (range_with_
 found_below test i zero k found = absurd cc
 found_below test i (suc n) k found = by_test (test i) (λ e. found_below test (i + 1) n k e) found
   where
-    by_test : (passes : Bool) → (find test (range_with_len (i + 1) n) ≡ Some k → k < i + 1 + n) → cond passes (Some i) (find test (range_with_len (i + 1) n)) ≡ Some k → k < i + suc n
+    by_test : (passes : Bool) → (find test (range_with_len (i + 1) n) ≡ Some k → k < i + 1 + n)
+        → cond passes (Some i) (find test (range_with_len (i + 1) n)) ≡ Some k → k < i + suc n
     by_test true below e = let same : i ≡ k = cc in omega arith
     by_test false below e = let here = below e in omega arith
 
-pub find-map : {X : Type 0} (test : X → Bool) (f : ℕ → X) (numbers : List ℕ) → find test (map f numbers) ≡ option_map f (find (λ number. test (f number)) numbers)
+pub find-map : {X : Type 0} (test : X → Bool) (f : ℕ → X) (numbers : List ℕ)
+    → find test (map f numbers) ≡ option_map f (find (λ number. test (f number)) numbers)
 find-map test f [] = refl
 find-map test f (number ∷ rest) = by_test (test (f number)) (find-map test f rest)
   where
-    by_test : (passes : Bool) → find test (map f rest) ≡ option_map f (find (λ number. test (f number)) rest) → cond passes (Some (f number)) (find test (map f rest)) ≡ option_map f (cond passes (Some number) (find (λ number. test (f number)) rest))
+    by_test : (passes : Bool) → find test (map f rest) ≡ option_map f (find (λ number. test (f number)) rest)
+        → cond passes (Some (f number)) (find test (map f rest)) ≡ option_map f
+        (cond passes (Some number) (find (λ number. test (f number)) rest))
     by_test true e = refl
     by_test false e = e
 
@@ -105,17 +114,22 @@ both_from now (Some x) None from too = from
 both_from now (Some x) (Some y) from too = omega arith
 
 -- the first tick of each list, and the least of them
-pub each_from : (now : ℕ) (lists : List (List ℕ)) → IsFrom now (least_next lists) → (k : ℕ) → IsFrom now (slice_get (get_or lists k []) 0)
+pub each_from : (now : ℕ) (lists : List (List ℕ)) → IsFrom now (least_next lists) → (k : ℕ)
+    → IsFrom now (slice_get (get_or lists k []) 0)
 unfolding least_next
 each_from now [] from k = tt
 each_from now (ticks ∷ rest) from zero = (from_both now (slice_get ticks 0) (least_next rest) from).0
-each_from now (ticks ∷ rest) from (suc k) = each_from now rest (from_both now (slice_get ticks 0) (least_next rest) from).1 k
+each_from now (ticks ∷ rest) from (suc k) =
+    each_from now rest (from_both now (slice_get ticks 0) (least_next rest) from).1 k
 
-pub from_each : (now : ℕ) (lists : List (List ℕ)) → ((k : ℕ) → k < length lists → IsFrom now (slice_get (get_or lists k []) 0)) → IsFrom now (least_next lists)
+pub from_each : (now : ℕ) (lists : List (List ℕ))
+    → ((k : ℕ) → k < length lists → IsFrom now (slice_get (get_or lists k []) 0)) → IsFrom now (least_next lists)
 unfolding least_next
 from_each now [] each = tt
 from_each now (ticks ∷ rest) each =
-    both_from now (slice_get ticks 0) (least_next rest) (each 0 (omega arith)) (from_each now rest (λ k below. each (suc k) (omega arith)))
+    both_from now (slice_get ticks 0) (least_next rest) (each 0 (omega arith))
+    (from_each now rest (λ k below. each (suc k) (omega arith)))
 
-pub none_next : (now : ℕ) (lists : List (List ℕ)) → IsFrom (now + 1) (least_next lists) → (k : ℕ) → is_next now (get_or lists k []) ≡ false
+pub none_next : (now : ℕ) (lists : List (List ℕ)) → IsFrom (now + 1) (least_next lists) → (k : ℕ)
+    → is_next now (get_or lists k []) ≡ false
 none_next now lists after k = is_not_at now (slice_get (get_or lists k []) 0) (each_from (now + 1) lists after k)

@@ -10,7 +10,8 @@ use Rattle.tt_world.specs.Gates.{source_owner}
 use Rattle.isr_window.specs.Busy.{BusySources, is_busy}
 
 pub record Window : Type 0 where
-  -- of each time-triggered source: whether it is enabled, whether an interrupt is held, and the ticks of the arrivals to come
+  -- of each time-triggered source: whether it is enabled, whether an interrupt is held, and the ticks of the arrivals
+  -- to come
   pub isrs_enabled : List Bool
   pub isrs_held : List Bool
   pub isrs_left : List (List ℕ)
