@@ -44,6 +44,7 @@ accepted_is c busy w g k seen unfinished below =
     by_held true enabled false is flags = ap (λ b. enabled && not b) (sym (flags refl))
     by_held true enabled true is flags = ap (λ b. enabled && not b) (sym (flags refl))
 
+-- the part of a source whose interrupt cannot be accepted
 pub not_accepted : (c : ConfigParts) (w : World) (x : Source) → is_accepted w x ≡ false
     → acceptance c x w ≡ goes_on w []
 unfolding acceptance
@@ -51,6 +52,7 @@ not_accepted c w x none =
     ap (λ b. if b then goes_on (leaving (disabling (holding w x false) x) (source_runner x) (routine_of c x))
     (Accept w.tick (source_owner x) ∷ []) else goes_on w []) none
 
+-- the routine of a source begins
 pub begun_is : (c : ConfigParts) (x : Source) (w : World)
     → leaving w (source_runner x) (routine_of c x) ≡ begun c (source_owner x) w
 begun_is c (IsrSource isr) w = refl
@@ -239,6 +241,7 @@ pub record Acceptances (c : ConfigParts) (a b : List Event) (u w : World) (g nex
   pub same : next ≡ g
   pub none : (place : ℕ) → place < length (sources c) → is_accepted w (source_at c place) ≡ false
 
+-- after the last acceptance of this tick
 pub accepting_end : (c : ConfigParts) (a b : List Event) (u w : World) (g next : Window) (busy : BusySources)
     → Accepting c a b u w g busy → None ≡ option_map source_owner (first_ready busy g)
     → next ≡ accepting (first_ready busy g) g → Acceptances c a b u w g next

@@ -52,6 +52,7 @@ new_are c s rules = record {
   oisrs_held = length-replicate (length s.arrivals.oisrs) false ∙ rules.oisrs;
 }
 
+-- the gates before tick 0 are those of the first world
 pub new_seen : (c : ConfigParts) (s : ScriptParts) → IsScript c s
     → with_window (first_world c s) (new_window s.arrivals) ≡ first_world c s
 new_seen c s rules =
@@ -64,6 +65,7 @@ new_seen c s rules =
     }) rules.isrs
     ∙ ap (λ n. record (first_world c s) { oisrs_held = replicate n false }) rules.oisrs
 
+-- and all arrivals of the script are to come
 pub new_left : (c : ConfigParts) (s : ScriptParts) → IsScript c s → AreLeftFrom c s 0 (new_window s.arrivals)
 new_left c s rules = record { left = λ k below. all (source_at c k) }
   where
@@ -142,6 +144,7 @@ an_arrival s w g x some seen =
 
 -- ---- the loop
 
+-- a test does not both pass and fail
 pub true_is_not_false : true ≡ false → ⊥
 true_is_not_false e = cc
 
@@ -205,6 +208,7 @@ pub found_some : {X Y : Type 0} (f : X → Y) (found : Option X) (y : Y) → Som
 found_some f None y e = absurd cc
 found_some f (Some x) y e = let same : y ≡ f x = cc in (x, refl, same)
 
+-- nothing was found
 pub found_nothing : {X Y : Type 0} (f : X → Y) (found : Option X) → None ≡ option_map f found → found ≡ None
 found_nothing f None e = refl
 found_nothing f (Some x) e = absurd cc
@@ -325,6 +329,7 @@ pub record Arrivals (c : ConfigParts) (s : ScriptParts) (a b : List Event) (u w 
   pub same : next ≡ g
   pub left : AreLeftFrom c s (w.tick + 1) g
 
+-- after the last arrival of this tick
 pub arriving_end : (c : ConfigParts) (s : ScriptParts) (a b : List Event) (u w : World) (g next : Window) → IsScript c s
     → Arriving c s a b u w g → None ≡ option_map (arrived_at g) (first_due w.tick g)
     → next ≡ taking (first_due w.tick g) g → Arrivals c s a b u w g next

@@ -10,9 +10,11 @@ use Rattle.isr_window.specs.Window.{Window, is_at, is_next, is_due, is_ready, fi
 use Rattle.isr_window.specs.Numbers.{first_at, first_ready_in, is_ready_in, with_flag, without_next}
 use Rattle.isr_window.proofs.Firsts.{find-map, none_next, none_passes, is_after, is_from, from_both}
 
+-- the time-triggered source of a number
 abbrev pub isr_source : ℕ → Source
 isr_source number = IsrSource (record { 0 = number })
 
+-- the source of the OSEK subsystem of a number
 abbrev pub oisr_source : ℕ → Source
 oisr_source number = OisrSource (record { 0 = number })
 
@@ -30,11 +32,13 @@ first_of_both test isrs oisrs =
 
 -- ---- arrivals
 
+-- the first source with an arrival, by kind
 pub first_due_is : (now : ℕ) (g : Window)
     → first_due now g ≡ option_or (option_map isr_source (first_at now g.isrs_left))
     (option_map oisr_source (first_at now g.oisrs_left))
 first_due_is now g = first_of_both (is_due now g) (length g.isrs_left) (length g.oisrs_left)
 
+-- where the next arrival comes later, no source has one now
 pub none_due : (now : ℕ) (g : Window) → ForSome (next_tick g) (λ tick. now ≤ tick) → is_at now (next_tick g) ≡ false
     → None ≡ first_due now g
 none_due now g none_before other =
@@ -47,12 +51,14 @@ none_due now g none_before other =
     ∙ ap (option_map oisr_source) (none_passes (λ number. is_next now (get_or g.oisrs_left number [])) 0
     (length g.oisrs_left) (none_next now g.oisrs_left after.1)))
 
+-- a time-triggered source has one
 pub due_isr : (now : ℕ) (g : Window) (number : ℕ) → first_at now g.isrs_left ≡ Some number
     → first_due now g ≡ Some (isr_source number)
 due_isr now g number found =
     first_due_is now g
     ∙ ap (λ o. option_or (option_map isr_source o) (option_map oisr_source (first_at now g.oisrs_left))) found
 
+-- no time-triggered source has one
 pub due_oisr : (now : ℕ) (g : Window) → first_at now g.isrs_left ≡ None
     → first_due now g ≡ option_map oisr_source (first_at now g.oisrs_left)
 due_oisr now g none =
@@ -74,6 +80,7 @@ held_twice : (held free : Bool) → (held && free) ≡ (held && (held && free))
 held_twice true free = refl
 held_twice false free = refl
 
+-- the first source of which an interrupt can be accepted, by kind
 pub first_ready_is : (busy : BusySources) (g : Window) → length g.isrs_held ≡ length g.isrs_left
     → length g.oisrs_held ≡ length g.oisrs_left
     → first_ready busy g ≡ option_or (option_map isr_source (first_ready_in g.isrs_held g.isrs_enabled busy.isrs))
@@ -92,6 +99,7 @@ first_ready_is busy g isrs oisrs =
     (λ number. held_twice (get_or g.oisrs_held number false) (not (get_or busy.oisrs number false)))
     ∙ ap (λ n. find (is_ready_in g.oisrs_held g.oisrs_held busy.oisrs) (range_with_len 0 n)) (sym oisrs))
 
+-- it is a time-triggered one
 pub ready_isr : (busy : BusySources) (g : Window) (number : ℕ) → length g.isrs_held ≡ length g.isrs_left
     → length g.oisrs_held ≡ length g.oisrs_left → first_ready_in g.isrs_held g.isrs_enabled busy.isrs ≡ Some number
     → first_ready busy g ≡ Some (isr_source number)
@@ -100,6 +108,7 @@ ready_isr busy g number isrs oisrs found =
     ∙ ap (λ o. option_or (option_map isr_source o)
     (option_map oisr_source (first_ready_in g.oisrs_held g.oisrs_held busy.oisrs))) found
 
+-- it is none of the time-triggered ones
 pub ready_oisr : (busy : BusySources) (g : Window) → length g.isrs_held ≡ length g.isrs_left
     → length g.oisrs_held ≡ length g.oisrs_left → first_ready_in g.isrs_held g.isrs_enabled busy.isrs ≡ None
     → first_ready busy g ≡ option_map oisr_source (first_ready_in g.oisrs_held g.oisrs_held busy.oisrs)
@@ -128,6 +137,7 @@ pub found_none : (flag : ℕ → Bool) (found : Option ℕ)
 found_none flag None e = refl
 found_none flag (Some n) e = absurd cc
 
+-- what is not there
 pub not_some : {X : Type 0} (o : Option X) → ((x : X) → o ≡ Some x → ⊥) → o ≡ None
 not_some None none = refl
 not_some (Some x) none = absurd (none x refl)
@@ -146,6 +156,7 @@ taking_oisr : (g : Window) (found : Option ℕ)
 taking_oisr g None = refl
 taking_oisr g (Some number) = refl
 
+-- after an arrival at a time-triggered source
 pub took_isr : (now : ℕ) (g : Window) (number : ℕ) (left : List (List ℕ)) (held : List Bool)
     → first_at now g.isrs_left ≡ Some number → left ≡ without_next (first_at now g.isrs_left) g.isrs_left
     → held ≡ with_flag (first_at now g.isrs_left) true g.isrs_held
@@ -157,6 +168,7 @@ took_isr now g number left held found left_is held_is =
     ∙ ap (λ o. taking (option_map isr_source o) g) found
     ∙ sym (ap (λ o. taking o g) (due_isr now g number found))
 
+-- after one at a source of the OSEK subsystem, or none
 pub took_oisr : (now : ℕ) (g : Window) (isrs_left left : List (List ℕ)) (isrs_held held : List Bool)
     → first_at now g.isrs_left ≡ None → isrs_left ≡ without_next (first_at now g.isrs_left) g.isrs_left
     → isrs_held ≡ with_flag (first_at now g.isrs_left) true g.isrs_held

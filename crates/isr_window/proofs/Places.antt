@@ -29,6 +29,7 @@ pub record IsFirst {X : Type 0} (test : X → Bool) (xs : List X) (d x : X) : Ty
   pub passes : test x ≡ true
   pub before : (k : ℕ) → k < place → test (get_or xs k d) ≡ false
 
+-- what is found first is at such a place
 pub first_found : {X : Type 0} (test : X → Bool) (xs : List X) (d x : X) → find test xs ≡ Some x → IsFirst test xs d x
 first_found test [] d x e = absurd cc
 first_found {X} test (y ∷ ys) d x e = by_test (test y) refl e (first_found test ys d x)
@@ -61,6 +62,7 @@ first_found {X} test (y ∷ ys) d x e = by_test (test y) refl e (first_found tes
         before rest is zero below = is
         before rest is (suc k) below = rest.before k (omega arith)
 
+-- where nothing is found, none passes
 pub none_found : {X : Type 0} (test : X → Bool) (xs : List X) (d : X) → find test xs ≡ None → (k : ℕ) → k < length xs
     → test (get_or xs k d) ≡ false
 none_found test [] d e k below = absurd (omega arith)
@@ -75,6 +77,7 @@ none_found test (y ∷ ys) d e k below = by_test (test y) refl e (none_found tes
 
 -- ---- different places have different sources
 
+-- the place of a source where so many come before those of the OSEK subsystem
 abbrev pub place_of : ℕ → Source → ℕ
 place_of isrs (IsrSource isr) = isr.0
 place_of isrs (OisrSource oisr) = isrs + oisr.0
@@ -87,6 +90,7 @@ isr_at c k here =
     (rw (length-map-range_with_len isr_source 0 (length c.isrs)) here)
     ∙ get_or-map-range_with_len isr_source 0 (length c.isrs) k k no_source here (omega arith)
 
+-- the source at a place after it
 pub oisr_at : (c : ConfigParts) (k : ℕ) → k < length c.oisrs → source_at c (length c.isrs + k) ≡ oisr_source k
 oisr_at c k here =
     get_or-append_right (map isr_source (range_with_len 0 (length c.isrs)))
@@ -95,6 +99,7 @@ oisr_at c k here =
     ∙ get_or-map-range_with_len oisr_source 0 (length c.oisrs) (length c.isrs + k - length c.isrs) k no_source
     (omega arith) (omega arith)
 
+-- how many sources there are
 pub length-sources : (c : ConfigParts) → length (sources c) ≡ length c.isrs + length c.oisrs
 length-sources c =
     length-append (map isr_source (range_with_len 0 (length c.isrs)))
@@ -108,6 +113,7 @@ pub data IsSource (c : ConfigParts) : Source → Type 0 where
   IsIsr : (k : ℕ) → k < length c.isrs → IsSource c (isr_source k)
   IsOisr : (k : ℕ) → k < length c.oisrs → IsSource c (oisr_source k)
 
+-- each source is one of the configuration
 pub source_is : (c : ConfigParts) (k : ℕ) → k < length (sources c) → IsSource c (source_at c k)
 source_is c k below = by_kind (cases_lt k (length c.isrs))
   where
@@ -131,6 +137,7 @@ place-of c k below = by_kind (cases_lt k (length c.isrs))
         let same : length c.isrs + (k - length c.isrs) ≡ k = omega arith in
         ap (place_of (length c.isrs)) (ap (source_at c) (sym same) ∙ oisr_at c (k - length c.isrs) here) ∙ same
 
+-- the sources at two places differ
 pub other_source : (c : ConfigParts) (j k : ℕ) → j < length (sources c) → k < length (sources c) → j ≢ k
     → source_at c j ≢ source_at c k
 other_source c j k here there differ same =

@@ -14,6 +14,7 @@ pub record Ascends (least tick : ℕ) (rest : List ℕ) : Type 0 where
   pub first : least ≤ tick
   pub others : ticks_ascend (tick + 1) rest ≡ true
 
+-- an ascending list has these parts
 pub ascends : (least tick : ℕ) (rest : List ℕ) → ticks_ascend least (tick ∷ rest) ≡ true → Ascends least tick rest
 ascends least tick rest up =
     let first = and_parts (nat_le least tick) (nat_lt tick (10 ^ 12) && ticks_ascend (tick + 1) rest) up in
@@ -26,6 +27,7 @@ ascends least tick rest up =
 pub from_here : (now tick : ℕ) (rest : List ℕ) → now ≤ tick → ticks_from now (tick ∷ rest) ≡ tick ∷ rest
 from_here now tick rest here = ap (λ b. if b then tick ∷ rest else ticks_from now rest) (le-leb now tick here)
 
+-- and a tick before it is passed
 pub from_later : (now tick : ℕ) (rest : List ℕ) → tick < now → ticks_from now (tick ∷ rest) ≡ ticks_from now rest
 from_later now tick rest past = ap (λ b. if b then tick ∷ rest else ticks_from now rest) (lt-leb now tick past)
 

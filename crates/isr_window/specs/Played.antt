@@ -20,6 +20,7 @@ use Rattle.isr_window.specs.Ticks.{ticks_from}
 abbrev pub with_window : World → Window → World
 with_window w g = record w { isrs_enabled = g.isrs_enabled; isrs_held = g.isrs_held; oisrs_held = g.oisrs_held }
 
+-- what stands for a source at a place after the last one
 abbrev pub no_source : Source
 no_source = IsrSource (record { 0 = 0 })
 

@@ -9,6 +9,7 @@ use Rattle.tt_world.specs.World.{Source, IsrSource, OisrSource}
 use Rattle.tt_world.specs.Gates.{source_owner}
 use Rattle.isr_window.specs.Busy.{BusySources, is_busy}
 
+-- what is known of the sources at an instant
 pub record Window : Type 0 where
   -- of each time-triggered source: whether it is enabled, whether an interrupt is held, and the ticks of the arrivals
   -- to come
@@ -112,6 +113,7 @@ taking (Some (OisrSource oisr)) g = record g {
 
 -- ---- enables
 
+-- a time-triggered source is enabled
 abbrev pub enabling : IsrNo → Window → Window
 enabling isr g = record g { isrs_enabled = slice_set g.isrs_enabled isr.0 true }
 

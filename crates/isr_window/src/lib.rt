@@ -7,10 +7,12 @@
 mod busy;
 mod flags;
 mod gates;
+mod laws;
 mod queues;
 
 pub use busy::Busy;
 pub use gates::{Arrived, Gates};
+pub use laws::next_is_least;
 
 #[cfg(test)]
 mod tests;

@@ -27,6 +27,7 @@ is_empty = record {
   few = omega arith;
 }
 
+-- its rules
 pub example_rules : IsConfig example
 example_rules = record {
   round_long = omega arith;

@@ -5,12 +5,15 @@ use Rattle.tt_base.specs.declared.names.NameEntry.{NameEntry}
 use Rattle.tt_world.specs.declared.config.ModeDef.{ModeDef}
 use Rattle.tt_world.specs.declared.config.ConfigParts.{ConfigParts}
 
+-- the modes m and n
 abbrev pub example_names : List NameEntry
 example_names = record { kind = Kind.Mode; name = 109 ∷ [] } ∷ record { kind = Kind.Mode; name = 110 ∷ [] } ∷ []
 
+-- no rows
 abbrev pub empty_mode : ModeDef
 empty_mode = record { activations = []; enables = [] }
 
+-- its parts
 abbrev pub example : ConfigParts
 example = record {
   names = example_names;
