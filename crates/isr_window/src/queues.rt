@@ -90,7 +90,8 @@ impl Queues {
     #[tactic(auto, using(crate::proofs::Taken::length_untaken, crate::proofs::Taken::untaken_more, crate::proofs::Taken::untaken_all))]
     pub(crate) fn take(&mut self, number: usize)
         requires { number < length self.old }
-        ensures { self.new ≡ slice_set self.old number (drop 1 (slice_index_or self.old number [])) }
+        ensures { self.new
+            ≡ slice_set self.old number (drop 1 (slice_index_or self.old number [])) }
     {
         let ticks = self.lists.as_slice()[number].as_slice();
         if self.taken[number] < ticks.len() {

@@ -40,7 +40,8 @@ fn names(alloc: Global) -> Result<Names, Fail>
 
 fn add(names: &mut Names, text: &[u8]) -> Result<(), Fail>
     requires few { count_of NameKind.Mode names.old < 1024 }
-    ensures { OnOk result (names.new ≡ names.old ++ record { kind = NameKind.Mode; name = text.now } ∷ []) }
+    ensures { OnOk result (names.new
+        ≡ names.old ++ record { kind = NameKind.Mode; name = text.now } ∷ []) }
 {
     names.add(NameKind::Mode, Name::new(text).ok_or("no name")?)?;
     Ok(())
