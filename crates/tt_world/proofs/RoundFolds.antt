@@ -33,6 +33,19 @@ abbrev pub ByLast : Bool → Type 0 → Type 0 → Type 0
 ByLast true Last Over = Last
 ByLast false Last Over = Over
 
+-- after the last round none begins
+no_start : (end : ℕ) (o : Option RoundStart) (others : Bool) (next : ℕ) → not (is_some o || others) ≡ true
+    → (not others ≡ true → next ≡ end) → start_or next o ≡ end
+no_start end None others next e h = h e
+no_start end (Some round) others next e h = cc
+
+pub last_start : (end : ℕ) (rest : List Event) → is_last_round rest ≡ true → next_start end rest ≡ end
+unfolding next_start
+last_start end [] e = refl
+last_start end (event ∷ rest) e =
+    no_start end (round_of event) (list_any (λ (x : Event). is_some (round_of x)) rest) (next_start end rest) e
+    (last_start end rest)
+
 module _ (test : Event → Bool) where
   abbrev pub present_by : Option Present → Event → Option Present
   present_by o e = begun_or (round_of e) (with_more o (event_if (test e) e))
@@ -66,6 +79,12 @@ module _ (test : Event → Bool) where
   with_none None = refl
   with_none (Some p) =
       ap (λ (xs : List Event). Some (record { round = p.round; kept = xs })) (sym (append-nil p.kept))
+
+  -- events of another kind
+  pub none_such : (es : List Event) → Of (λ e. test e ≡ false) es → filter test es ≡ []
+  none_such [] q = refl
+  none_such (e ∷ es) q =
+      ap (λ (b : Bool). cond b (e ∷ filter test es) (filter test es)) q.0 ∙ none_such es q.1
 
   -- events that begin no round
   pub same_round : (o : Option Present) (es : List Event) → Of NoRound es
