@@ -56,7 +56,7 @@ checks_at_length c rules w es p late seen =
       entries = λ i l. let z : 0 + i ≡ i = omega arith in p.entries i l ∙ sym z;
       rows_are = λ i l. let z : 0 + i ≡ i = omega arith in ap (row_of mode) (sym z);
       few = p.few;
-      preceded = λ i g l.
+      later = λ i g l.
           let rows = mode_rows c w.mode.0 rules in
           let after = p.later i g l in
           let dead = deadline_after c mode i rows l in

@@ -62,7 +62,7 @@ module _ (seen : List Event) (at start : ℕ) (mode : ModeDef) (is_due : Point �
     pub entries : (i : ℕ) → i < length xs → (job_at xs i).entry ≡ n + i
     pub rows_are : (i : ℕ) → i < length rows → get_or rows i no_row ≡ row_of mode (n + i)
     pub few : length xs ≤ length rows
-    pub preceded : (i : ℕ) → length xs ≤ i → i < length rows → is_due (point_of mode (get_or rows i no_row)) ≡ false
+    pub later : (i : ℕ) → length xs ≤ i → i < length rows → is_due (point_of mode (get_or rows i no_row)) ≡ false
     pub met : (i : ℕ) → i < length xs → is_due (point_of mode (get_or rows i no_row)) ≡ true
         → is_done (job_at xs i).left ≡ ended (get_or rows i no_row)
 
@@ -74,7 +74,7 @@ module _ (seen : List Event) (at start : ℕ) (mode : ModeDef) (is_due : Point �
         rows_are = λ i l. let z : n + suc i ≡ n + 1 + i = omega arith in
             h.rows_are (suc i) (omega arith) ∙ ap (row_of mode) z;
         few = let f = h.few in omega arith;
-        preceded = λ i g l. h.preceded (suc i) (omega arith) (omega arith);
+        later = λ i g l. h.later (suc i) (omega arith) (omega arith);
         met = λ i l d. h.met (suc i) (omega arith) d;
       }
 
@@ -86,7 +86,7 @@ module _ (seen : List Event) (at start : ℕ) (mode : ModeDef) (is_due : Point �
   pub checks_are_rows : (n : ℕ) (xs : List Job) (rows : List ActivationRow) → Same n xs rows
       → (checked at mode is_due xs).events ≡ rows_of rows
   unfolding checked
-  checks_are_rows n [] rows h = sym (none_due rows (λ i l. h.preceded i (omega arith) l))
+  checks_are_rows n [] rows h = sym (none_due rows (λ i l. h.later i (omega arith) l))
   checks_are_rows n (x ∷ xs) [] h = absurd (let f = h.few in omega arith)
   checks_are_rows n (x ∷ xs) (row ∷ rows) h =
       let rest = checks_are_rows (n + 1) xs rows (next n x xs row rows h) in
@@ -130,7 +130,7 @@ checks_at_offset c rules w es p seen =
       entries = λ i l. let z : 0 + i ≡ i = omega arith in p.entries i l ∙ sym z;
       rows_are = λ i l. let z : 0 + i ≡ i = omega arith in ap (row_of mode) (sym z);
       few = p.few;
-      preceded = λ i g l.
+      later = λ i g l.
           let low = p.later i g l in
           let dead = deadline_after c mode i (mode_rows c w.mode.0 rules) l in
           not_at (offset_of w) (row_of mode i).deadline (point_of mode (row_of mode i)) (omega arith)

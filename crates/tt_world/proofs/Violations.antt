@@ -170,11 +170,11 @@ pub record Violated (es : List Event) : Type 0 where
   pub at : ℕ
   pub task : TaskNo
   pub before : List Event
-  pub preceded : List Event
-  pub is : es ≡ before ++ Check at task false ∷ (ErrorHook at task ∷ preceded)
+  pub following : List Event
+  pub is : es ≡ before ++ Check at task false ∷ (ErrorHook at task ∷ following)
   pub plain : Of IsPlain before
-  pub after_plain : Of IsPlain preceded
-  pub follows : IsViolation at task (ErrorHook at task ∷ preceded)
+  pub following_plain : Of IsPlain following
+  pub follows : IsViolation at task (ErrorHook at task ∷ following)
 
 abbrev pub Plain : OfRun
 Plain w es = Of IsPlain es
@@ -194,18 +194,18 @@ module _ (c : ConfigParts) (s : ScriptParts) where
       let errors = outs_of w.tick owner.ErrorHook w.vars c.error_hook in
       let u = record w { vars = vars_after w.vars c.error_hook } in
       let outs = outs_of u.tick owner.ShutdownHook u.vars c.shutdown_hook in
-      let preceded = errors ++ (shuts_down c (Some (ending.Missed task)) u).events in
-      let rest = ErrorHook w.tick task ∷ preceded in
+      let following = errors ++ (shuts_down c (Some (ending.Missed task)) u).events in
+      let rest = ErrorHook w.tick task ∷ following in
       record {
         at = w.tick;
         task = task;
         before = es ++ k.0;
-        preceded = preceded;
+        following = following;
         is = ap (λ (xs : List Event). es ++ (xs ++ rest)) k.1
             ∙ ap (λ (xs : List Event). es ++ xs) (append_assoc k.0 (Check w.tick task false ∷ []) rest)
             ∙ sym (append_assoc es k.0 (Check w.tick task false ∷ rest));
         plain = all_more IsPlain es k.0 p k.2;
-        after_plain = all_more IsPlain errors (shuts_down c (Some (ending.Missed task)) u).events
+        following_plain = all_more IsPlain errors (shuts_down c (Some (ending.Missed task)) u).events
             (outs_plain w.tick owner.ErrorHook errors (outs_are w.tick owner.ErrorHook w.vars c.error_hook))
             (shuts_plain c (Some (ending.Missed task)) u);
         follows = record {
@@ -308,9 +308,9 @@ violation_from es p before after at task e =
     ⊎_elim (λ (q : Of IsPlain es). absurd
         (none_such is_missed es before after (Check at task false) (not_missed es q) refl e))
     (λ (v : Violated es).
-    let rest = ErrorHook v.at v.task ∷ v.preceded in
+    let rest = ErrorHook v.at v.task ∷ v.following in
     let k = one_such is_missed v.before rest before after (Check v.at v.task false) (Check at task false)
-        (not_missed v.before v.plain) (refl, not_missed v.preceded v.after_plain) refl (sym v.is ∙ e) in
+        (not_missed v.before v.plain) (refl, not_missed v.following v.following_plain) refl (sym v.is ∙ e) in
     subst (IsViolation at task) k.2 (subst (λ (t : TaskNo). IsViolation at t rest)
         (same_task v.at at v.task task false false k.1)
         (subst (λ (x : ℕ). IsViolation x v.task rest) (same_at v.at at v.task task false false k.1) v.follows)))
@@ -322,11 +322,11 @@ hook_from es p before after at task e =
         (none_such is_error es before after (ErrorHook at task) (not_error es q) refl e))
     (λ (v : Violated es).
     let front = v.before ++ Check v.at v.task false ∷ [] in
-    let is : es ≡ front ++ ErrorHook v.at v.task ∷ v.preceded = v.is
-        ∙ sym (append_assoc v.before (Check v.at v.task false ∷ []) (ErrorHook v.at v.task ∷ v.preceded)) in
-    let k = one_such is_error front v.preceded before after (ErrorHook v.at v.task) (ErrorHook at task)
+    let is : es ≡ front ++ ErrorHook v.at v.task ∷ v.following = v.is
+        ∙ sym (append_assoc v.before (Check v.at v.task false ∷ []) (ErrorHook v.at v.task ∷ v.following)) in
+    let k = one_such is_error front v.following before after (ErrorHook v.at v.task) (ErrorHook at task)
         (all_more (Not is_error) v.before _ (not_error v.before v.plain) (refl, tt))
-        (not_error v.preceded v.after_plain) refl (sym is ∙ e) in
+        (not_error v.following v.following_plain) refl (sym is ∙ e) in
     (v.before, sym k.0 ∙ ap (λ (x : ℕ). v.before ++ Check x v.task false ∷ []) (hook_at v.at at v.task task k.1)
         ∙ ap (λ (t : TaskNo). v.before ++ Check at t false ∷ []) (hook_task v.at at v.task task k.1)))
     p
