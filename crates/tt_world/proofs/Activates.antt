@@ -25,7 +25,7 @@ use Rattle.tt_world.proofs.Through.{each_more}
 use Rattle.tt_world.proofs.Fates.{round_in, last_stamp_at}
 use Rattle.tt_world.proofs.RoundActs.{has_acts, acts_same, acts_row, acts_none}
 use Rattle.tt_world.proofs.RoundFolds.{ByLast, OfLast, OfRound, each_has, last_start, none_such}
-use Rattle.tt_world.proofs.RoundRuns.{OfPresent, Ended, IsElsewhere, RoundParts, ended_at}
+use Rattle.tt_world.proofs.RoundRuns.{OfPresent, Ended, IsOfRows, RoundParts, ended_at}
 
 module _ (c : ConfigParts) (s : ScriptParts) (rules : IsConfig c) where
   -- a round has had the activations of its mode up to a tick
@@ -42,22 +42,9 @@ module _ (c : ConfigParts) (s : ScriptParts) (rules : IsConfig c) where
   abbrev Any : ℕ → Phase → World → Type 0
   Any T phase w = Unit {0}
 
-  elsewhere : IsElsewhere c s is_activate Has
-  elsewhere = record {
-    correct = λ _ _. refl;
-    enable = λ _ _. refl;
-    arrive = λ _ _. refl;
-    merge = λ _ _. refl;
-    accept = λ _ _. refl;
-    run = λ _ _. refl;
-    end = λ _ _. refl;
-    called = λ _ _ _ _. refl;
-    error = λ _ _. refl;
-    out = λ _ _ _. refl;
-    hook = λ _. refl;
-    shutdown = λ _. refl;
-    stop = λ _. refl;
-  }
+  of_rows : IsOfRows c s is_activate Has
+  of_rows (Activate at task) n = cc
+  of_rows e n = refl
 
   -- a check is no activation
   with_checks : (T : ℕ) (w : World) (is_due : Point → Bool) (kept : List Event) → UpTo T (round_in w) kept
@@ -104,7 +91,7 @@ module _ (c : ConfigParts) (s : ScriptParts) (rules : IsConfig c) where
           ∙ sym (acts_row 0 w.start (w.tick - w.start) rows entry (mode_rows c w.mode.0 rules).ascending row.0 row.1)
 
   parts : (T : ℕ)
-      → RoundParts c s is_activate Has elsewhere T (UpTo T) (UpTo T) (UpTo T) (UpTo (T + 1)) (Finally T) (Any T)
+      → RoundParts c s is_activate Has of_rows T (UpTo T) (UpTo T) (UpTo T) (UpTo (T + 1)) (Finally T) (Any T)
   parts T = record {
     latch_is = λ _ _. tt;
     end_checks = λ w _ kept d. with_checks T w _ kept d;
@@ -122,7 +109,7 @@ module _ (c : ConfigParts) (s : ScriptParts) (rules : IsConfig c) where
 
   ended : (n : ℕ) → IsLast c s n → Ended c s is_activate Has n (Finally n) (events_before c s (suc n))
   ended n last =
-      ended_at c s is_activate Has elsewhere UpTo UpTo UpTo Finally Any parts (λ _ _ _. tt) tt
+      ended_at c s is_activate Has of_rows UpTo UpTo UpTo Finally Any parts (λ _ _ _. tt) tt
       (none_yet 0 (record { start = 0; mode = s.start }) refl) n last
 
   of_last : (n : ℕ) → IsLast c s n → ActivatesRows c (events_before c s (suc n))

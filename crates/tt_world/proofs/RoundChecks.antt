@@ -4,6 +4,7 @@ use Rattle.std.specs.Prelude.{◌==◌, filter, cond}
 use Rattle.std.proofs.lemmas.Bool.{cond_both, cases_eq, eq-eqb, ne_eqb, eqb-true}
 use Rattle.tt_base.specs.declared.number.TaskNo.{TaskNo}
 use Rattle.tt_base.specs.declared.event.Event.{Event}
+use Rattle.tt_base.specs.declared.event.Event.TheVariants.{Check}
 use Rattle.tt_world.specs.declared.config.ConfigParts.{ConfigParts}
 use Rattle.tt_world.specs.declared.script.ScriptParts.{ScriptParts}
 use Rattle.tt_world.specs.declared.world.Point.{Point}
@@ -27,7 +28,7 @@ use Rattle.tt_world.proofs.Fates.{round_in}
 use Rattle.tt_world.proofs.CheckRows.{checks_at_offset}
 use Rattle.tt_world.proofs.SeenRuns.{checks_at}
 use Rattle.tt_world.proofs.Stamps.{IsAt, checked_at}
-use Rattle.tt_world.proofs.RoundRuns.{OfPresent, Ended, IsElsewhere, RoundParts, ended_at}
+use Rattle.tt_world.proofs.RoundRuns.{OfPresent, Ended, IsOfRows, RoundParts, ended_at}
 use Rattle.tt_world.proofs.CheckEnds.{checks_at_end, SameEnds, rows_same}
 
 module _ (c : ConfigParts) (t : ℕ) (seen : List Event) where
@@ -117,22 +118,9 @@ module _ (c : ConfigParts) (t : ℕ) (seen : List Event) where
     abbrev pub test : Event → Bool
     test = is_check_at t
 
-    elsewhere : IsElsewhere c s test Has
-    elsewhere = record {
-      correct = λ _ _. refl;
-      enable = λ _ _. refl;
-      arrive = λ _ _. refl;
-      merge = λ _ _. refl;
-      accept = λ _ _. refl;
-      run = λ _ _. refl;
-      end = λ _ _. refl;
-      called = λ _ _ _ _. refl;
-      error = λ _ _. refl;
-      out = λ _ _ _. refl;
-      hook = λ _. refl;
-      shutdown = λ _. refl;
-      stop = λ _. refl;
-    }
+    of_rows : IsOfRows c s test Has
+    of_rows (Check at task met) n = cc
+    of_rows e n = refl
 
     -- where tick t is this one, the checks of the world are read from the events seen
     abbrev IsRead : (ℕ → Point → Bool) → ℕ → World → Type 0
@@ -245,7 +233,7 @@ module _ (c : ConfigParts) (t : ℕ) (seen : List Event) where
         record { early = d.early; at = d.at; here = λ e. inr (l, d.here e); late = d.late }
 
     parts : (T : ℕ)
-        → RoundParts c s test Has elsewhere T (SoFar T) (With (end_due T) T) (SoFar (T + 1)) (SoFar (T + 1)) (Finally T)
+        → RoundParts c s test Has of_rows T (SoFar T) (With (end_due T) T) (SoFar (T + 1)) (SoFar (T + 1)) (Finally T)
         (X T)
     parts T = record {
       latch_is = λ w p. (
@@ -301,5 +289,5 @@ module _ (c : ConfigParts) (t : ℕ) (seen : List Event) where
       -- where the run ends, each round that is over has had its checks at tick t, and so has the last
       pub checks_ended : (n : ℕ) → IsLast c s n → Ended c s test Has n (Finally n) (events_before c s (suc n))
       checks_ended n last =
-          ended_at c s test Has elsewhere SoFar (λ T. With (end_due T) T) (λ T. SoFar (T + 1)) Finally X parts
+          ended_at c s test Has of_rows SoFar (λ T. With (end_due T) T) (λ T. SoFar (T + 1)) Finally X parts
           (λ k _ g. ready k g) ready_first first_due n last

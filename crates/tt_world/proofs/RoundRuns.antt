@@ -10,7 +10,7 @@ use Rattle.tt_base.specs.declared.event.Call.{Call}
 use Rattle.tt_base.specs.declared.event.Owner.{Owner}
 use Rattle.tt_base.specs.declared.event.Owner.TheVariants as owner
 use Rattle.tt_base.specs.declared.event.Event.{Event}
-use Rattle.tt_base.specs.declared.event.Event.TheVariants.{Round, Correct, Enable, Arrive, Merge, Accept, Run, End, Out, Called, ErrorHook, ShutdownHook, Shutdown, Stop}
+use Rattle.tt_base.specs.declared.event.Event.TheVariants.{OsStart, Round, Correct, Check, Enable, Arrive, Merge, Accept, Activate, Run, End, Out, Called, ErrorHook, ShutdownHook, Shutdown, Stop}
 use Rattle.tt_world.specs.declared.config.ConfigParts.{ConfigParts}
 use Rattle.tt_world.specs.declared.script.ScriptParts.{ScriptParts}
 use Rattle.tt_world.specs.declared.world.Point.{Point}
@@ -43,6 +43,12 @@ CalmSoFar w es = Of IsCalm es
 
 abbrev TellsShut : OfEnd
 TellsShut end w es = (tick : ℕ) × (status_of es ≡ Shut tick)
+
+-- whether an event is a check or an activation: what the rows that activate have
+abbrev pub is_of_row : Event → Bool
+is_of_row (Check at task met) = true
+is_of_row (Activate at task) = true
+is_of_row event = false
 
 -- what holds of a round, and of its events of a kind so far
 abbrev pub OfPresent : Type 1
@@ -135,29 +141,17 @@ module _ (c : ConfigParts) (s : ScriptParts) (test : Event → Bool) (Has : Roun
   silent_goes T T2 D w v es fs t l a b q k p =
       goes T T2 D D w v es fs t l a b (silent_rounds fs q) k p (none_more D (round_in w) p.kept fs q p.due)
 
-  -- no event that such parts write is of the kind
-  pub record IsElsewhere : Type 0 where
-    pub correct : (at : ℕ) (by : ℤ) → test (Correct at by) ≡ false
-    pub enable : (at : ℕ) (isr : IsrNo) → test (Enable at isr) ≡ false
-    pub arrive : (at : ℕ) (who : Owner) → test (Arrive at who) ≡ false
-    pub merge : (at : ℕ) (who : Owner) → test (Merge at who) ≡ false
-    pub accept : (at : ℕ) (who : Owner) → test (Accept at who) ≡ false
-    pub run : (at : ℕ) (who : Owner) → test (Run at who) ≡ false
-    pub end : (at : ℕ) (who : Owner) → test (End at who) ≡ false
-    pub called : (at : ℕ) (who : Owner) (call : Call) (result : ℕ) → test (Called at who call result) ≡ false
-    pub error : (at : ℕ) (task : TaskNo) → test (ErrorHook at task) ≡ false
-    pub out : (at : ℕ) (who : Owner) (value : ℤ) → test (Out at who value) ≡ false
-    pub hook : (at : ℕ) → test (ShutdownHook at) ≡ false
-    pub shutdown : (at : ℕ) → test (Shutdown at) ≡ false
-    pub stop : (at : ℕ) → test (Stop at) ≡ false
+  -- events of the kind are checks or activations
+  abbrev pub IsOfRows : Type 0
+  IsOfRows = (e : Event) → is_of_row e ≡ false → test e ≡ false
 
-  module _ (x : IsElsewhere) where
+  module _ (of_rows : IsOfRows) where
     hooks : OfHooks Silent
     hooks = record {
-      error = λ at task. (refl, x.error at task);
-      out = λ at who value. (refl, x.out at who value);
-      hook = λ at. (refl, x.hook at);
-      shutdown = λ at. (refl, x.shutdown at);
+      error = λ at task. (refl, of_rows (ErrorHook at task) refl);
+      out = λ at who value. (refl, of_rows (Out at who value) refl);
+      hook = λ at. (refl, of_rows (ShutdownHook at) refl);
+      shutdown = λ at. (refl, of_rows (Shutdown at) refl);
     }
 
     -- ---- the parts of the instant at tick T
@@ -254,7 +248,7 @@ module _ (c : ConfigParts) (s : ScriptParts) (test : Event → Bool) (Has : Roun
         latch_leads : Leads (P Before) (P Latched) Q (latch c)
         latch_leads w es p =
             let m = latch c w in
-            let h = silent_part D w es m p.1 (latch_all Silent c (λ at by. (refl, x.correct at by)) w)
+            let h = silent_part D w es m p.1 (latch_all Silent c (λ at by. (refl, of_rows (Correct at by) refl)) w)
             (latch_all IsCalm c (λ _ _ _. refl) w) (latch_same c s w w es (same_as w)) in
             leads_by (P Latched) Q es m (λ on. (p.0, led_on (Going T D) Q es m on h, k.latch_is w p.2))
             (λ over. led_over (Going T D) Q es m over h)
@@ -266,7 +260,8 @@ module _ (c : ConfigParts) (s : ScriptParts) (test : Event → Bool) (Has : Roun
             (λ _.
             let fs = Stop w.tick ∷ [] in
             stops T E L w es fs (refl, tt) ([], Stop w.tick, refl, p.tick) p
-            (none_more (L Done) (round_in w) p.kept fs ((refl, x.stop w.tick), tt) (k.stop (round_in w) p.kept p.due)))
+            (none_more (L Done) (round_in w) p.kept fs ((refl, of_rows (Stop w.tick) refl), tt)
+            (k.stop (round_in w) p.kept p.due)))
             (λ _.
             let begin = Round w.tick (w.number + 1) w.wanted ∷ [] in
             let v =
@@ -309,18 +304,20 @@ module _ (c : ConfigParts) (s : ScriptParts) (test : Event → Bool) (Has : Roun
 
         enables_lead : Leads (Going T C) (Going T C) Q (enables c)
         enables_lead w es p =
-            silent_part C w es (enables c w) p (enables_all Silent c (λ at isr. (refl, x.enable at isr)) w)
+            silent_part C w es (enables c w) p (enables_all Silent c (λ at isr. (refl, of_rows (Enable at isr) refl)) w)
             (enables_all IsCalm c (λ _ _ _. refl) w) (enables_same c s w w es (same_as w))
 
         arrivals_lead : Leads (Going T C) (Going T C) Q (arrivals c s)
         arrivals_lead w es p =
             silent_part C w es (arrivals c s w) p
-            (arrivals_all Silent c s (λ at who. (refl, x.arrive at who)) (λ at who. (refl, x.merge at who)) w)
+            (arrivals_all Silent c s (λ at who. (refl, of_rows (Arrive at who) refl))
+            (λ at who. (refl, of_rows (Merge at who) refl)) w)
             (arrivals_all IsCalm c s (λ _ _ _. refl) (λ _ _ _. refl) w) (arrivals_same c s w w es (same_as w))
 
         acceptances_lead : Leads (Going T C) (Going T C) Q (acceptances c)
         acceptances_lead w es p =
-            silent_part C w es (acceptances c w) p (acceptances_all Silent c (λ at who. (refl, x.accept at who)) w)
+            silent_part C w es (acceptances c w) p
+            (acceptances_all Silent c (λ at who. (refl, of_rows (Accept at who) refl)) w)
             (acceptances_all IsCalm c (λ _ _ _. refl) w) (acceptances_same c s w w es (same_as w))
 
         activated_leads : (found : Option ℕ) (w : World) (es : List Event) → (p : Going T C w es)
@@ -351,8 +348,9 @@ module _ (c : ConfigParts) (s : ScriptParts) (test : Event → Bool) (Has : Roun
         step_leads : Leads (Going T A) (Going (T + 1) A) Q (step c s)
         step_leads w es p =
             let m = step c s w in
-            let silent = step_all Silent hooks c s (λ at who. (refl, x.run at who)) (λ at who. (refl, x.end at who))
-            (λ at who call result. (refl, x.called at who call result)) w in
+            let silent = step_all Silent hooks c s (λ at who. (refl, of_rows (Run at who) refl))
+            (λ at who. (refl, of_rows (End at who) refl))
+            (λ at who call result. (refl, of_rows (Called at who call result) refl)) w in
             leads_by (Going (T + 1) A) Q es m
             (λ on.
             let later = led_on (Alone (OneLater c s w)) Anything es m on (step_later c s w es) in
