@@ -159,6 +159,7 @@ module _ (c : ConfigParts) (s : ScriptParts) (test : Event → Bool) (Has : Roun
     -- of the present round D holds before the checks, E after those at its end, C after those at the offset, and A
     -- after the activation; L where the run ends; and X of the world
     module _ (T : ℕ) (D E C A : OfPresent) (L : Status → OfPresent) (X : Phase → World → Type 0) where
+      -- what holds after each part of the instant
       abbrev pub P : Phase → OfRun
       P Before w es = (1 ≤ T) × Going T D w es × X Before w
       P Latched w es = (1 ≤ T) × Going T D w es × X Latched w
@@ -166,6 +167,7 @@ module _ (c : ConfigParts) (s : ScriptParts) (test : Event → Bool) (Has : Roun
       P Activated w es = Going T A w es
       P phase w es = Going T C w es
 
+      -- and where the run ends
       abbrev pub Q : OfEnd
       Q end w es = Ended T L es
 
@@ -187,7 +189,9 @@ module _ (c : ConfigParts) (s : ScriptParts) (test : Event → Bool) (Has : Roun
 
       -- what is to be shown of the parts that begin a round or write events of the kind
       pub record RoundParts : Type 0 where
+        -- the latch
         pub latch_is : (w : World) → X Before w → X Latched (latch c w).world
+        -- the end of a round: its checks; the round is over, or the run stops; and the next round
         pub end_checks : (w : World) → CanEnd w → (kept : List Event) → D (round_in w) kept
             → With E w (checked w.tick (mode_of c w) (is_at_end (offset_of w)) w.jobs).events kept
         pub end_missed : (w : World) → CanEnd w → MayMiss E w
@@ -195,7 +199,9 @@ module _ (c : ConfigParts) (s : ScriptParts) (test : Event → Bool) (Has : Roun
         pub stop : (round : RoundStart) (kept : List Event) → E round kept → L Done round kept
         pub begin : (mode : ModeNo) → D (record { start = T; mode = mode }) []
         pub fresh : (w : World) → w.tick ≡ T → w.start ≡ w.tick → w.jobs ≡ [] → X Begun w
+        -- no end of a round
         pub still : (w : World) → X Latched w → X Begun w
+        -- the checks at the offset, the activation, and a ttShutdownOS
         pub checks : (w : World) → w.tick ≡ T → w.start ≤ T → X Begun w → (kept : List Event) → D (round_in w) kept
             → With C w (checked w.tick (mode_of c w) (is_at (offset_of w)) w.jobs).events kept
         pub missed : (w : World) → w.start ≤ T → MayMiss C w
@@ -203,6 +209,8 @@ module _ (c : ConfigParts) (s : ScriptParts) (test : Event → Bool) (Has : Roun
             → With A w (activated c (entry_at (offset_of w) (mode_of c w).activations) w).events kept
         pub shut : (round : RoundStart) (kept : List Event) (tick : ℕ) → round.start ≤ T → A round kept
             → L (Shut tick) round kept
+
+      -- ---- each part
 
       same_as : (w : World) → SameRound w w
       same_as w = record { tick = refl; start = refl; mode = refl }
