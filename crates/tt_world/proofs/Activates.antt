@@ -100,9 +100,9 @@ module _ (c : ConfigParts) (s : ScriptParts) (rules : IsConfig c) where
     stop = λ _ _ d. d;
     begin = λ mode. none_yet T (record { start = T; mode = mode }) refl;
     fresh = λ _ _ _ _. tt;
-    still = λ _ _. tt;
+    still = λ _ _ _ _. tt;
     checks = λ w _ _ _ kept d. with_checks T w _ kept d;
-    missed = λ _ _ _ _ _ d. d;
+    missed = λ _ _ _ _ _ _ d. d;
     activation = λ w tick started kept d. activated_acts T w _ tick started refl kept d;
     shut = λ _ _ _ _ d. d;
   }

@@ -1,7 +1,7 @@
 -- The checks of each round at one tick: those of the points that are due at it, part after part of each instant.
 use Rattle.std.proofs.Common.{ℕ, suc, ◌≡◌, ◌<◌, ◌≤◌, ◌+◌, ◌-◌, List, [], ◌∷◌, ◌++◌, Bool, true, false, Option, None, Some, refl, ap, sym, ◌∙◌, subst, eqb, arith, length, append-nil, ⊎_elim, inl, inr}
 use Rattle.std.specs.Prelude.{◌==◌, filter, cond}
-use Rattle.std.proofs.lemmas.Bool.{cond_both, cases_eq, eq-eqb, ne_eqb, eqb-true}
+use Rattle.std.proofs.lemmas.Bool.{cond_both, cases_eq, eq-eqb, ne_eqb, eqb-true, eqb-false}
 use Rattle.tt_base.specs.declared.number.TaskNo.{TaskNo}
 use Rattle.tt_base.specs.declared.event.Event.{Event}
 use Rattle.tt_base.specs.declared.event.Event.TheVariants.{Check}
@@ -135,7 +135,7 @@ module _ (c : ConfigParts) (t : ℕ) (seen : List Event) where
     abbrev X : ℕ → Phase → World → Type 0
     X T Before w = Timed Before c s w × Ready T w
     X T Latched w = Timed Latched c s w × Ready T w
-    X T Begun w = IsRead is_at T w
+    X T Begun w = IsRead is_at T w × (T - w.start < c.round + c.adjust)
     X T phase w = Unit {0}
 
     read_from : (due : ℕ → Point → Bool) (T : ℕ) (w : World) (es : List Event) → w.tick ≡ T → (t ≡ T → SameEnds seen es)
@@ -227,6 +227,23 @@ module _ (c : ConfigParts) (t : ℕ) (seen : List Event) where
     long T w tick timed e =
         subst (λ (x : ℕ). IsRoundLength c (x - w.start)) tick (length_of w.latched (offset_of w) e timed.stands)
 
+    before_most : (latched : Option ℕ) (offset : ℕ) → is_length latched offset ≡ false
+        → Stands Latched c latched offset → offset < c.round + c.adjust
+    before_most None offset e h = omega arith
+    before_most (Some length) offset e h =
+        let ne = eqb-false length offset e in
+        let low = h.1 in
+        let most = h.0.1 in
+        omega arith
+
+    on : (T : ℕ) (w : World) → w.tick ≡ T → Timed Latched c s w → is_length w.latched (offset_of w) ≡ false
+        → T - w.start < c.round + c.adjust
+    on T w tick timed e =
+        subst (λ (x : ℕ). x - w.start < c.round + c.adjust) tick (before_most w.latched (offset_of w) e timed.stands)
+
+    begins : (T : ℕ) (w : World) → w.tick ≡ T → w.start ≡ w.tick → w.jobs ≡ [] → X T Begun w
+    begins T w tick start none = (fresh T w tick start none, let long = bounded.round_long in omega arith)
+
     end_miss : (T : ℕ) (round : RoundStart) (kept : List Event) (task : TaskNo) (tick : ℕ)
         → IsRoundLength c (T - round.start) → With (end_due T) T round kept → Finally T (Missed task tick) round kept
     end_miss T round kept task tick l d =
@@ -249,11 +266,12 @@ module _ (c : ConfigParts) (t : ℕ) (seen : List Event) where
       stop = λ round kept d. d;
       begin = λ mode.
           record { early = λ _. refl; at = λ a b. absurd (omega arith); here = λ _. refl; late = λ _. refl };
-      fresh = fresh T;
-      still = λ w p. p.1.now;
-      checks = λ w tick l read kept d.
-          next_tick T (round_in w) _ (with_checks is_at T w tick l read kept d);
-      missed = λ w l kept task tick d. ends_at_offset T (Missed task tick) (round_in w) kept (λ h. inl h) l d;
+      fresh = begins T;
+      still = λ w tick e p. (p.1.now, on T w tick p.0 e);
+      checks = λ w tick l begun kept d.
+          next_tick T (round_in w) _ (with_checks is_at T w tick l begun.0 kept d);
+      missed = λ w l begun kept task tick d.
+          ends_at_offset T (Missed task tick) (round_in w) kept (λ h. inl (begun.1, h)) l d;
       activation = λ w tick l kept d.
           subst (SoFar (T + 1) (round_in w))
           (sym
@@ -280,7 +298,7 @@ module _ (c : ConfigParts) (t : ℕ) (seen : List Event) where
 
       ready_first : X 0 Begun (world_at c s 0)
       unfolding world_at
-      ready_first = fresh 0 (world_at c s 0) refl refl refl
+      ready_first = begins 0 (world_at c s 0) refl refl refl
 
       first_due : SoFar 0 (record { start = 0; mode = s.start }) []
       first_due =

@@ -200,11 +200,11 @@ module _ (c : ConfigParts) (s : ScriptParts) (test : Event → Bool) (Has : Roun
         pub begin : (mode : ModeNo) → D (record { start = T; mode = mode }) []
         pub fresh : (w : World) → w.tick ≡ T → w.start ≡ w.tick → w.jobs ≡ [] → X Begun w
         -- no end of a round
-        pub still : (w : World) → X Latched w → X Begun w
+        pub still : (w : World) → w.tick ≡ T → is_length w.latched (offset_of w) ≡ false → X Latched w → X Begun w
         -- the checks at the offset, the activation, and a ttShutdownOS
         pub checks : (w : World) → w.tick ≡ T → w.start ≤ T → X Begun w → (kept : List Event) → D (round_in w) kept
             → With C w (checked w.tick (mode_of c w) (is_at (offset_of w)) w.jobs).events kept
-        pub missed : (w : World) → w.start ≤ T → MayMiss C w
+        pub missed : (w : World) → w.start ≤ T → X Begun w → MayMiss C w
         pub activation : (w : World) → w.tick ≡ T → w.start ≤ T → (kept : List Event) → C (round_in w) kept
             → With A w (activated c (entry_at (offset_of w) (mode_of c w).activations) w).events kept
         pub shut : (round : RoundStart) (kept : List Event) (tick : ℕ) → round.start ≤ T → A round kept
@@ -301,14 +301,14 @@ module _ (c : ConfigParts) (s : ScriptParts) (test : Event → Bool) (Has : Roun
             (monitored_leads D E (is_at_end (offset_of w)) w es going (k.end_checks w can going.kept going.due)
             (k.end_missed w can))
             next_leads)
-            (λ _. still_leads (P Begun) Q es w (going, k.still w p.2))
+            (λ e. still_leads (P Begun) Q es w (going, k.still w going.tick e p.2))
 
         checks_lead : Leads (P Begun) (P Checked) Q (checks c)
         unfolding checks
         checks_lead w es p =
             let going = p.0 in
             monitored_leads D C (is_at (offset_of w)) w es going
-            (k.checks w going.tick going.started p.1 going.kept going.due) (k.missed w going.started)
+            (k.checks w going.tick going.started p.1 going.kept going.due) (k.missed w going.started p.1)
 
         enables_lead : Leads (Going T C) (Going T C) Q (enables c)
         enables_lead w es p =

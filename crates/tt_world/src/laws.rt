@@ -36,9 +36,9 @@ pub fn owners_are_right()
 {}
 
 /// Each round has the checks of the monitoring points that it reaches, each at its tick and in the
-/// order of the rows, up to the first that is missed, and no others; a check is missed exactly where
-/// its activation has not ended. After a missed check ttErrorHook is called, and nowhere else; then
-/// ttShutdownHook, and the run is over.
+/// order of the rows, up to the first that is missed, and no others; a check is missed exactly
+/// where its activation has not ended by then. ttErrorHook is called right after a missed check,
+/// and nowhere else; then ttShutdownHook is called, and the run is over.
 pub fn checks_monitor()
     ensures { ChecksLaw }
 {}
