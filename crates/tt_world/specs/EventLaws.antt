@@ -141,8 +141,8 @@ pub record IsViolation (at : ℕ) (task : TaskNo) (after : List Event) : Type 0 
   pub outs_are : All (IsOutOf owner.ShutdownHook at) outs
   pub is : after ≡ ErrorHook at task ∷ (errors ++ ShutdownHook at ∷ (outs ++ Shutdown at ∷ []))
 
--- each round has the checks of the points that it reaches, up to the first that is missed, and no others; a missed check
--- is followed by the hooks, and ttErrorHook is called right after a missed check alone
+-- each round has the checks of the points that it reaches, up to the first that is missed, and no others; a missed
+-- check is followed by the hooks, and ttErrorHook is called right after a missed check alone
 pub record ChecksMonitor (c : ConfigParts) (events : List Event) : Type 0 where
   pub checks : EachRound
       (λ round rest.
