@@ -91,12 +91,12 @@ module _ (seen : List Event) (at start : ℕ) (mode : ModeDef) (is_due : Point �
   checks_are_rows n (x ∷ xs) (row ∷ rows) h =
       let rest = checks_are_rows (n + 1) xs rows (next n x xs row rows h) in
       let row_is : row_of mode x.entry ≡ row = ap (row_of mode) (h.entries 0 (omega arith))
-          ∙ sym (h.rows_are 0 (omega arith)) in
+      ∙ sym (h.rows_are 0 (omega arith)) in
       let due_is : is_due (point_of mode (row_of mode x.entry)) ≡ is_due (point_of mode row) =
-          ap (λ (r : ActivationRow). is_due (point_of mode r)) row_is in
+      ap (λ (r : ActivationRow). is_due (point_of mode r)) row_is in
       if_events (is_due (point_of mode (row_of mode x.entry)))
-          (check_then at (row_of mode x.entry).task (is_done x.left) (checked at mode is_due xs))
-          (checked at mode is_due xs) (rows_of (row ∷ rows)) []
+      (check_then at (row_of mode x.entry).task (is_done x.left) (checked at mode is_due xs))
+      (checked at mode is_due xs) (rows_of (row ∷ rows)) []
       (λ d.
       let due : is_due (point_of mode row) ≡ true = sym due_is ∙ d in
       then_events (row_of mode x.entry).task (is_done x.left) (checked at mode is_due xs) (rows_of rows) rest
@@ -112,7 +112,7 @@ abbrev pub EndsAreSeen : ConfigParts → World → List Event → (Point → Boo
 EndsAreSeen c w es is_due =
     (i : ℕ) → i < length w.jobs → is_due (point_of (mode_of c w) (row_of (mode_of c w) i)) ≡ true
     → is_done (job_at w.jobs i).left ≡ has_ended (w.start + (row_of (mode_of c w) i).offset)
-        (owner.Task (row_of (mode_of c w) i).task) es
+    (owner.Task (row_of (mode_of c w) i).task) es
 
 not_at : (offset from : ℕ) (p : Point) → offset < from → IsFrom from p → is_at offset p ≡ false
 not_at offset from (point.At place) l h = ne_eqb place offset (λ e. absurd (omega arith))
@@ -122,7 +122,7 @@ not_at offset from point.RoundEnd l h = refl
 pub checks_at_offset : (c : ConfigParts) → IsConfig c → (w : World) (es : List Event) → Placed c 0 w
     → EndsAreSeen c w es (is_at (offset_of w))
     → (checked w.tick (mode_of c w) (is_at (offset_of w)) w.jobs).events ≡ checked_rows es w.tick w.start (mode_of c w)
-        (is_at (offset_of w)) (mode_of c w).activations
+    (is_at (offset_of w)) (mode_of c w).activations
 checks_at_offset c rules w es p seen =
     let mode = mode_of c w in
     checks_are_rows es w.tick w.start mode (is_at (offset_of w)) 0 w.jobs mode.activations
@@ -134,6 +134,6 @@ checks_at_offset c rules w es p seen =
           let low = p.later i g l in
           let dead = deadline_after c mode i (mode_rows c w.mode.0 rules) l in
           not_at (offset_of w) (row_of mode i).deadline (point_of mode (row_of mode i)) (omega arith)
-              (point_is_from mode (row_of mode i));
+          (point_is_from mode (row_of mode i));
       met = λ i l d. seen i l d;
     })

@@ -95,19 +95,23 @@ unfolding outs_of
 outs_at at hook vars [] = tt
 outs_at at hook vars (stmt ∷ rest) =
     all_more (IsAt at) (outs_by at hook vars (out-Stmt stmt)) (outs_of at hook (vars_by vars (out-Stmt stmt)) rest)
-        (outs_by_at at hook vars (out-Stmt stmt)) (outs_at at hook (vars_by vars (out-Stmt stmt)) rest)
+    (outs_by_at at hook vars (out-Stmt stmt)) (outs_at at hook (vars_by vars (out-Stmt stmt)) rest)
 
 shuts_at : (c : ConfigParts) (end : Outcome) (w : World) → Of (IsAt w.tick) (shuts_down c end w).events
-shuts_at c end w =
-    (refl, all_more (IsAt w.tick) (outs_of w.tick owner.ShutdownHook w.vars c.shutdown_hook) (Shutdown w.tick ∷ [])
-        (outs_at w.tick owner.ShutdownHook w.vars c.shutdown_hook) (refl, tt))
+shuts_at c end w = (
+  refl,
+  all_more (IsAt w.tick) (outs_of w.tick owner.ShutdownHook w.vars c.shutdown_hook) (Shutdown w.tick ∷ [])
+      (outs_at w.tick owner.ShutdownHook w.vars c.shutdown_hook) (refl, tt),
+)
 
 misses_at : (c : ConfigParts) (task : TaskNo) (w : World) → Of (IsAt w.tick) (misses c task w).events
 misses_at c task w =
-    let v = record w { vars = vars_after w.vars c.error_hook } in
-    (refl, all_more (IsAt w.tick) (outs_of w.tick owner.ErrorHook w.vars c.error_hook)
-        (shuts_down c (Some (ending.Missed task)) v).events (outs_at w.tick owner.ErrorHook w.vars c.error_hook)
-        (shuts_at c (Some (ending.Missed task)) v))
+    let v = record w { vars = vars_after w.vars c.error_hook } in (
+      refl,
+      all_more (IsAt w.tick) (outs_of w.tick owner.ErrorHook w.vars c.error_hook)
+          (shuts_down c (Some (ending.Missed task)) v).events (outs_at w.tick owner.ErrorHook w.vars c.error_hook)
+          (shuts_at c (Some (ending.Missed task)) v),
+    )
 
 -- ---- checks
 
@@ -138,7 +142,7 @@ checked_told at mode is_due [] = (tt, tt)
 checked_told at mode is_due (x ∷ xs) =
     let rest = checked_told at mode is_due xs in
     if_told at (is_due (point_of mode (row_of mode x.entry))) _ (checked at mode is_due xs)
-        (then_told at _ (is_done x.left) _ rest) rest
+    (then_told at _ (is_done x.left) _ rest) rest
 
 -- the checks of a tick have its stamp
 pub checked_at : (at : ℕ) (mode : ModeDef) (is_due : Point → Bool) (xs : List Job)
@@ -172,12 +176,14 @@ unfolding outs_of
 outs_still at hook vars [] = tt
 outs_still at hook vars (stmt ∷ rest) =
     all_more (StillAt at) (outs_by at hook vars (out-Stmt stmt)) (outs_of at hook (vars_by vars (out-Stmt stmt)) rest)
-        (outs_by_still at hook vars (out-Stmt stmt)) (outs_still at hook (vars_by vars (out-Stmt stmt)) rest)
+    (outs_by_still at hook vars (out-Stmt stmt)) (outs_still at hook (vars_by vars (out-Stmt stmt)) rest)
 
 shuts_still : (c : ConfigParts) (end : Outcome) (w : World) → Of (StillAt w.tick) (shuts_down c end w).events
-shuts_still c end w =
-    ((refl, refl), all_more (StillAt w.tick) (outs_of w.tick owner.ShutdownHook w.vars c.shutdown_hook)
-        (Shutdown w.tick ∷ []) (outs_still w.tick owner.ShutdownHook w.vars c.shutdown_hook) ((refl, refl), tt))
+shuts_still c end w = (
+  (refl, refl),
+  all_more (StillAt w.tick) (outs_of w.tick owner.ShutdownHook w.vars c.shutdown_hook)
+      (Shutdown w.tick ∷ []) (outs_still w.tick owner.ShutdownHook w.vars c.shutdown_hook) ((refl, refl), tt),
+)
 
 -- ---- each part
 
@@ -220,15 +226,17 @@ module _ (c : ConfigParts) (s : ScriptParts) (T : ℕ) where
   latch_at w es p =
       cond_both (eqb (offset_of w) (c.round - c.adjust)) _ _ (LeadsTo AtTick EndsAtTick es)
       (λ _. (p.0, all_more (MuteAt T) es _ p.1 (event_if_all (MuteAt T) (not (is_no_change w.pending)) _ (p.0, refl))))
-          (λ _. still_leads AtTick EndsAtTick es w p)
+      (λ _. still_leads AtTick EndsAtTick es w p)
 
   next_round_at : Leads AtTick AtTick EndsAtTick (next_round s)
   unfolding next_round
   next_round_at w es p =
       cond_both (eqb w.number s.rounds) _ _ (LeadsTo AtTick EndsAtTick es)
-      (λ _. let all = one w es _ refl refl p in
-          (at_of _ all, λ u q. let z : Done ≡ ShutAt u = sym (status_after es (Stop w.tick ∷ []) (mute_of es p.1))
-          ∙ q in cc))
+      (λ _. let all = one w es _ refl refl p in (
+        at_of _ all,
+        λ u q. let z : Done ≡ ShutAt u = sym (status_after es (Stop w.tick ∷ []) (mute_of es p.1))
+            ∙ q in cc,
+      ))
       (λ _. (p.0, one w es _ refl refl p))
 
   round_end_at : Leads AtTick AtTick EndsAtTick (round_end c s)
@@ -236,7 +244,7 @@ module _ (c : ConfigParts) (s : ScriptParts) (T : ℕ) where
   round_end_at w es p =
       cond_both (is_length w.latched (offset_of w)) _ _ (LeadsTo AtTick EndsAtTick es)
       (λ _. followed_leads AtTick AtTick EndsAtTick es (monitored c (is_at_end (offset_of w)) w) (next_round s)
-          (monitored_at _ w es p) next_round_at)
+      (monitored_at _ w es p) next_round_at)
       (λ _. still_leads AtTick EndsAtTick es w p)
 
   head_at : (w : World) (es : List Event) → w.tick ≡ 0 → AtTick w es → LeadsTo AtTick EndsAtTick es (head s w)
@@ -257,7 +265,7 @@ module _ (c : ConfigParts) (s : ScriptParts) (T : ℕ) where
   unfolding arrival
   arrival_at source w es p =
       cond_both (list_any (λ (tick : ℕ). tick == w.tick) (arrivals_of s source)) _ _ (LeadsTo AtTick EndsAtTick es)
-          (λ _. arrived_at (is_held w source) source w es p) (λ _. still_leads AtTick EndsAtTick es w p)
+      (λ _. arrived_at (is_held w source) source w es p) (λ _. still_leads AtTick EndsAtTick es w p)
 
   acceptance_at : (source : Source) → Leads AtTick AtTick EndsAtTick (acceptance c source)
   unfolding acceptance
@@ -314,12 +322,18 @@ serves_effect c s r who (effect.Service k ∷ rest) left v =
     let answer = service c s r k left v in
     let u = leaving answer.world r answer.left in
     let tick : u.tick ≡ v.tick = leaving_tick answer.world r answer.left
-        ∙ ap (λ (x : World). x.tick) (service_answers c s r k left v).world.is in
+    ∙ ap (λ (x : World). x.tick) (service_answers c s r k left v).world.is in
     cond_both (is_shutdown k) _ _ (Serves v.tick)
     (λ _.
-        record { still =
-        ((tick, refl), subst (λ (t : ℕ). Of (StillAt t) (shuts_down c (Some ending.Shutdown) u).events) tick
-        (shuts_still c (Some ending.Shutdown) u)); tick = tick; mute = λ e. cc })
+    record {
+      still = (
+        (tick, refl),
+        subst (λ (t : ℕ). Of (StillAt t) (shuts_down c (Some ending.Shutdown) u).events) tick
+            (shuts_still c (Some ending.Shutdown) u),
+      );
+      tick = tick;
+      mute = λ e. cc;
+    })
     (λ _. record { still = ((tick, refl), tt); tick = tick; mute = λ _. (refl, tt) })
 
 pub followed_go : (m : Moved) (next : World → Moved) → is_over m.end ≡ false
@@ -338,7 +352,7 @@ all_seen t [] p = refl
 all_seen t (e ∷ es) p =
     let rest = filter (λ (event : Event). nat_le (stamp_of event) t) es in
     ap (λ (b : Bool). cond b (e ∷ rest) rest) (le-leb (stamp_of e) t p.0)
-        ∙ ap (λ (xs : List Event). e ∷ xs) (all_seen t es p.1)
+    ∙ ap (λ (xs : List Event). e ∷ xs) (all_seen t es p.1)
 
 pub none_seen : (t : ℕ) (es : List Event) → Of (λ e. t + 1 ≤ stamp_of e) es
     → filter (λ (event : Event). nat_le (stamp_of event) t) es ≡ []
@@ -360,7 +374,7 @@ pub record Reads (T : ℕ) (m : Moved) (now : List Event) : Type 0 where
 
 pub step_reads : (c : ConfigParts) (s : ScriptParts) (w : World)
     → Reads w.tick (step c s w) (run_line w (owner_of c w (runner_of c w))
-        ++ (runner_tick c s (runner_of c w) (owner_of c w (runner_of c w)) w).move.events)
+    ++ (runner_tick c s (runner_of c w) (owner_of c w (runner_of c w)) w).move.events)
 unfolding step
 step_reads c s w =
     let r = runner_of c w in
@@ -371,17 +385,17 @@ step_reads c s w =
     let line = run_line w who in
     let fs = tick.move.events in
     let serves = serves_effect c s r who state.effects state.left
-        (record w { vars = state.vars; cursors = state.cursors }) in
+    (record w { vars = state.vars; cursors = state.cursors }) in
     let first = preceded line tick.move in
     let now = line ++ fs in
     let next = tick_over who (is_somebody r && tick.ended) in
     let run = run_at w who in
     let at : Of (IsAt T) now = all_more (IsAt T) line fs (each_of (MuteAt T) (IsAt T) (λ e q. q.0) line run)
-        (each_of (StillAt T) (IsAt T) (λ e q. q.0) fs serves.still) in
+    (each_of (StillAt T) (IsAt T) (λ e q. q.0) fs serves.still) in
     let le : Of (λ e. stamp_of e ≤ T) now = each_of (IsAt T) (λ e. stamp_of e ≤ T) (λ e q. omega arith) now at in
     let ge : Of (λ e. T ≤ stamp_of e) now = each_of (IsAt T) (λ e. T ≤ stamp_of e) (λ e q. omega arith) now at in
     let lo : Of (λ e. stamp_of e ≤ T + 1) now =
-        each_of (IsAt T) (λ e. stamp_of e ≤ T + 1) (λ e q. omega arith) now at in
+    each_of (IsAt T) (λ e. stamp_of e ≤ T + 1) (λ e q. omega arith) now at in
     let all = all_seen T now le in
     ⊎_elim
     (λ (over : is_over tick.move.end ≡ true).
@@ -391,15 +405,15 @@ step_reads c s w =
     let end = event_if (is_somebody r && tick.ended) (End (tick.move.world.tick + 1) who) in
     let z = serves.tick in
     let later : Of (λ e. stamp_of e ≡ T + 1) end =
-        event_if_all (λ e. stamp_of e ≡ T + 1) (is_somebody r && tick.ended) (End (tick.move.world.tick + 1) who)
-        (ap (λ (t : ℕ). t + 1) z) in
+    event_if_all (λ e. stamp_of e ≡ T + 1) (is_somebody r && tick.ended) (End (tick.move.world.tick + 1) who)
+    (ap (λ (t : ℕ). t + 1) z) in
     subst (λ (m : Moved). Reads T m now) (sym (followed_go first next on))
     (record {
       seen = filter-append (λ (event : Event). nat_le (stamp_of event) T) now end
           ∙ ap (λ (xs : List Event). xs ++ filter (λ (event : Event). nat_le (stamp_of event) T) end) all
           ∙ ap (λ (xs : List Event). now ++ xs)
-              (none_seen T end (each_of (λ e. stamp_of e ≡ T + 1) (λ e. T + 1 ≤ stamp_of e)
-              (λ e q. omega arith) end later))
+          (none_seen T end (each_of (λ e. stamp_of e ≡ T + 1) (λ e. T + 1 ≤ stamp_of e)
+          (λ e q. omega arith) end later))
           ∙ append-nil now;
       low = all_more (λ e. T ≤ stamp_of e) now end ge
           (each_of (λ e. stamp_of e ≡ T + 1) (λ e. T ≤ stamp_of e) (λ e q. omega arith) end later);

@@ -54,7 +54,7 @@ is_activate event = false
 abbrev pub activates_below : List ActivationRow → (start offset : ℕ) → List Event
 activates_below rows start offset =
     map (λ (row : ActivationRow). Activate (start + row.offset) row.task)
-        (filter (λ (row : ActivationRow). nat_lt row.offset offset) rows)
+    (filter (λ (row : ActivationRow). nat_lt row.offset offset) rows)
 
 -- after the end of the last round: a ttShutdownOS ends a run after the activation of its tick
 abbrev pub after_end : Status → ℕ → ℕ
@@ -68,7 +68,7 @@ ActivatesRows c events =
     (λ round rest.
     filter is_activate (until_round rest)
     ≡ activates_below (mode_at c round.mode.0).activations round.start
-        (next_start (after_end (status_of events) (last_stamp events)) rest - round.start))
+    (next_start (after_end (status_of events) (last_stamp events)) rest - round.start))
     events
 
 -- ---- owners
@@ -97,7 +97,7 @@ unfoldable pub checked_rows : (seen : List Event) → (at start : ℕ) → ModeD
 checked_rows seen at start mode is_due [] = []
 checked_rows seen at start mode is_due (row ∷ rest) =
     check_row (is_due (point_of mode row)) (has_ended (start + row.offset) (owner.Task row.task) seen)
-        (checked_rows seen at start mode is_due rest)
+    (checked_rows seen at start mode is_due rest)
   where
     check_row : (due met : Bool) → List Event → List Event
     check_row false met others = others

@@ -12,14 +12,14 @@ pub fn isr_is_bounded()
     ensures { IsrIsBounded }
 {}
 
-/// Where the check says yes and the script keeps its bounds, no check is missed, and each activation whose deadline the run
-/// reaches has ended by its deadline.
+/// Where the check says yes and the script keeps its bounds, no check is missed, and each
+/// activation whose deadline the run reaches has ended by its deadline.
 pub fn no_miss()
     ensures { NoMiss }
 {}
 
-/// Each round has exactly the activations of its mode with offsets below its end, each at its offset, in their order; where
-/// ttShutdownOS ends the run, that of its tick too.
+/// Each round has exactly the activations of its mode with offsets below its end, each at its
+/// offset, in their order; where ttShutdownOS ends the run, that of its tick too.
 pub fn rounds_activate()
     ensures { ActivationsLaw }
 {}
@@ -29,8 +29,9 @@ pub fn tasks_are_single()
     ensures { TasksAreSingle }
 {}
 
-/// A task has a tick where no time-triggered routine is unfinished and it was activated last, a time-triggered routine where it is
-/// the unfinished one of the highest level, and anybody else where neither is unfinished.
+/// A task has a tick where no time-triggered routine is unfinished and it was activated last, a
+/// time-triggered routine where it is the unfinished one of the highest level, and anybody else
+/// where neither is unfinished.
 pub fn owners_are_right()
     ensures { OwnersLaw }
 {}

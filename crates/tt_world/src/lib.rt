@@ -1,5 +1,5 @@
-//! What a run is read from, the world of a run, and the definitions of a run: the parts of an instant in their order, and the
-//! schedule instant by instant.
+//! What a run is read from, the world of a run, and the definitions of a run: the parts of an
+//! instant in their order, and the schedule instant by instant.
 #![tactic(auto)]
 
 mod config;
