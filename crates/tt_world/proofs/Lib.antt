@@ -47,3 +47,5 @@ pub mod RoundRuns
 pub mod CheckEnds
 pub mod RoundChecks
 pub mod MonitorLaw
+pub mod SourceEvents
+pub mod SourceParts
