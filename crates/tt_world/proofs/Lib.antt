@@ -49,3 +49,5 @@ pub mod RoundChecks
 pub mod MonitorLaw
 pub mod SourceEvents
 pub mod SourceParts
+pub mod SourceTicks
+pub mod InterruptLaws

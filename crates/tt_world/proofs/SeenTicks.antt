@@ -27,7 +27,7 @@ use Rattle.tt_world.specs.RunLaws.{AreTasksSingle}
 use Rattle.tt_world.proofs.Parts.{Anything, LeadsTo, followed_at}
 use Rattle.tt_world.proofs.JobLists.{at_set, at_other}
 use Rattle.tt_world.proofs.TaskAccounts.{Says, runner_says, last_found_at}
-use Rattle.tt_world.proofs.Emits.{Of, OfHooks, all_more, event_if_all, shuts_down_all}
+use Rattle.tt_world.proofs.Emits.{Of, OfHooks, all_more, event_if_all, effected_all}
 use Rattle.tt_world.proofs.Fates.{Mid, effected_mid}
 use Rattle.tt_world.proofs.Places.{Placed}
 use Rattle.tt_world.proofs.EndsSeen.{NoEnd, ended_more, ended_same, other_end, own_end, ActTick, act_tick}
@@ -64,13 +64,7 @@ or_none false e b = refl
 module _ (c : ConfigParts) (s : ScriptParts) where
   pub effected_no_end : (r : Runner) (who : Owner) (effects : List Effect) (left : List Stmt) (w : World)
       → Of NoEnd (effected c s r who effects left w).move.events
-  effected_no_end r who [] left w = tt
-  effected_no_end r who (effect.Out value ∷ rest) left w = (refl, tt)
-  effected_no_end r who (effect.Service k ∷ rest) left w =
-      let answer = service c s r k left w in
-      cond_both (is_shutdown k) _ _ (λ (m : Moved). Of NoEnd m.events)
-      (λ _. (refl, shuts_down_all NoEnd no_end_hooks c (Some ending.Shutdown) (leaving answer.world r answer.left)))
-      (λ _. (refl, tt))
+  effected_no_end r who effects left w = effected_all NoEnd no_end_hooks c s (λ _ _ _ _. refl) r who effects left w
 
   abbrev ActOf : Runner → World → World → Bool → Type 0
   ActOf (runner.Job q) w v ended = ActTick c s q w v ended

@@ -49,6 +49,14 @@ is_tried Accepted = true
 is_tried Activated = true
 is_tried _ = false
 
+-- what is known of a source, where it is known or not that nothing of it can be accepted
+abbrev pub Known : Source → Bool → OfRun
+Known x tried w es = SourceFacts x tried (lists_of w) es
+
+-- each acceptance of a source was admitted, where a run ends
+abbrev pub EachAdmitted : Source → OfEnd
+EachAdmitted x end w es = Admits x nothing_seen es
+
 pub silent_hooks : (x : Source) → OfHooks (SaysNothing x)
 silent_hooks x = record {
   error = λ _ _. (λ _. refl, refl);
@@ -62,18 +70,11 @@ some_undone [] l = absurd (omega arith)
 some_undone (x ∷ body) l = refl
 
 module _ (c : ConfigParts) (s : ScriptParts) (rules : IsConfig c) (x : Source) (exists : Exists c x) where
-  -- what is known of the source, where it is known or not that nothing of it can be accepted
-  abbrev pub Known : Bool → OfRun
-  Known tried w es = SourceFacts x tried (lists_of w) es
-
-  abbrev pub Ends : OfEnd
-  Ends end w es = Admits x nothing_seen es
-
   -- a part that says nothing of the source and leaves the lists as they were
-  pub silent_leads : (b : Bool) (w : World) (es : List Event) (m : Moved) → Known b w es → Of (SaysNothing x) m.events
-      → (is_over m.end ≡ false → lists_of m.world ≡ lists_of w) → LeadsTo (Known b) Ends es m
+  pub silent_leads : (b : Bool) (w : World) (es : List Event) (m : Moved) → Known x b w es → Of (SaysNothing x) m.events
+      → (is_over m.end ≡ false → lists_of m.world ≡ lists_of w) → LeadsTo (Known x b) (EachAdmitted x) es m
   silent_leads b w es m p q same =
-      leads_by (Known b) Ends es m
+      leads_by (Known x b) (EachAdmitted x) es m
       (λ on. facts_silent x b (lists_of w) (lists_of m.world) es m.events p q
       (subst (λ (l : SourceLists). Stands x l (seen_of x es)) (sym (same on))))
       (λ _. admits_more x nothing_seen es m.events p.admits (admits_silent x (seen_of x es) m.events q))
@@ -92,7 +93,8 @@ module _ (c : ConfigParts) (s : ScriptParts) (rules : IsConfig c) (x : Source) (
   activated_same None w = refl
   activated_same (Some entry) w = refl
 
-  monitored_known : (b : Bool) (is_due : Point → Bool) → Leads (Known b) (Known b) Ends (monitored c is_due)
+  monitored_known : (b : Bool) (is_due : Point → Bool)
+      → Leads (Known x b) (Known x b) (EachAdmitted x) (monitored c is_due)
   monitored_known b is_due w es p =
       let Same : World → Type 0 = λ (v : World). lists_of v ≡ lists_of w in
       let m = monitored c is_due w in
@@ -100,20 +102,22 @@ module _ (c : ConfigParts) (s : ScriptParts) (rules : IsConfig c) (x : Source) (
       (monitored_all (SaysNothing x) (silent_hooks x) c is_due (λ _ _ _. (λ _. refl, refl)) w)
       (λ on. led_on (Alone Same) Anything es m on (monitored_holds Same c is_due w es (λ _. refl)))
 
-  next_known : Leads (Known false) (Known false) Ends (next_round s)
+  next_known : Leads (Known x false) (Known x false) (EachAdmitted x) (next_round s)
   next_known w es p =
       silent_leads false w es (next_round s w) p
       (next_round_all (SaysNothing x) s (λ _. (λ _. refl, refl)) (λ _ _ _. (λ _. refl, refl)) w) (λ _. next_same w)
 
-  round_end_known : Leads (Known false) (Known false) Ends (round_end c s)
+  round_end_known : Leads (Known x false) (Known x false) (EachAdmitted x) (round_end c s)
   unfolding round_end
   round_end_known w es p =
-      cond_both (is_length w.latched (offset_of w)) _ _ (LeadsTo (Known false) Ends es)
-      (λ _. followed_leads (Known false) (Known false) Ends es (monitored c (is_at_end (offset_of w)) w) (next_round s)
+      cond_both (is_length w.latched (offset_of w)) _ _ (LeadsTo (Known x false) (EachAdmitted x) es)
+      (λ _. followed_leads (Known x false) (Known x false) (EachAdmitted x) es (monitored c (is_at_end (offset_of w)) w)
+      (next_round s)
       (monitored_known false (is_at_end (offset_of w)) w es p) next_known)
-      (λ _. still_leads (Known false) Ends es w p)
+      (λ _. still_leads (Known x false) (EachAdmitted x) es w p)
 
-  head_known : (w : World) (es : List Event) → w.tick ≡ 0 → Known false w es → LeadsTo (Known false) Ends es (head s w)
+  head_known : (w : World) (es : List Event) → w.tick ≡ 0 → Known x false w es
+      → LeadsTo (Known x false) (EachAdmitted x) es (head s w)
   unfolding head
   head_known w es z p = facts_silent x false (lists_of w) (lists_of w) es
       (OsStart w.tick s.start ∷ Round w.tick 1 s.start ∷ []) p
@@ -135,9 +139,11 @@ module _ (c : ConfigParts) (s : ScriptParts) (rules : IsConfig c) (x : Source) (
       (λ (e : (i.0 == row.isr.0) ≡ true).
       let z : i.0 ≡ row.isr.0 = eqb-true i.0 row.isr.0 e in
       facts_one y false false (lists_of w) (lists_of more) es (Enable w.tick row.isr) (record q { enabled = true }) p
-      (ap (λ (b : Bool). cond b (record q { enabled = true }) q) e) (λ a. cc) p.few
-      (subst (λ (n : ℕ). StandsAt (slice_set w.isrs_enabled n true) i.0 false (is_open (record q { enabled = true }))) z
-      (here w.isrs_enabled i.0 false _ true _ p.stands.0 (sym (or_right (not q.accepted) true refl))), p.stands.1)
+      (ap (λ (b : Bool). cond b (record q { enabled = true }) q) e) (λ a. cc) p.few (
+        subst (λ (n : ℕ). StandsAt (slice_set w.isrs_enabled n true) i.0 false (is_open (record q { enabled = true }))) z
+            (here w.isrs_enabled i.0 false _ true _ p.stands.0 (sym (or_right (not q.accepted) true refl))),
+        p.stands.1,
+      )
       (λ a. cc))
       (λ (e : (i.0 == row.isr.0) ≡ false).
       facts_silent y false (lists_of w) (lists_of more) es (Enable w.tick row.isr ∷ []) p
@@ -148,14 +154,14 @@ module _ (c : ConfigParts) (s : ScriptParts) (rules : IsConfig c) (x : Source) (
       swapped : (a b : ℕ) → (a == b) ≡ false → (b == a) ≡ false
       swapped a b e = ne_eqb b a (λ z. eqb-false a b e (sym z))
 
-  enable_known : (row : EnableRow) → Leads (Known false) (Known false) Ends (enable row)
+  enable_known : (row : EnableRow) → Leads (Known x false) (Known x false) (EachAdmitted x) (enable row)
   unfolding enable
   enable_known row w es p = enable_of x row w es p
 
   -- ---- arrivals
 
-  own_arrives : (w : World) (es : List Event) → is_held w x ≡ false → Known false w es
-      → Known false (holding w x true) (es ++ Arrive w.tick (source_owner x) ∷ [])
+  own_arrives : (w : World) (es : List Event) → is_held w x ≡ false → Known x false w es
+      → Known x false (holding w x true) (es ++ Arrive w.tick (source_owner x) ∷ [])
   own_arrives w es e p =
       let q = seen_of x es in
       let none = ltb-false 0 q.waiting (sym (own_held x w q p.stands) ∙ e) in
@@ -164,8 +170,8 @@ module _ (c : ConfigParts) (s : ScriptParts) (rules : IsConfig c) (x : Source) (
       (ap (λ (b : Bool). cond b (record q { waiting = q.waiting + 1 }) q) (own_owner x)) (λ a. cc) (omega arith)
       (own_arrived x w q p.stands) (λ a. cc)
 
-  arrived_known : (held : Bool) (y : Source) (w : World) (es : List Event) → is_held w y ≡ held → Known false w es
-      → LeadsTo (Known false) Ends es (arrived held y w)
+  arrived_known : (held : Bool) (y : Source) (w : World) (es : List Event) → is_held w y ≡ held → Known x false w es
+      → LeadsTo (Known x false) (EachAdmitted x) es (arrived held y w)
   arrived_known true y w es e p =
       facts_silent x false (lists_of w) (lists_of w) es (Merge w.tick (source_owner y) ∷ []) p
       ((λ _. refl, refl), tt) (λ q. q)
@@ -174,7 +180,7 @@ module _ (c : ConfigParts) (s : ScriptParts) (rules : IsConfig c) (x : Source) (
       (λ (same : same_owner (source_owner y) (source_owner x) ≡ true).
       let z = sym (source_same y x same) in
       subst (λ (y : Source). is_held w y ≡ false
-      → Known false (holding w y true) (es ++ Arrive w.tick (source_owner y) ∷ [])) z
+      → Known x false (holding w y true) (es ++ Arrive w.tick (source_owner y) ∷ [])) z
       (λ (none : is_held w x ≡ false). own_arrives w es none p) e)
       (λ (ne : same_owner (source_owner y) (source_owner x) ≡ false).
       facts_silent x false (lists_of w) (lists_of (holding w y true)) es (Arrive w.tick (source_owner y) ∷ []) p
@@ -182,11 +188,12 @@ module _ (c : ConfigParts) (s : ScriptParts) (rules : IsConfig c) (x : Source) (
       (other_held y x w true (seen_of x es) ne))
       (cases_Bool (same_owner (source_owner y) (source_owner x)))
 
-  arrival_known : (y : Source) → Leads (Known false) (Known false) Ends (arrival s y)
+  arrival_known : (y : Source) → Leads (Known x false) (Known x false) (EachAdmitted x) (arrival s y)
   unfolding arrival
   arrival_known y w es p =
-      cond_both (list_any (λ (tick : ℕ). tick == w.tick) (arrivals_of s y)) _ _ (LeadsTo (Known false) Ends es)
-      (λ _. arrived_known (is_held w y) y w es refl p) (λ _. still_leads (Known false) Ends es w p)
+      cond_both (list_any (λ (tick : ℕ). tick == w.tick) (arrivals_of s y)) _ _
+      (LeadsTo (Known x false) (EachAdmitted x) es)
+      (λ _. arrived_known (is_held w y) y w es refl p) (λ _. still_leads (Known x false) (EachAdmitted x) es w p)
 
   -- ---- acceptances
 
@@ -198,49 +205,53 @@ module _ (c : ConfigParts) (s : ScriptParts) (rules : IsConfig c) (x : Source) (
       some_undone _ (All-get_or (IsOisr c) c.oisrs i.0 no_oisr l rules.oisrs).routine.some
 
   -- its own acceptance, or none
-  own_accepts : (b d : Bool) → Leads (Known b) (Known d) Ends (acceptance c x)
+  own_accepts : (b d : Bool) → Leads (Known x b) (Known x d) (EachAdmitted x) (acceptance c x)
   unfolding acceptance
   own_accepts b d w es p =
       let q = seen_of x es in
-      cond_both (is_accepted w x) _ _ (LeadsTo (Known d) Ends es)
+      cond_both (is_accepted w x) _ _ (LeadsTo (Known x d) (EachAdmitted x) es)
       (λ a.
       facts_one x b d (lists_of w) (lists_of (accepting w x (routine_of c x))) es (Accept w.tick (source_owner x))
       just_accepted p (ap (λ (b : Bool). cond b just_accepted q) (own_owner x))
       (λ _. admitted x w q p.few a p.stands) (omega arith)
       (own_accepted x w (routine_of c x) q (body_some x exists) p.stands)
       (λ _ l. absurd (omega arith)))
-      (λ a. still_leads (Known d) Ends es w
+      (λ a. still_leads (Known x d) (EachAdmitted x) es w
       (record { admits = p.admits; few = p.few; stands = p.stands; waits = λ _. refused x w q a p.stands }))
 
-  other_accepts : (b : Bool) (y : Source) → IsOther y x → Leads (Known b) (Known b) Ends (acceptance c y)
+  other_accepts : (b : Bool) (y : Source) → IsOther y x
+      → Leads (Known x b) (Known x b) (EachAdmitted x) (acceptance c y)
   unfolding acceptance
   other_accepts b y ne w es p =
-      cond_both (is_accepted w y) _ _ (LeadsTo (Known b) Ends es)
+      cond_both (is_accepted w y) _ _ (LeadsTo (Known x b) (EachAdmitted x) es)
       (λ _.
       facts_silent x b (lists_of w) (lists_of (accepting w y (routine_of c y))) es
       (Accept w.tick (source_owner y) ∷ []) p
       ((λ r. ap (λ (b : Bool). cond b just_accepted r) ne, ne), tt)
       (other_accepted y x w (routine_of c y) (seen_of x es) ne))
-      (λ _. still_leads (Known b) Ends es w p)
+      (λ _. still_leads (Known x b) (EachAdmitted x) es w p)
 
-  acceptance_known : (b : Bool) (y : Source) → Leads (Known b) (Known b) Ends (acceptance c y)
+  acceptance_known : (b : Bool) (y : Source) → Leads (Known x b) (Known x b) (EachAdmitted x) (acceptance c y)
   acceptance_known b y =
       ⊎_elim
       (λ (same : same_owner (source_owner y) (source_owner x) ≡ true).
-      subst (λ (y : Source). Leads (Known b) (Known b) Ends (acceptance c y)) (sym (source_same y x same))
+      subst (λ (y : Source). Leads (Known x b) (Known x b) (EachAdmitted x) (acceptance c y))
+      (sym (source_same y x same))
       (own_accepts b b))
       (λ (ne : same_owner (source_owner y) (source_owner x) ≡ false). other_accepts b y ne)
       (cases_Bool (same_owner (source_owner y) (source_owner x)))
 
   module _ (k : ℕ) (within : k < length (sources c)) (d : Source) (is : x ≡ get_or (sources c) k d) where
-    acceptances_known : Leads (Known false) (Known true) Ends (acceptances c)
+    acceptances_known : Leads (Known x false) (Known x true) (EachAdmitted x) (acceptances c)
     unfolding acceptances
     acceptances_known =
-        chain_at (Known false) (Known true) Ends (acceptance c) (sources c) k d within (acceptance_known false)
-        (subst (λ (y : Source). Leads (Known false) (Known true) Ends (acceptance c y)) is (own_accepts false true))
+        chain_at (Known x false) (Known x true) (EachAdmitted x) (acceptance c) (sources c) k d within
+        (acceptance_known false)
+        (subst (λ (y : Source). Leads (Known x false) (Known x true) (EachAdmitted x) (acceptance c y)) is
+        (own_accepts false true))
         (acceptance_known true)
 
-    opening_keeps : OpeningKeeps c s (λ (phase : Phase). Known (is_tried phase)) Ends
+    pub opening_keeps : OpeningKeeps c s (λ (phase : Phase). Known x (is_tried phase)) (EachAdmitted x)
     unfolding checks enables arrivals activation
     opening_keeps = record {
       head_is = head_known;
@@ -248,9 +259,9 @@ module _ (c : ConfigParts) (s : ScriptParts) (rules : IsConfig c) (x : Source) (
           (latch_all (SaysNothing x) c (λ _ _. (λ _. refl, refl)) w) (λ _. latch_same w);
       round_end_is = round_end_known;
       checks_are = λ w es p. monitored_known false (is_at (offset_of w)) w es p;
-      enables_are = λ w es p. chain_each (Known false) Ends enable
+      enables_are = λ w es p. chain_each (Known x false) (EachAdmitted x) enable
           (enables_at (offset_of w) (mode_of c w).enables) enable_known w es p;
-      arrivals_are = chain_each (Known false) Ends (arrival s) (sources c) arrival_known;
+      arrivals_are = chain_each (Known x false) (EachAdmitted x) (arrival s) (sources c) arrival_known;
       acceptances_are = acceptances_known;
       activation_is = λ w es p.
           let entry = entry_at (offset_of w) (mode_of c w).activations in
@@ -259,6 +270,7 @@ module _ (c : ConfigParts) (s : ScriptParts) (rules : IsConfig c) (x : Source) (
     }
 
     -- an opening keeps what is known of a source, and after it nothing of the source can be accepted
-    pub opening_known : (w : World) (es : List Event) → Known false w es → LeadsTo (Known true) Ends es (opening c s w)
+    pub opening_known : (w : World) (es : List Event) → Known x false w es
+        → LeadsTo (Known x true) (EachAdmitted x) es (opening c s w)
     opening_known w es p =
-        opening_leads c s (λ (phase : Phase). Known (is_tried phase)) Ends opening_keeps w es p
+        opening_leads c s (λ (phase : Phase). Known x (is_tried phase)) (EachAdmitted x) opening_keeps w es p
