@@ -1,12 +1,11 @@
 -- The parts of an opening, for one source of interrupts.
 use Rattle.std.proofs.Common.{ℕ, zero, suc, ◌≡◌, ◌<◌, ◌≤◌, ◌+◌, ◌-◌, List, [], ◌∷◌, ◌++◌, Bool, true, false, Option, None, Some, refl, ap, sym, ◌∙◌, subst, eqb, arith, length, get_or, ⊎_elim}
-use Rattle.std.specs.Prelude.{◌==◌, ◌||◌, not, cond, nat_lt, map, slice_set}
+use Rattle.std.specs.Prelude.{◌==◌, not, cond, map, slice_set}
 use Rattle.std.specs.List.{list_any}
 use Rattle.std.proofs.lemmas.List.Elements.{All-get_or}
-use Rattle.std.proofs.lemmas.Bool.{cond_both, cases_Bool, false≢true, ltb-false, eqb-true, eqb-false, ne_eqb, or_right}
+use Rattle.std.proofs.lemmas.Bool.{cond_both, cases_Bool, ltb-false, eqb-true, eqb-false, ne_eqb, or_right}
 use Rattle.tt_base.specs.declared.event.Event.{Event}
 use Rattle.tt_base.specs.declared.event.Event.TheVariants.{OsStart, Round, Enable, Arrive, Merge, Accept}
-use Rattle.tt_base.specs.declared.event.Owner.{Owner}
 use Rattle.task_lang.specs.declared.syntax.Stmt.{Stmt}
 use Rattle.tt_world.specs.declared.config.Enable.{Enable as EnableRow}
 use Rattle.tt_world.specs.declared.config.ConfigParts.{ConfigParts}
@@ -22,7 +21,7 @@ use Rattle.tt_world.specs.Rounds.{head, latch, next_round, round_end}
 use Rattle.tt_world.specs.Gates.{enable, enables, arrived, arrival, arrivals, is_accepted, acceptance, acceptances, sources, arrivals_of, is_held, holding, source_owner}
 use Rattle.tt_world.specs.Opening.{checks, activated, activation, opening}
 use Rattle.tt_world.specs.Runners.{is_done, same_owner}
-use Rattle.tt_world.specs.EventLaws.{SourceSeen, nothing_seen, seen_next}
+use Rattle.tt_world.specs.EventLaws.{nothing_seen}
 use Rattle.tt_world.proofs.Parts.{OfRun, OfEnd, Phase, Accepted, Activated, OpeningKeeps, Alone, Anything, LeadsTo, Leads, leads_by, led_on, still_leads, followed_leads, chain_more, chain_each, opening_leads}
 use Rattle.tt_world.proofs.Keeps.{monitored_holds}
 use Rattle.tt_world.proofs.Emits.{Of, OfHooks, monitored_all, latch_all, next_round_all, activated_all}
@@ -140,7 +139,8 @@ module _ (c : ConfigParts) (s : ScriptParts) (rules : IsConfig c) (x : Source) (
       let z : i.0 ≡ row.isr.0 = eqb-true i.0 row.isr.0 e in
       facts_one y false false (lists_of w) (lists_of more) es (Enable w.tick row.isr) (record q { enabled = true }) p
       (ap (λ (b : Bool). cond b (record q { enabled = true }) q) e) (λ a. cc) p.few (
-        subst (λ (n : ℕ). StandsAt (slice_set w.isrs_enabled n true) i.0 false (is_open (record q { enabled = true }))) z
+        subst (λ (n : ℕ). StandsAt (slice_set w.isrs_enabled n true) i.0 false (is_open (record q { enabled = true })))
+            z
             (here w.isrs_enabled i.0 false _ true _ p.stands.0 (sym (or_right (not q.accepted) true refl))),
         p.stands.1,
       )

@@ -1,5 +1,5 @@
 -- A tick, for one source of interrupts.
-use Rattle.std.proofs.Common.{ℕ, ◌≡◌, ◌+◌, List, [], ◌∷◌, ◌++◌, Bool, true, false, Option, None, Some, refl, ap, sym, ◌∙◌, subst, ⊎_elim}
+use Rattle.std.proofs.Common.{ℕ, ◌≡◌, ◌+◌, List, [], ◌∷◌, ◌++◌, Bool, true, false, Option, None, Some, refl, ap, sym, subst, ⊎_elim}
 use Rattle.std.specs.Prelude.{◌&&◌, cond, option_map}
 use Rattle.std.proofs.lemmas.Bool.{cases_Bool}
 use Rattle.tt_base.specs.declared.number.OisrNo.{OisrNo}
@@ -13,17 +13,17 @@ use Rattle.tt_world.specs.declared.script.ScriptParts.{ScriptParts}
 use Rattle.tt_world.specs.declared.world.Runner.{Runner}
 use Rattle.tt_world.specs.declared.world.Runner.TheVariants as runner
 use Rattle.tt_world.specs.World.{World, Source, IsrSource, OisrSource}
-use Rattle.tt_world.specs.Moved.{Moved, is_over, preceded, event_if}
+use Rattle.tt_world.specs.Moved.{preceded, event_if}
 use Rattle.tt_world.specs.Gates.{source_owner, source_runner}
 use Rattle.tt_world.specs.Runners.{is_done, left_of, unfinished, highest, oisr_priorities, first_runner, runner_of, owner_of, same_owner}
 use Rattle.tt_world.specs.Step.{state_after, runner_tick, is_somebody, run_line, tick_over, step}
-use Rattle.tt_world.specs.EventLaws.{SourceSeen, nothing_seen}
-use Rattle.tt_world.proofs.Parts.{LeadsTo, Leads, followed_at}
+use Rattle.tt_world.specs.EventLaws.{nothing_seen}
+use Rattle.tt_world.proofs.Parts.{Leads, followed_at}
 use Rattle.tt_world.proofs.Keeps.{IsOsek}
 use Rattle.tt_world.proofs.Emits.{Of, all_more, event_if_all, effected_all}
 use Rattle.tt_world.proofs.IsrAccounts.{isr_runs, highest_undone}
 use Rattle.tt_world.proofs.OpenTicks.{Ended, Left, effected_left}
-use Rattle.tt_world.proofs.SourceEvents.{SaysNothing, SourceFacts, SourceLists, Stands, lists_of, lists_left, seen_of, own_owner, source_same, IsOther, other_left, own_ended, own_left, admits_more, admits_silent, facts_silent, facts_one}
+use Rattle.tt_world.proofs.SourceEvents.{SaysNothing, SourceFacts, SourceLists, lists_of, lists_left, seen_of, own_owner, source_same, other_left, own_ended, own_left, admits_more, admits_silent, facts_silent, facts_one}
 use Rattle.tt_world.proofs.SourceParts.{Known, EachAdmitted, silent_hooks}
 
 -- where a routine of the OSEK subsystem runs, it is the unfinished one of the highest priority
