@@ -1,5 +1,5 @@
 -- The law of interrupts.
-use Rattle.std.proofs.Common.{ℕ, zero, suc, ◌≡◌, ◌<◌, ◌≤◌, List, [], ◌++◌, true, false, refl, ap, sym, ◌∙◌, subst, arith, length, get_or, map}
+use Rattle.std.proofs.Common.{ℕ, zero, suc, ◌≡◌, ◌<◌, ◌≤◌, List, [], ◌++◌, true, false, refl, ap, sym, ◌∙◌, subst, arith, length, get_or, map, ⊎_elim, inl, inr}
 use Rattle.std.specs.Prelude.{All}
 use Rattle.std.specs.List.{range_with_len}
 use Rattle.std.proofs.lemmas.List.{length-replicate, get_or-replicate}
@@ -23,9 +23,10 @@ use Rattle.tt_world.specs.RunLaws.{InterruptsLaw}
 use Rattle.tt_world.proofs.Parts.{Phase, LeadsTo, instant_leads, led_on, led_over, GoesOnBefore}
 use Rattle.tt_world.proofs.Ends.{are_bounded, last_is}
 use Rattle.tt_world.proofs.OwnerLaws.{before, seen_now, taken}
-use Rattle.tt_world.proofs.SourceEvents.{Admits, Stands, lists_of, seen_of, seen_same, admitted_at}
+use Rattle.tt_world.proofs.SourceEvents.{Admits, Waits, Stands, lists_of, seen_of, seen_same, admitted_at}
 use Rattle.tt_world.proofs.SourceParts.{Exists, Known, EachAdmitted, is_tried, opening_keeps, opening_known}
 use Rattle.tt_world.proofs.SourceTicks.{silent_now, step_known}
+use Rattle.tt_world.proofs.SourceEnds.{unended_seen}
 
 -- ---- each source exists
 
@@ -89,8 +90,8 @@ module _ (c : ConfigParts) (s : ScriptParts) (rules : IsConfig c) (script : IsSc
       (instant_known (world_at c s n) (events_before c s n) (known_at n last.first))
 
   waiting : (u : ℕ) → IsTaken (schedule c s) u → 1 ≤ (seen_of x (seen_at u (schedule c s))).waiting
-      → WaitsFor x (seen_of x (seen_at u (schedule c s)))
-  waiting u t =
+      → WaitsFor x (seen_at u (schedule c s))
+  waiting u t l =
       let h = taken c s rules script u t in
       let w = world_at c s u in
       let es = events_before c s u in
@@ -102,7 +103,12 @@ module _ (c : ConfigParts) (s : ScriptParts) (rules : IsConfig c) (script : IsSc
       (opening_known c s rules x exists k within d is w es (known_at u (before c s rules script u h.0))) in
       let same : seen_of x (seen_at u (schedule c s)) ≡ seen_of x ds =
       ap (seen_of x) (seen_now c s rules script u h.0 h.1) ∙ seen_same x ds now (silent_now c s x o.world) in
-      subst (λ (q : SourceSeen). 1 ≤ q.waiting → WaitsFor x q) (sym same) (known.waits refl)
+      ⊎_elim
+      (λ (e : ((seen_of x (seen_at u (schedule c s))).accepted ≡ true)
+      × ((seen_of x (seen_at u (schedule c s))).ended ≡ false)).
+      inl (e.0, e.1, unended_seen c s rules script x u h.0 h.1 e.0 e.1))
+      (λ e. inr e)
+      (subst (λ (q : SourceSeen). 1 ≤ q.waiting → Waits x q) (sym same) (known.waits refl) l)
 
   source_law : SourceLaw (schedule c s) x
   source_law = record {

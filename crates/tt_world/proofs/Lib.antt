@@ -50,4 +50,5 @@ pub mod MonitorLaw
 pub mod SourceEvents
 pub mod SourceParts
 pub mod SourceTicks
+pub mod SourceEnds
 pub mod InterruptLaws

@@ -1,5 +1,5 @@
 -- What events say of a source of interrupts, and what stands of it in the world.
-use Rattle.std.proofs.Common.{ℕ, ◌≡◌, ◌<◌, ◌≤◌, ◌+◌, List, [], ◌∷◌, ◌++◌, Bool, true, false, refl, ap, sym, ◌∙◌, subst, arith, length, get_or, ⊎_elim, inl, inr, get_or-set_same, get_or-set_other}
+use Rattle.std.proofs.Common.{ℕ, ◌≡◌, ◌<◌, ◌≤◌, ◌+◌, List, [], ◌∷◌, ◌++◌, Bool, true, false, refl, ap, sym, ◌∙◌, subst, arith, length, get_or, ◌⊎◌, ⊎_elim, inl, inr, get_or-set_same, get_or-set_other}
 use Rattle.std.specs.Prelude.{◌==◌, ◌&&◌, ◌||◌, not, nat_lt, slice_set}
 use Rattle.std.proofs.lemmas.List.{length-set}
 use Rattle.std.proofs.lemmas.Bool.{false≢true, eqb-true, eqb-false, eq-eqb, ltb-true, lt-ltb, or_right, and_cases}
@@ -12,7 +12,7 @@ use Rattle.tt_world.specs.declared.world.Runner.TheVariants as runner
 use Rattle.tt_world.specs.World.{World, Source, IsrSource, OisrSource}
 use Rattle.tt_world.specs.Runners.{is_done, left_of, leaving, same_owner}
 use Rattle.tt_world.specs.Gates.{source_owner, source_runner, is_held, holding, is_enabled, disabling, is_accepted}
-use Rattle.tt_world.specs.EventLaws.{is_accept_of, is_gated, SourceSeen, nothing_seen, seen_next, source_seen, IsAdmitted, WaitsFor}
+use Rattle.tt_world.specs.EventLaws.{is_accept_of, is_gated, SourceSeen, nothing_seen, seen_next, source_seen, IsAdmitted}
 use Rattle.tt_world.proofs.TableRows.{both_left, both_right}
 use Rattle.tt_world.proofs.Emits.{Of}
 
@@ -27,7 +27,7 @@ SaysNothing x e =
 abbrev pub seen_of : Source → List Event → SourceSeen
 seen_of x es = source_seen (source_owner x) nothing_seen es
 
-source_more : (who : Owner) (q : SourceSeen) (es fs : List Event)
+pub source_more : (who : Owner) (q : SourceSeen) (es fs : List Event)
     → source_seen who q (es ++ fs) ≡ source_seen who (source_seen who q es) fs
 unfolding source_seen
 source_more who q [] fs = refl
@@ -194,16 +194,16 @@ own_arrived (OisrSource i) w q p =
     (here w.oisrs_held i.0 false _ true _ p.0 (sym (lt-ltb 0 (q.waiting + 1) (omega arith))), p.1)
 
 -- what is seen of a source at its acceptance
-abbrev pub just_accepted : SourceSeen
-just_accepted = record { waiting = 0; accepted = true; ended = false; enabled = false }
+abbrev pub just_accepted : ℕ → SourceSeen
+just_accepted at = record { waiting = 0; accepted = true; ended = false; enabled = false; at = at }
 
-pub own_accepted : (x : Source) (w : World) (body : List Stmt) (q : SourceSeen) → is_done body ≡ false
-    → Stands x (lists_of w) q → Stands x (lists_of (accepting w x body)) just_accepted
-own_accepted (IsrSource i) w body q some p = (
+pub own_accepted : (x : Source) (w : World) (body : List Stmt) (at : ℕ) (q : SourceSeen) → is_done body ≡ false
+    → Stands x (lists_of w) q → Stands x (lists_of (accepting w x body)) (just_accepted at)
+own_accepted (IsrSource i) w body at q some p = (
   here w.isrs_enabled i.0 false _ false _ p.0 refl,
   (here w.isrs_held i.0 false _ false _ p.1.0 refl, done_here w.isrs i.0 _ false body p.1.1 some),
 )
-own_accepted (OisrSource i) w body q some p =
+own_accepted (OisrSource i) w body at q some p =
     (here w.oisrs_held i.0 false _ false _ p.0 refl, done_here w.oisrs i.0 _ false body p.1 some)
 
 pub own_ended : (x : Source) (l : SourceLists) (after : List Stmt) (q : SourceSeen) → is_done after ≡ true
@@ -254,9 +254,14 @@ admitted x w q few a p =
     opened (IsrSource i) p e gated was = or_given q.accepted q.enabled (sym p.0.1 ∙ e) was
     opened (OisrSource i) p e gated was = cc
 
+-- what is seen of a source of which an interrupt waits: its routine has not ended, or it was not enabled
+abbrev pub Waits : Source → SourceSeen → Type 0
+Waits x q =
+    ((q.accepted ≡ true) × (q.ended ≡ false)) ⊎ ((is_gated x ≡ true) × (q.accepted ≡ true) × (q.enabled ≡ false))
+
 -- one that is not accepted and waits waits for an end or for an enable
 pub refused : (x : Source) (w : World) (q : SourceSeen) → is_accepted w x ≡ false → Stands x (lists_of w) q
-    → 1 ≤ q.waiting → WaitsFor x q
+    → 1 ≤ q.waiting → Waits x q
 refused x w q a p l =
     let done = is_done (left_of w (source_runner x)) in
     let held : is_held w x ≡ true = own_held x w q p ∙ lt-ltb 0 q.waiting (omega arith) in
@@ -265,13 +270,13 @@ refused x w q a p l =
     ⊎_elim (λ (e : is_enabled w x ≡ false). closed x p e) (λ (d : done ≡ false). unfinished x p d)
     (and_cases (is_enabled w x) done others)
   where
-    closed : (x : Source) → Stands x (lists_of w) q → is_enabled w x ≡ false → WaitsFor x q
+    closed : (x : Source) → Stands x (lists_of w) q → is_enabled w x ≡ false → Waits x q
     closed (IsrSource i) p e =
         let z = not_or q.accepted q.enabled (sym p.0.1 ∙ e) in inr (refl, z.0, z.1)
     closed (OisrSource i) p e = cc
 
     unfinished : (x : Source) → Stands x (lists_of w) q → is_done (left_of w (source_runner x)) ≡ false
-        → WaitsFor x q
+        → Waits x q
     unfinished (IsrSource i) p d = let z = not_or q.accepted q.ended (sym p.1.1.1 ∙ d) in inl (z.0, z.1)
     unfinished (OisrSource i) p d = let z = not_or q.accepted q.ended (sym p.1.1 ∙ d) in inl (z.0, z.1)
 
@@ -283,7 +288,7 @@ pub record SourceFacts (x : Source) (tried : Bool) (l : SourceLists) (es : List 
   pub admits : Admits x nothing_seen es
   pub few : (seen_of x es).waiting ≤ 1
   pub stands : Stands x l (seen_of x es)
-  pub waits : tried ≡ true → 1 ≤ (seen_of x es).waiting → WaitsFor x (seen_of x es)
+  pub waits : tried ≡ true → 1 ≤ (seen_of x es).waiting → Waits x (seen_of x es)
 
 pub facts_silent : (x : Source) (b : Bool) (l k : SourceLists) (es fs : List Event) → SourceFacts x b l es
     → Of (SaysNothing x) fs → (Stands x l (seen_of x es) → Stands x k (seen_of x es)) → SourceFacts x b k (es ++ fs)
@@ -293,14 +298,14 @@ facts_silent x b l k es fs f q keeps =
       admits = admits_more x nothing_seen es fs f.admits (admits_silent x (seen_of x es) fs q);
       few = subst (λ (r : SourceSeen). r.waiting ≤ 1) z f.few;
       stands = subst (Stands x k) z (keeps f.stands);
-      waits = subst (λ (r : SourceSeen). b ≡ true → 1 ≤ r.waiting → WaitsFor x r) z f.waits;
+      waits = subst (λ (r : SourceSeen). b ≡ true → 1 ≤ r.waiting → Waits x r) z f.waits;
     }
 
 -- after one event, of which this is seen
 pub facts_one : (x : Source) (b d : Bool) (l k : SourceLists) (es : List Event) (e : Event) (q : SourceSeen)
     → SourceFacts x b l es → seen_next (source_owner x) (seen_of x es) e ≡ q
     → (is_accept_of (source_owner x) e ≡ true → IsAdmitted x (seen_of x es)) → q.waiting ≤ 1 → Stands x k q
-    → (d ≡ true → 1 ≤ q.waiting → WaitsFor x q) → SourceFacts x d k (es ++ e ∷ [])
+    → (d ≡ true → 1 ≤ q.waiting → Waits x q) → SourceFacts x d k (es ++ e ∷ [])
 unfolding source_seen
 facts_one x b d l k es e q f is a few stands waits =
     let z : q ≡ seen_of x (es ++ e ∷ []) = sym (source_more (source_owner x) nothing_seen es (e ∷ []) ∙ is) in
@@ -308,5 +313,5 @@ facts_one x b d l k es e q f is a few stands waits =
       admits = admits_more x nothing_seen es (e ∷ []) f.admits (a, tt);
       few = subst (λ (r : SourceSeen). r.waiting ≤ 1) z few;
       stands = subst (Stands x k) z stands;
-      waits = subst (λ (r : SourceSeen). d ≡ true → 1 ≤ r.waiting → WaitsFor x r) z waits;
+      waits = subst (λ (r : SourceSeen). d ≡ true → 1 ≤ r.waiting → Waits x r) z waits;
     }

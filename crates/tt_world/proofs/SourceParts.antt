@@ -212,9 +212,9 @@ module _ (c : ConfigParts) (s : ScriptParts) (rules : IsConfig c) (x : Source) (
       cond_both (is_accepted w x) _ _ (LeadsTo (Known x d) (EachAdmitted x) es)
       (λ a.
       facts_one x b d (lists_of w) (lists_of (accepting w x (routine_of c x))) es (Accept w.tick (source_owner x))
-      just_accepted p (ap (λ (b : Bool). cond b just_accepted q) (own_owner x))
+      (just_accepted w.tick) p (ap (λ (b : Bool). cond b (just_accepted w.tick) q) (own_owner x))
       (λ _. admitted x w q p.few a p.stands) (omega arith)
-      (own_accepted x w (routine_of c x) q (body_some x exists) p.stands)
+      (own_accepted x w (routine_of c x) w.tick q (body_some x exists) p.stands)
       (λ _ l. absurd (omega arith)))
       (λ a. still_leads (Known x d) (EachAdmitted x) es w
       (record { admits = p.admits; few = p.few; stands = p.stands; waits = λ _. refused x w q a p.stands }))
@@ -227,7 +227,7 @@ module _ (c : ConfigParts) (s : ScriptParts) (rules : IsConfig c) (x : Source) (
       (λ _.
       facts_silent x b (lists_of w) (lists_of (accepting w y (routine_of c y))) es
       (Accept w.tick (source_owner y) ∷ []) p
-      ((λ r. ap (λ (b : Bool). cond b just_accepted r) ne, ne), tt)
+      ((λ r. ap (λ (b : Bool). cond b (just_accepted w.tick) r) ne, ne), tt)
       (other_accepted y x w (routine_of c y) (seen_of x es) ne))
       (λ _. still_leads (Known x b) (EachAdmitted x) es w p)
 
