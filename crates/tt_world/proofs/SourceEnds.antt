@@ -13,7 +13,7 @@ use Rattle.tt_world.specs.ScriptRules.{IsScript}
 use Rattle.tt_world.specs.Moved.{is_over, preceded, event_if}
 use Rattle.tt_world.specs.Opening.{opening}
 use Rattle.tt_world.specs.Gates.{source_owner}
-use Rattle.tt_world.specs.Runners.{left_of, runner_of, owner_of, same_owner}
+use Rattle.tt_world.specs.Runners.{runner_of, owner_of, same_owner}
 use Rattle.tt_world.specs.Step.{runner_tick, is_somebody, run_line, tick_over, step}
 use Rattle.tt_world.specs.Schedule.{instant, instant_at, world_at, events_before, last_instant, schedule}
 use Rattle.tt_world.specs.Status.{stamp_of}
@@ -27,7 +27,7 @@ use Rattle.tt_world.proofs.OwnerLaws.{before, seen_now}
 use Rattle.tt_world.proofs.EndsSeen.{is_end, NoEnd, ended_more, ended_same, other_end}
 use Rattle.tt_world.proofs.SeenRuns.{told_at}
 use Rattle.tt_world.proofs.CheckEnds.{opening_no_end, still_end}
-use Rattle.tt_world.proofs.SourceEvents.{SaysNothing, seen_of, seen_same, source_more, own_owner}
+use Rattle.tt_world.proofs.SourceEvents.{seen_of, source_more, own_owner}
 
 -- where no end stands after the last acceptance of a source, none has a later stamp
 abbrev pub UnendedBy : Source → SourceSeen → List Event → Type 0

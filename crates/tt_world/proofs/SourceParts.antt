@@ -1,19 +1,18 @@
 -- The parts of an opening, for one source of interrupts.
-use Rattle.std.proofs.Common.{ℕ, zero, suc, ◌≡◌, ◌<◌, ◌≤◌, ◌+◌, ◌-◌, List, [], ◌∷◌, ◌++◌, Bool, true, false, Option, None, Some, refl, ap, sym, ◌∙◌, subst, eqb, arith, length, get_or, ⊎_elim}
-use Rattle.std.specs.Prelude.{◌==◌, not, cond, map, slice_set}
+use Rattle.std.proofs.Common.{ℕ, ◌≡◌, ◌<◌, ◌+◌, ◌-◌, List, [], ◌∷◌, ◌++◌, Bool, true, false, Option, None, Some, refl, ap, sym, ◌∙◌, subst, eqb, arith, length, get_or, ⊎_elim}
+use Rattle.std.specs.Prelude.{◌==◌, not, cond, slice_set}
 use Rattle.std.specs.List.{list_any}
 use Rattle.std.proofs.lemmas.List.Elements.{All-get_or}
 use Rattle.std.proofs.lemmas.Bool.{cond_both, cases_Bool, ltb-false, eqb-true, eqb-false, ne_eqb, or_right}
 use Rattle.tt_base.specs.declared.event.Event.{Event}
 use Rattle.tt_base.specs.declared.event.Event.TheVariants.{OsStart, Round, Enable, Arrive, Merge, Accept}
-use Rattle.task_lang.specs.declared.syntax.Stmt.{Stmt}
 use Rattle.tt_world.specs.declared.config.Enable.{Enable as EnableRow}
 use Rattle.tt_world.specs.declared.config.ConfigParts.{ConfigParts}
 use Rattle.tt_world.specs.declared.script.ScriptParts.{ScriptParts}
 use Rattle.tt_world.specs.declared.world.Point.{Point}
 use Rattle.tt_world.specs.World.{World, Source, IsrSource, OisrSource}
 use Rattle.tt_world.specs.ConfigRules.{IsConfig, IsIsr, IsOisr}
-use Rattle.tt_world.specs.Moved.{Moved, is_over, chain}
+use Rattle.tt_world.specs.Moved.{Moved, is_over}
 use Rattle.tt_world.specs.Rows.{offset_of, mode_of, enables_at, entry_at, no_isr, no_oisr, routine_of}
 use Rattle.tt_world.specs.Correction.{is_length}
 use Rattle.tt_world.specs.Monitoring.{monitored, is_at, is_at_end}
@@ -22,20 +21,11 @@ use Rattle.tt_world.specs.Gates.{enable, enables, arrived, arrival, arrivals, is
 use Rattle.tt_world.specs.Opening.{checks, activated, activation, opening}
 use Rattle.tt_world.specs.Runners.{is_done, same_owner}
 use Rattle.tt_world.specs.EventLaws.{nothing_seen}
-use Rattle.tt_world.proofs.Parts.{OfRun, OfEnd, Phase, Accepted, Activated, OpeningKeeps, Alone, Anything, LeadsTo, Leads, leads_by, led_on, still_leads, followed_leads, chain_more, chain_each, opening_leads}
+use Rattle.tt_world.proofs.Parts.{OfRun, OfEnd, Phase, Accepted, Activated, OpeningKeeps, Alone, Anything, LeadsTo, Leads, leads_by, led_on, still_leads, followed_leads, chain_each, chain_at, opening_leads}
 use Rattle.tt_world.proofs.Keeps.{monitored_holds}
 use Rattle.tt_world.proofs.Emits.{Of, OfHooks, monitored_all, latch_all, next_round_all, activated_all}
+use Rattle.tt_world.proofs.Unended.{some_undone}
 use Rattle.tt_world.proofs.SourceEvents.{SaysNothing, Admits, SourceFacts, SourceLists, Stands, lists_of, seen_of, own_owner, source_same, IsOther, other_held, other_accepted, own_held, own_arrived, own_accepted, just_accepted, admitted, refused, admits_more, admits_silent, facts_silent, facts_one, accepting, StandsAt, is_open, here, there}
-
--- parts that all keep P, of which one leads to R, which all keep too
-pub chain_at : {X : Type 0} (P R : OfRun) (Q : OfEnd) (part : X → World → Moved) (xs : List X) (k : ℕ) (d : X)
-    → k < length xs → ((x : X) → Leads P P Q (part x)) → Leads P R Q (part (get_or xs k d))
-    → ((x : X) → Leads R R Q (part x)) → Leads P R Q (chain (map part xs))
-chain_at P R Q part [] k d l each one later = absurd (omega arith)
-chain_at P R Q part (x ∷ xs) zero d l each one later =
-    chain_more P R R Q (part x) (map part xs) one (chain_each R Q part xs later)
-chain_at P R Q part (x ∷ xs) (suc k) d l each one later =
-    chain_more P P R Q (part x) (map part xs) (each x) (chain_at P R Q part xs k d (omega arith) each one later)
 
 -- the source exists
 abbrev pub Exists : ConfigParts → Source → Type 0
@@ -63,10 +53,6 @@ silent_hooks x = record {
   hook = λ _. (λ _. refl, refl);
   shutdown = λ _. (λ _. refl, refl);
 }
-
-some_undone : (body : List Stmt) → 1 ≤ length body → is_done body ≡ false
-some_undone [] l = absurd (omega arith)
-some_undone (x ∷ body) l = refl
 
 module _ (c : ConfigParts) (s : ScriptParts) (rules : IsConfig c) (x : Source) (exists : Exists c x) where
   -- a part that says nothing of the source and leaves the lists as they were
