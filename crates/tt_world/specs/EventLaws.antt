@@ -209,9 +209,8 @@ pub record IsAdmitted (source : Source) (seen : SourceSeen) : Type 0 where
   pub ended : seen.accepted ≡ true → seen.ended ≡ true
   pub enabled : seen.accepted ≡ true → is_gated source ≡ true → seen.enabled ≡ true
 
--- an interrupt that waits at a tick waits for the end of its routine, of which no End event stands after the last
--- Accept
--- event or has a later stamp, or for an enable
+-- an interrupt that waits at a tick waits for the end of its routine, or for an enable: no End event stands after the
+-- last Accept event of the source or has a later stamp, or no Enable event stands after it
 abbrev pub WaitsFor : Source → (events : List Event) → Type 0
 WaitsFor source events =
     let who = source_owner source in
