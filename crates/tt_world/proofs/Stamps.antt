@@ -207,8 +207,8 @@ misses_last : (c : ConfigParts) (task : TaskNo) (w : World) → IsLastEvent (Shu
 misses_last c task w =
     let v = record w { vars = vars_after w.vars c.error_hook } in
     last_more (ErrorHook w.tick task ∷ outs_of w.tick owner.ErrorHook w.vars c.error_hook)
-        (shuts_down c (Some (ending.Missed task)) v).events (Shutdown w.tick)
-        (shuts_last c (Some (ending.Missed task)) v)
+    (shuts_down c (Some (ending.Missed task)) v).events (Shutdown w.tick)
+    (shuts_last c (Some (ending.Missed task)) v)
 
 -- ---- each part
 
@@ -232,10 +232,9 @@ module _ (c : ConfigParts) (s : ScriptParts) (T : ℕ) where
   after_told fs (Some task) w es p a m =
       let more = fs ++ (misses c task w).events in
       let is : status_of (es ++ more) ≡ MissedAt task w.tick = status_after es more (mute_of es p.1)
-      ∙ m (misses c task w).events in
-      (
+      ∙ m (misses c task w).events in (
         all_more (IsAt T) es more (at_of es p.1) (all_more (IsAt T) fs (misses c task w).events a
-        (subst (λ (t : ℕ). Of (IsAt t) (misses c task w).events) p.0 (misses_at c task w))),
+            (subst (λ (t : ℕ). Of (IsAt t) (misses c task w).events) p.0 (misses_at c task w))),
         λ u q. let z : MissedAt task w.tick ≡ ShutAt u = sym is ∙ q in cc,
         subst (λ (t : ℕ). EndsAs (Some (ending.Missed task)) t (es ++ more)) p.0 (
           is,
@@ -267,8 +266,7 @@ module _ (c : ConfigParts) (s : ScriptParts) (T : ℕ) where
       cond_both (eqb w.number s.rounds) _ _ (LeadsTo AtTick EndsAtTick es)
       (λ _.
       let all = one w es _ refl refl p in
-      let is : status_of (es ++ Stop w.tick ∷ []) ≡ Done = status_after es (Stop w.tick ∷ []) (mute_of es p.1) in
-      (
+      let is : status_of (es ++ Stop w.tick ∷ []) ≡ Done = status_after es (Stop w.tick ∷ []) (mute_of es p.1) in (
         at_of _ all,
         λ u q. let z : Done ≡ ShutAt u = sym is ∙ q in cc,
         subst (λ (t : ℕ). EndsAs (Some ending.LastRound) t (es ++ Stop w.tick ∷ [])) p.0 (is, (es, refl)),
@@ -336,7 +334,7 @@ module _ (c : ConfigParts) (s : ScriptParts) (T : ℕ) where
 
 -- ---- the tick
 
-leaving_tick : (x : World) (r : Runner) (after : List Stmt) → (leaving x r after).tick ≡ x.tick
+pub leaving_tick : (x : World) (r : Runner) (after : List Stmt) → (leaving x r after).tick ≡ x.tick
 leaving_tick x (runner.Isr i) after = refl
 leaving_tick x (runner.Job q) after = refl
 leaving_tick x (runner.Oisr i) after = refl
