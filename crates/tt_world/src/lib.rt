@@ -12,7 +12,7 @@ pub use config::{
 };
 pub use laws::{
     checks_monitor, interrupts_wait, isr_is_bounded, no_miss, owners_are_right, points_are_ahead,
-    rounds_activate, tasks_are_single,
+    rounds_activate, schedule_ends, tasks_are_single,
 };
 pub use script::{Arrivals, Script, ScriptParts};
 pub use world::{Point, RunEnd, Runner};
