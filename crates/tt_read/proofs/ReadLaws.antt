@@ -5,11 +5,11 @@ use Rattle.std.specs.List.{list_all}
 use Rattle.std.proofs.lemmas.Bool.{and_from, le-leb}
 use Rattle.std.proofs.lemmas.List.{append-nil, drop_all}
 use Rattle.tt_doc.specs.Lines.{Line, lines_of}
-use Rattle.tt_doc.specs.Words.{words_of}
+use Rattle.tt_doc.specs.Words.{is_comment, words_of}
 use Rattle.tt_rows.specs.declared.row.Row.{Row}
 use Rattle.tt_rows.specs.declared.row.NumberedRow.{NumberedRow}
 use Rattle.tt_rows.specs.Sound.{is_sound_row, ascend_from, AreSound}
-use Rattle.tt_read.specs.Document.{row_of_words, is_comment, Fault, first_fault, row_then, rows_of, Rows, document_by, document_of}
+use Rattle.tt_read.specs.Document.{row_of_words, Fault, first_fault, row_then, rows_of, Rows, document_by, document_of}
 use Rattle.tt_read.specs.Reading.{row_of}
 use Rattle.tt_read.proofs.Found.{row_of-spells}
 

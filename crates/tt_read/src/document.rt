@@ -13,7 +13,7 @@ use crate::fields::row_of;
 use crate::form::{FormFault, FormKind};
 use std::alloc::Global;
 use tt_base::Memory;
-use tt_doc::{LineStep, Span, next_line, words};
+use tt_doc::{LineStep, Span, next_line};
 use tt_rows::{NumberedRow, Row, Rows};
 
 /// What the words of a line are to a document.
@@ -35,8 +35,7 @@ fn content_at(alloc: Global, bytes: &[u8], span: Span) -> Result<Content, Memory
     requires inside { span.end ≤ length bytes.now }
     ensures { IfOk result (λ content. content ≡ content_of (words_of (text_of bytes.now span))) }
 {
-    let words = words(bytes, span);
-    let mut cursor = Cursor::new(bytes, &words);
+    let mut cursor = Cursor::new(&bytes[span.start..span.end]);
     if cursor.is_comment() {
         return Ok(Content::Nothing);
     }
