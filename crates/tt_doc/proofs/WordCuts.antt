@@ -1,9 +1,9 @@
 -- The words of a text, cut at its front.
-use Rattle.std.proofs.Common.{◌≡◌, ℕ, ◌+◌, ◌*◌, ◌≤◌, suc, Bool, true, false, not, ◌==◌, cond, List, [], ◌∷◌, length, take, drop, refl, sym, ap, ◌∙◌, arith}
-use Rattle.std.specs.Prelude.{filter}
+use Rattle.std.proofs.Common.{◌≡◌, ℕ, ◌+◌, ◌*◌, ◌≤◌, ◌<◌, suc, Bool, true, false, not, ◌==◌, cond, List, [], ◌∷◌, length, take, drop, refl, sym, ap, ◌∙◌, arith, inl, inr}
+use Rattle.std.specs.Prelude.{filter, count_by}
 use Rattle.std.specs.List.{list_all, prefix_len, sum_by}
-use Rattle.std.proofs.lemmas.Bool.{cond_both, cond-false, cond-true, and_parts, false≢true, not-true, not-false}
-use Rattle.std.proofs.lemmas.List.Sums.{sum_by-cons}
+use Rattle.std.proofs.lemmas.Bool.{cond_both, cond-false, cond-true, and_parts, false≢true, not-true, not-false, cases_Bool}
+use Rattle.std.proofs.lemmas.List.Sums.{sum_by-cons, length-filter, count_by-le-length}
 use Rattle.tt_doc.specs.Words.{in_first, pieces_of, words_of, is_some_text, has_no_space, is_word, begins_with_space}
 use Rattle.tt_doc.proofs.WordLaws.{words_of_are_words, length-joined, length-joined-words_of}
 
@@ -99,3 +99,34 @@ lengths_of_words ((b ∷ bytes) ∷ words) good =
 pub few_words : (text : List ℕ) → 2 * length (words_of text) ≤ length text + 1
 few_words text =
     omega (arith, length-joined-words_of text, length-joined (words_of text), lengths_of_words (words_of text) (words_of_are_words text))
+
+length-in_first : (b : ℕ) (pieces : List (List ℕ)) → 0 < length pieces → length (in_first b pieces) ≡ length pieces
+length-in_first b [] some = absurd (omega arith)
+length-in_first b (piece ∷ pieces) some = refl
+
+-- a text has one piece more than spaces
+length-pieces_of : (text : List ℕ) → length (pieces_of text) ≡ count_by (λ b. b == 32) text + 1
+length-pieces_of [] = refl
+length-pieces_of (b ∷ bytes) =
+    elim (cases_Bool (b == 32)) [
+      | inl space ↦
+          let one : ◌≡◌ {A = ℕ} (cond (b == 32) 1 0) 1 = cond-true (b == 32) 1 0 space in
+          let cut = ap (length {A = List ℕ}) (cond-true (b == 32) ([] ∷ pieces_of bytes) (in_first b (pieces_of bytes)) space) in
+          omega (arith, one, cut, sum_by-cons (λ (x : ℕ). cond (x == 32) 1 0) b bytes, length-pieces_of bytes)
+      | inr other ↦
+          let none : ◌≡◌ {A = ℕ} (cond (b == 32) 1 0) 0 = cond-false (b == 32) 1 0 other in
+          let same = ap (length {A = List ℕ}) (cond-false (b == 32) ([] ∷ pieces_of bytes) (in_first b (pieces_of bytes)) other) in
+          omega (
+            arith,
+            none,
+            same,
+            sum_by-cons (λ (x : ℕ). cond (x == 32) 1 0) b bytes,
+            length-pieces_of bytes,
+            length-in_first b (pieces_of bytes) (omega (arith, length-pieces_of bytes)),
+          )
+    ]
+
+-- so it has at most one word more
+pub words_by_spaces : (text : List ℕ) → length (words_of text) ≤ count_by (λ b. b == 32) text + 1
+words_by_spaces text =
+    omega (arith, length-filter is_some_text (pieces_of text), count_by-le-length is_some_text (pieces_of text), length-pieces_of text)

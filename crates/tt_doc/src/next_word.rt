@@ -1,5 +1,5 @@
 //! The words of a line, cut one after another where they stand.
-ghost use Rattle.std.specs.Prelude.{◌≡◌, ◌↔◌, ◌+◌, ◌*◌, ◌≤◌, ◌==◌, [], ◌∷◌, false, not, length, IsTrue, MatchOption};
+ghost use Rattle.std.specs.Prelude.{◌≡◌, ◌↔◌, ◌+◌, ◌*◌, ◌≤◌, ◌==◌, [], ◌∷◌, false, not, length, count_by, IsTrue, MatchOption};
 ghost use Rattle.std.specs.List.{prefix_len};
 ghost use Rattle.tt_doc.specs.Words.{begins_with_space, is_comment, words_of};
 
@@ -31,6 +31,13 @@ fn word_len(text: &[u8]) -> usize
         }
     }
     text.len()
+}
+
+#[inline(always)]
+fn count_spaces(text: &[u8]) -> usize
+    ensures { result ≡ count_by (λ b. b == 32) text.now }
+{
+    text.iter().filter(|b| **b == b' ').count()
 }
 
 /// What stands after the spaces in front.
@@ -76,6 +83,14 @@ impl<'a> LineWords<'a> {
         ensures { IsTrue result ↔ (self.now ≡ []) }
     {
         self.rest.is_empty()
+    }
+
+    /// How many words are left at most: one more than spaces.
+    #[inline(always)]
+    pub fn most(&self) -> usize
+        ensures { length self.now ≤ result }
+    {
+        count_spaces(self.rest) + 1
     }
 
     /// Whether no word is left, or the next one begins with `#`.

@@ -138,7 +138,7 @@ words_from_plain (word ∷ words) all =
     )
 
 -- a row is no comment
-spelling_is_no_comment : (row : Row) → is_comment (spelling_of row) ≡ false
+pub spelling_is_no_comment : (row : Row) → is_comment (spelling_of row) ≡ false
 spelling_is_no_comment r.Header = refl
 spelling_is_no_comment _ = refl
 

@@ -7,3 +7,4 @@ pub mod Content
 pub mod FormFault
 pub mod Parts
 pub mod Puts
+pub mod WhatIsRead
