@@ -46,6 +46,14 @@ impl<'a> Cursor<'a> {
         self.words.is_comment()
     }
 
+    /// How many words are left at most.
+    #[inline(always)]
+    pub fn most(&self) -> usize
+        ensures { length self.now ≤ result }
+    {
+        self.words.most()
+    }
+
     /// The next word.
     #[inline(always)]
     pub fn word(&mut self) -> Option<&'a [u8]>

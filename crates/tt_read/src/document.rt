@@ -73,6 +73,19 @@ fn read_line(
     }
 }
 
+/// How many rows a document has at most: each takes three bytes and a LF.
+fn most_rows(bytes: &[u8]) -> usize {
+    let lines = bytes.iter().filter(|b| **b == b'\n').count();
+    lines.min(bytes.len() / 4)
+}
+
+/// The empty list, with room for the rows of a document.
+fn no_rows(alloc: Global, bytes: &[u8]) -> Result<Rows, Memory>
+    ensures { IfOk result (λ rows. rows ≡ []) }
+{
+    Ok(Rows::from_vec(Vec::with_capacity(alloc, most_rows(bytes))?))
+}
+
 /// The rows of a document, or what is wrong with its form.
 ///
 /// A document is a list of lines, each of which a LF ends. A line has words with spaces around them. Where it has none, or
@@ -86,7 +99,7 @@ pub fn read(alloc: Global, bytes: &[u8]) -> Result<Rows, FormFault>
 
     ensures form { IfErr result (λ fault. IfForm fault (λ form. document_of bytes.now ≡ Document.Faulty form)) }
 {
-    let mut rows = Rows::new(alloc);
+    let mut rows = no_rows(alloc, bytes)?;
     let mut at = 0;
     let mut line = 0;
     loop {
