@@ -73,17 +73,15 @@ fn read_line(
     }
 }
 
-/// How many rows a document has at most: each takes three bytes and a LF.
-fn most_rows(bytes: &[u8]) -> usize {
-    let lines = bytes.iter().filter(|b| **b == b'\n').count();
-    lines.min(bytes.len() / 4)
-}
+/// How many bytes the line of a row has at least, with its LF.
+const LEAST_BYTES: usize = 4;
 
-/// The empty list, with room for the rows of a document.
-fn no_rows(alloc: Global, bytes: &[u8]) -> Result<Rows, Memory>
+/// The empty list, with room for the rows of as many bytes: a list that grows would be copied, and room that is not used
+/// is never touched.
+fn no_rows(alloc: Global, bytes: usize) -> Result<Rows, Memory>
     ensures { IfOk result (λ rows. rows ≡ []) }
 {
-    Ok(Rows::from_vec(Vec::with_capacity(alloc, most_rows(bytes))?))
+    Ok(Rows::from_vec(Vec::with_capacity(alloc, bytes / LEAST_BYTES)?))
 }
 
 /// The rows of a document, or what is wrong with its form.
@@ -99,7 +97,7 @@ pub fn read(alloc: Global, bytes: &[u8]) -> Result<Rows, FormFault>
 
     ensures form { IfErr result (λ fault. IfForm fault (λ form. document_of bytes.now ≡ Document.Faulty form)) }
 {
-    let mut rows = no_rows(alloc, bytes)?;
+    let mut rows = no_rows(alloc, bytes.len())?;
     let mut at = 0;
     let mut line = 0;
     loop {
