@@ -1,0 +1,156 @@
+//! The state of a run.
+
+ghost use Rattle.std.specs.Prelude.{◌≡◌, ◌-◌};
+ghost use Rattle.tt_world.specs.Runners.{is_done, job_at};
+ghost use Rattle.tt_world.specs.Rows.{HasMode, offset_of, mode_of, row_of};
+
+use crate::unfinished::Unfinished;
+use std::marker::Model;
+use task_lang::{Cursors, Left, Vars};
+use tt_base::{ModeNo, Owner, Series, TaskNo, Tick};
+use tt_world::{Activation, ConfigParts, ModeDef};
+
+/// An activation of the present round. Contracts see it as the definitions' job.
+#[derive(Debug, Drop)]
+pub struct Job {
+    /// The entry number of the row of the dispatcher table that activated the task.
+    pub entry: usize,
+    /// What is left of the task's body.
+    pub left: Left,
+}
+
+impl Model for Job {
+    ghost use Rattle.std.specs.Coded.{codes};
+    ghost use Rattle.task_lang.specs.contracts.syntax.Stmt as stmt;
+    ghost use Rattle.tt_world.specs.World.{Job as OfWorld};
+
+    ghost Value = { OfWorld };
+
+    ghost coded = { Prim.hlevel (codes, stmt.the_row.coded) };
+
+    ghost view = { λ j. record { entry = j.entry; left = j.left } };
+}
+
+/// The state of a run. Contracts see it as the world, and what the runner keeps beside it.
+#[derive(Drop)]
+pub(crate) struct State {
+    pub(crate) tick: Tick,
+    pub(crate) start: Tick,
+    pub(crate) number: u32,
+    pub(crate) mode: ModeNo,
+    pub(crate) wanted: ModeNo,
+    pub(crate) pending: i64,
+    pub(crate) latched: Option<u64>,
+    pub(crate) times_used: usize,
+    pub(crate) vars: Vars,
+    pub(crate) cursors: Cursors,
+    pub(crate) jobs: Series<Job>,
+    /// No job at another place has statements left.
+    pub(crate) unfinished: Unfinished,
+    pub(crate) isrs_enabled: Series<bool>,
+    pub(crate) isrs_held: Series<bool>,
+    pub(crate) oisrs_held: Series<bool>,
+    pub(crate) isrs_ticks: Series<Series<Tick>>,
+    pub(crate) oisrs_ticks: Series<Series<Tick>>,
+    pub(crate) isrs: Series<Left>,
+    pub(crate) oisrs: Series<Left>,
+    pub(crate) oseks: Series<Left>,
+    pub(crate) last: Option<Owner>,
+    /// The place of the table at which the next expiry point of the round stands.
+    pub(crate) place: usize,
+    /// Nothing is due at a tick from the present one on up to below this one.
+    pub(crate) next: Tick,
+    /// Whether an owner has ended since the acceptances were tried last.
+    pub(crate) ended: bool,
+}
+
+impl Model for State {
+    ghost use Rattle.std.specs.Prelude.{length};
+    ghost use Rattle.std.specs.Coded.{codes};
+    ghost use Rattle.task_lang.specs.contracts.syntax.Stmt as stmt;
+    ghost use Rattle.stack_dispatch.specs.State.{RunState};
+    ghost use Rattle.stack_dispatch.specs.Unfinished.{AreUnfinished};
+
+    ghost Value = { RunState };
+
+    ghost coded = { Prim.hlevel (codes, stmt.the_row.coded) };
+
+    ghost view = { λ s. record {
+      world = record {
+        tick = s.tick;
+        start = s.start;
+        number = s.number;
+        mode = s.mode;
+        wanted = s.wanted;
+        pending = s.pending;
+        latched = s.latched;
+        times_used = s.times_used;
+        vars = s.vars;
+        cursors = s.cursors;
+        jobs = s.jobs;
+        isrs_enabled = s.isrs_enabled;
+        isrs_held = s.isrs_held;
+        isrs = s.isrs;
+        oisrs_held = s.oisrs_held;
+        oisrs = s.oisrs;
+        oseks = s.oseks;
+        last = s.last;
+      };
+      isrs_ticks = s.isrs_ticks;
+      oisrs_ticks = s.oisrs_ticks;
+      place = s.place;
+      next = s.next;
+      ended = s.ended;
+    } };
+
+    ghost invariant = { λ s. AreUnfinished s.unfinished (length s.jobs) s.jobs };
+}
+
+/// Whether nothing is left.
+pub(crate) fn is_done(left: &Left) -> bool
+    ensures { result ≡ is_done left.now }
+{
+    left.is_empty()
+}
+
+/// Whether nothing is left of the job at a place. Of one that is not there nothing is left.
+pub(crate) fn is_done_at(jobs: &[Job], place: usize) -> bool
+    ensures { result ≡ is_done (job_at jobs.now place).left }
+{
+    match jobs.get(place) {
+        Some(job) => is_done(&job.left),
+        None => true,
+    }
+}
+
+/// The row of an entry number.
+pub(crate) fn row(mode: &ModeDef, entry: usize) -> Activation
+    ensures { result ≡ row_of mode.now entry }
+{
+    match mode.activations.as_slice().get(entry) {
+        Some(row) => *row,
+        None => Activation {
+            offset: 0,
+            task: TaskNo(0),
+            deadline: 0,
+            stringent: true,
+        },
+    }
+}
+
+impl State {
+    /// The offset of the instant in the present round.
+    pub(crate) fn offset(&self) -> u64
+        ensures { result ≡ offset_of self.now.world }
+    {
+        self.tick.saturating_sub(self.start)
+    }
+
+    /// The present mode.
+    pub(crate) fn mode_of<'a>(&self, config: &'a ConfigParts) -> &'a ModeDef
+        requires { HasMode config.now self.now.world }
+        ensures { result.now ≡ mode_of config.now self.now.world }
+    {
+        &config.modes.as_slice()[usize::from(self.mode.0)]
+    }
+}
