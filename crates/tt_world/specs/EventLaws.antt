@@ -57,7 +57,8 @@ is_activate event = false
 -- the activations of a mode with offsets below one, in a round that begins then
 abbrev pub activates_below : List ActivationRow → (start offset : ℕ) → List Event
 activates_below rows start offset =
-    map (λ (row : ActivationRow). Activate (start + row.offset) row.task) (filter (λ (row : ActivationRow). nat_lt row.offset offset) rows)
+    map (λ (row : ActivationRow). Activate (start + row.offset) row.task)
+        (filter (λ (row : ActivationRow). nat_lt row.offset offset) rows)
 
 -- after the end of the last round: a ttShutdownOS ends a run after the activation of its tick
 abbrev pub after_end : Status → ℕ → ℕ
@@ -70,7 +71,8 @@ ActivatesRows c events =
     EachRound
     (λ round rest.
     filter is_activate (until_round rest)
-    ≡ activates_below (mode_at c round.mode.0).activations round.start (next_start (after_end (status_of events) (last_stamp events)) rest - round.start))
+    ≡ activates_below (mode_at c round.mode.0).activations round.start
+        (next_start (after_end (status_of events) (last_stamp events)) rest - round.start))
     events
 
 -- ---- owners
@@ -79,22 +81,27 @@ ActivatesRows c events =
 abbrev pub IsOwner : ConfigParts → Option Owner → List TaskNo → List IsrNo → Type 0
 IsOwner c None tasks isrs = ⊥
 IsOwner c (Some (owner.Task task)) tasks isrs = (isrs ≡ []) × (last_of tasks ≡ Some task)
-IsOwner c (Some (owner.Isr isr)) tasks isrs = highest (isr_levels c) (map (λ (other : IsrNo). other.0) isrs) ≡ Some isr.0
+IsOwner c (Some (owner.Isr isr)) tasks isrs =
+    highest (isr_levels c) (map (λ (other : IsrNo). other.0) isrs) ≡ Some isr.0
 IsOwner c (Some who) tasks isrs = (isrs ≡ []) × (tasks ≡ [])
 
--- a task runs where no time-triggered routine is unfinished and it was activated last; a time-triggered routine where it is the one
+-- a task runs where no time-triggered routine is unfinished and it was activated last; a time-triggered routine where
+-- it is the one
 -- of the highest level; and anybody else where no task and no time-triggered routine is unfinished
 abbrev pub OwnersRun : ConfigParts → List Event → Type 0
 OwnersRun c events = (u : ℕ) → IsTaken events u → IsOwner c (owner_at u events) (tasks_at u events) (isrs_at u events)
 
 -- ---- checks
 
--- the checks of the rows of a round that begins at `start` whose point is due at a tick, up to the first that is missed: one is met
+-- the checks of the rows of a round that begins at `start` whose point is due at a tick, up to the first that is
+-- missed: one is met
 -- where the activation has ended
-unfoldable pub checked_rows : (seen : List Event) → (at start : ℕ) → ModeDef → (Point → Bool) → List ActivationRow → List Event
+unfoldable pub checked_rows : (seen : List Event) → (at start : ℕ) → ModeDef → (Point → Bool) → List ActivationRow
+    → List Event
 checked_rows seen at start mode is_due [] = []
 checked_rows seen at start mode is_due (row ∷ rest) =
-    check_row (is_due (point_of mode row)) (has_ended (start + row.offset) (owner.Task row.task) seen) (checked_rows seen at start mode is_due rest)
+    check_row (is_due (point_of mode row)) (has_ended (start + row.offset) (owner.Task row.task) seen)
+        (checked_rows seen at start mode is_due rest)
   where
     check_row : (due met : Bool) → List Event → List Event
     check_row false met others = others
@@ -106,10 +113,12 @@ is_check_at t (Check at task met) = at == t
 is_check_at t event = false
 
 -- at a tick a round that begins at `start` has the checks of the points that are due
-abbrev pub HasChecks : ConfigParts → (events : List Event) → RoundStart → (rest : List Event) → ℕ → (Point → Bool) → Type 0
+abbrev pub HasChecks : ConfigParts → (events : List Event) → RoundStart → (rest : List Event) → ℕ → (Point → Bool)
+    → Type 0
 HasChecks c events round rest t is_due =
     let mode = mode_at c round.mode.0 in
-    filter (is_check_at t) (until_round rest) ≡ checked_rows (seen_at t events) t round.start mode is_due mode.activations
+    filter (is_check_at t) (until_round rest) ≡ checked_rows
+        (seen_at t events) t round.start mode is_due mode.activations
 
 -- at the last tick of a round: the points that are not offsets of the round, where it ends by its length
 abbrev pub ChecksAtEnd : (last : Bool) → Status → ((Point → Bool) → Type 0) → ℕ → Type 0
@@ -132,14 +141,16 @@ pub record IsViolation (at : ℕ) (task : TaskNo) (after : List Event) : Type 0 
 
 pub record ChecksMonitor (c : ConfigParts) (events : List Event) : Type 0 where
   pub checks : EachRound
-      (λ round rest. (t : ℕ) → round.start ≤ t → t < next_start (last_stamp events) rest → HasChecks c events round rest t (is_at (t - round.start)))
+      (λ round rest. (t : ℕ) → round.start ≤ t → t < next_start (last_stamp events) rest
+          → HasChecks c events round rest t (is_at (t - round.start)))
       events
   pub at_end : EachRound
       (λ round rest.
       let end = next_start (last_stamp events) rest in
       ChecksAtEnd (is_last_round rest) (status_of events) (HasChecks c events round rest end) (end - round.start))
       events
-  pub violation : (before after : List Event) (at : ℕ) (task : TaskNo) → events ≡ before ++ Check at task false ∷ after → IsViolation at task after
+  pub violation : (before after : List Event) (at : ℕ) (task : TaskNo) → events ≡ before ++ Check at task false ∷ after
+      → IsViolation at task after
   pub hook : (before after : List Event) (at : ℕ) (task : TaskNo) → events ≡ before ++ ErrorHook at task ∷ after
       → (first : List Event) × (before ≡ first ++ Check at task false ∷ [])
 
@@ -190,7 +201,8 @@ unfoldable pub source_seen : Owner → SourceSeen → List Event → SourceSeen
 source_seen who seen [] = seen
 source_seen who seen (event ∷ rest) = source_seen who (seen_next who seen event) rest
 
--- between two acceptances, and before the first, there is exactly one arrival; between two there is an end, and an enable too where
+-- between two acceptances, and before the first, there is exactly one arrival; between two there is an end, and an
+-- enable too where
 -- the source is time-triggered
 pub record IsAdmitted (source : Source) (seen : SourceSeen) : Type 0 where
   pub one : seen.waiting ≡ 1
