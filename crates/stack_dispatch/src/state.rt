@@ -1,13 +1,14 @@
 //! The state of a run.
 
-ghost use Rattle.std.specs.Prelude.{◌≡◌, ◌-◌};
+ghost use Rattle.std.specs.Prelude.{◌≡◌, ◌≤◌, ◌-◌};
 ghost use Rattle.tt_world.specs.Runners.{is_done, job_at};
 ghost use Rattle.tt_world.specs.Rows.{HasMode, offset_of, mode_of, row_of};
 
 use crate::unfinished::Unfinished;
+use round_end::RoundState;
 use std::marker::Model;
 use task_lang::{Cursors, Left, Vars};
-use tt_base::{ModeNo, Owner, Series, TaskNo, Tick};
+use tt_base::{Owner, Series, TaskNo, Tick};
 use tt_world::{Activation, ConfigParts, ModeDef};
 
 /// An activation of the present round. Contracts see it as the definitions' job.
@@ -35,13 +36,7 @@ impl Model for Job {
 #[derive(Drop)]
 pub(crate) struct State {
     pub(crate) tick: Tick,
-    pub(crate) start: Tick,
-    pub(crate) number: u32,
-    pub(crate) mode: ModeNo,
-    pub(crate) wanted: ModeNo,
-    pub(crate) pending: i64,
-    pub(crate) latched: Option<u64>,
-    pub(crate) times_used: usize,
+    pub(crate) round: RoundState,
     pub(crate) vars: Vars,
     pub(crate) cursors: Cursors,
     pub(crate) jobs: Series<Job>,
@@ -56,12 +51,6 @@ pub(crate) struct State {
     pub(crate) oisrs: Series<Left>,
     pub(crate) oseks: Series<Left>,
     pub(crate) last: Option<Owner>,
-    /// The place of the table at which the next expiry point of the round stands.
-    pub(crate) place: usize,
-    /// Nothing is due at a tick from the present one on up to below this one.
-    pub(crate) next: Tick,
-    /// Whether an owner has ended since the acceptances were tried last.
-    pub(crate) ended: bool,
 }
 
 impl Model for State {
@@ -78,13 +67,13 @@ impl Model for State {
     ghost view = { λ s. record {
       world = record {
         tick = s.tick;
-        start = s.start;
-        number = s.number;
-        mode = s.mode;
-        wanted = s.wanted;
-        pending = s.pending;
-        latched = s.latched;
-        times_used = s.times_used;
+        start = s.round.start;
+        number = s.round.number;
+        mode = s.round.mode;
+        wanted = s.round.wanted;
+        pending = s.round.pending;
+        latched = s.round.latched;
+        times_used = s.round.times_used;
         vars = s.vars;
         cursors = s.cursors;
         jobs = s.jobs;
@@ -96,11 +85,15 @@ impl Model for State {
         oseks = s.oseks;
         last = s.last;
       };
-      isrs_ticks = s.isrs_ticks;
-      oisrs_ticks = s.oisrs_ticks;
-      place = s.place;
-      next = s.next;
-      ended = s.ended;
+      beside = record {
+        round = s.round.round;
+        adjust = s.round.adjust;
+        modes = s.round.modes;
+        rounds = s.round.rounds;
+        times = s.round.times;
+        isrs_ticks = s.isrs_ticks;
+        oisrs_ticks = s.oisrs_ticks;
+      };
     } };
 
     ghost invariant = { λ s. AreUnfinished s.unfinished (length s.jobs) s.jobs };
@@ -141,9 +134,10 @@ pub(crate) fn row(mode: &ModeDef, entry: usize) -> Activation
 impl State {
     /// The offset of the instant in the present round.
     pub(crate) fn offset(&self) -> u64
+        requires { self.now.world.start ≤ self.now.world.tick }
         ensures { result ≡ offset_of self.now.world }
     {
-        self.tick.saturating_sub(self.start)
+        self.round.offset(self.tick)
     }
 
     /// The present mode.
@@ -151,6 +145,6 @@ impl State {
         requires { HasMode config.now self.now.world }
         ensures { result.now ≡ mode_of config.now self.now.world }
     {
-        &config.modes.as_slice()[usize::from(self.mode.0)]
+        &config.modes.as_slice()[usize::from(self.round.mode().0)]
     }
 }
