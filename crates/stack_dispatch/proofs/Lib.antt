@@ -1,1 +1,2 @@
 pub mod LastUnfinished
+pub mod Openings
