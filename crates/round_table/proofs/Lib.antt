@@ -1,3 +1,5 @@
+pub mod Laid
+pub mod Cursors
 pub mod Cutting
 pub mod CheckOrder
 pub mod Entries

@@ -40,7 +40,7 @@ module _ (c : ConfigParts) where
 
   -- ---- activations
 
-  deadline_parts : (row : Activation) → is_activation c row ≡ true → (row.offset < row.deadline) × (row.deadline ≤ c.round - c.adjust)
+  pub deadline_parts : (row : Activation) → is_activation c row ≡ true → (row.offset < row.deadline) × (row.deadline ≤ c.round - c.adjust)
   deadline_parts row h =
       let later = (and_parts (nat_lt row.task.0 (length c.tasks)) (nat_lt row.offset row.deadline && nat_le row.deadline (c.round - c.adjust)) h).1 in
       let both = and_parts (nat_lt row.offset row.deadline) (nat_le row.deadline (c.round - c.adjust)) later in

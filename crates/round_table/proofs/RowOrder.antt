@@ -7,16 +7,21 @@ use Rattle.std.proofs.lemmas.Bool.{and_parts, or_cases, eqb-true, ltb-true}
 use Rattle.std.proofs.lemmas.List.Elements.{All-cons, All-nil}
 use Rattle.tt_base.specs.declared.number.IsrNo.{IsrNo}
 use Rattle.tt_world.specs.declared.config.Enable.{Enable}
-use Rattle.tt_world.specs.ConfigRules.{comes_before, enables_ascend}
+use Rattle.tt_world.specs.declared.config.ModeDef.{ModeDef}
+use Rattle.tt_world.specs.declared.config.ConfigParts.{ConfigParts}
+use Rattle.tt_world.specs.declared.world.Point.{Point}
+use Rattle.tt_world.specs.declared.world.Point.TheVariants as point
+use Rattle.tt_world.specs.ConfigRules.{comes_before, enables_ascend, is_activation}
 use Rattle.tt_world.specs.Points.{at_or_end, least_from, offsets_in, point_by, point_of}
 use Rattle.tt_world.specs.Rows.{no_row, row_of}
 use Rattle.tt_world.specs.RunLaws.{IsAfter}
-use Rattle.tt_world.proofs.TableRows.{AreRows, deadline_after, rows_ascend}
+use Rattle.tt_world.proofs.Deadlines.{IsFrom, point_is_from}
+use Rattle.tt_world.proofs.TableRows.{AreRows, deadline_after, list_all_get, rows_ascend}
 use Rattle.round_table.specs.DueRows.{isrs_of}
-use Rattle.round_table.specs.TableLaws.{PointsAreBehind, PointsHaveOneEnd, ChecksAreByOffset, EnablesAreByNumber, point_at, offset_at}
+use Rattle.round_table.specs.TableLaws.{PointsComeAfterActivations, PointsHaveOneEnd, ChecksAreByOffset, EnablesAreByNumber, point_at, offset_at}
 use Rattle.round_table.proofs.FreeOffsets.{all_before}
 use Rattle.round_table.proofs.LeastOffsets.{IsLeastFrom, least_is}
-use Rattle.round_table.proofs.ModeRows.{mode_within}
+use Rattle.round_table.proofs.ModeRows.{deadline_parts, mode_within}
 use Rattle.round_table.proofs.PointLimits.{IfOffset, IsOffset, points_one_end}
 
 -- ---- numbers that ascend
@@ -111,16 +116,15 @@ enables_by_number c mode rules offset = increasing _ (rises_numbers offset mode.
 
 -- ---- points
 
-pub points_behind : PointsAreBehind
-points_behind c mode rules entry l =
-    by (row_of mode entry).stringent (deadline_after c mode entry (record { activations = rules.activations; ascending = rules.ascending; apart = rules.apart }) l) where
-      least : (offset deadline : ℕ) → offset < deadline → (m : Option ℕ) → IsLeastFrom deadline (offsets_in mode) m → IsAfter offset (at_or_end m)
-      least offset deadline after None h = tt
-      least offset deadline after (Some m) h = let le = h.0 in omega arith
+pub points_after : PointsComeAfterActivations
+points_after c mode rules entry l =
+    after (point_at mode entry) (deadline_after c mode entry rows l) (deadline_parts c (row_of mode entry) (list_all_get (is_activation c) mode.activations entry no_row rules.activations l)).1 (point_is_from mode (row_of mode entry)) where
+      rows : AreRows c mode
+      rows = record { activations = rules.activations; ascending = rules.ascending; apart = rules.apart }
 
-      by : {offset deadline : ℕ} → (stringent : Bool) → offset < deadline → IsAfter offset (point_by stringent mode deadline)
-      by true after = after
-      by {offset} {deadline} false after = least offset deadline after (least_from deadline (offsets_in mode)) (least_is deadline (offsets_in mode))
+      after : {offset deadline : ℕ} (p : Point) → offset < deadline → deadline ≤ c.round - c.adjust → IsFrom deadline p → IsAfter c None offset p
+      after (point.At place) before within from = omega arith
+      after point.RoundEnd before within from = omega arith
 
 pub points_one : PointsHaveOneEnd
 points_one c mode rules entry other l m at_limit at_end =

@@ -2,6 +2,8 @@ pub mod TableRows
 pub mod DueRows
 pub mod NextOffset
 pub mod Cuts
+pub mod Below
+pub mod ExpiryPoints
 pub mod CheckLists
 pub mod Inside
 pub mod TableLaws

@@ -1,5 +1,5 @@
 -- Laws of the dispatcher tables of each configuration that meets the rules.
-use Rattle.std.specs.Prelude.{◌≡◌, ℕ, ◌-◌, ◌<◌, Bool, map, length}
+use Rattle.std.specs.Prelude.{◌≡◌, ℕ, ◌-◌, ◌<◌, Bool, None, map, length}
 use Rattle.std.specs.List.Sorted.{IsStrictlyIncreasing}
 use Rattle.tt_base.specs.declared.number.IsrNo.{IsrNo}
 use Rattle.tt_world.specs.declared.config.ConfigParts.{ConfigParts}
@@ -20,9 +20,10 @@ abbrev pub offset_at : ModeDef → ℕ → ℕ
 offset_at mode entry = (row_of mode entry).offset
 
 -- a monitoring point comes after the activation
-abbrev pub PointsAreBehind : Type 0
-PointsAreBehind =
-    (c : ConfigParts) (mode : ModeDef) → IsMode c mode → (entry : ℕ) → entry < length mode.activations → IsAfter (offset_at mode entry) (point_at mode entry)
+abbrev pub PointsComeAfterActivations : Type 0
+PointsComeAfterActivations =
+    (c : ConfigParts) (mode : ModeDef) → IsMode c mode → (entry : ℕ) → entry < length mode.activations
+    → IsAfter c None (offset_at mode entry) (point_at mode entry)
 
 -- no mode has both a point at the offset L - A and one at the round's end
 abbrev pub PointsHaveOneEnd : Type 0

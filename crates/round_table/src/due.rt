@@ -5,12 +5,21 @@
 pub struct Due {
     /// The place of the first check.
     pub checks_from: usize,
-    /// The place behind the last check.
+    /// The place after the last check.
     pub checks_to: usize,
     /// The place of the first enable.
     pub enables_from: usize,
-    /// The place behind the last enable.
+    /// The place after the last enable.
     pub enables_to: usize,
     /// The entry number of the row that activates, if there is one.
     pub activation: Option<usize>,
+}
+
+/// An offset of the round at which something stands, and what is due there. The OSEK/VDX standard: the expiry points of a dispatcher
+/// table.
+#[derive(Clone, Copy, Debug, PartialEq, Eq)]
+pub struct ExpiryPoint {
+    /// In ticks from the start of the round.
+    pub offset: u64,
+    pub due: Due,
 }

@@ -1,10 +1,10 @@
 //! Laws of the dispatcher tables of every configuration. Each is the contract of a function with an empty body.
 
-ghost use Rattle.round_table.specs.TableLaws.{ChecksAreByOffset, EnablesAreByNumber, PointsAreBehind, PointsHaveOneEnd};
+ghost use Rattle.round_table.specs.TableLaws.{ChecksAreByOffset, EnablesAreByNumber, PointsComeAfterActivations, PointsHaveOneEnd};
 
 /// A monitoring point comes after the activation that it is the point of.
-pub fn points_are_behind()
-    ensures { PointsAreBehind }
+pub fn points_come_after_activations()
+    ensures { PointsComeAfterActivations }
 {}
 
 /// No mode has both a monitoring point at the round's length less the greatest correction and one at the round's end.

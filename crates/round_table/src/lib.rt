@@ -11,9 +11,9 @@ mod points;
 mod table;
 mod tables;
 
-pub use due::Due;
+pub use due::{Due, ExpiryPoint};
 pub use laws::{
-    checks_are_by_offset, enables_are_by_number, points_are_behind, points_have_one_end,
+    checks_are_by_offset, enables_are_by_number, points_come_after_activations, points_have_one_end,
 };
 pub use table::Table;
 pub use tables::Tables;
