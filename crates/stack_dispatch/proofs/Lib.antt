@@ -1,2 +1,6 @@
 pub mod LastUnfinished
+pub mod Highest
+pub mod Playing
 pub mod Openings
+pub mod Checking
+pub mod Served

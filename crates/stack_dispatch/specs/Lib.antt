@@ -1,3 +1,7 @@
 pub mod State
-pub mod Due
 pub mod Unfinished
+pub mod Lefts
+pub mod Due
+pub mod RunEnd
+pub mod Checking
+pub mod Served

@@ -1,5 +1,7 @@
 -- What contracts see of the state of a run.
-use Rattle.std.specs.Prelude.{ℕ, List}
+use Rattle.std.specs.Prelude.{◌≡◌, ℕ, List, length}
+use Rattle.tt_world.specs.declared.config.ConfigParts.{ConfigParts}
+use Rattle.tt_world.specs.declared.script.ScriptParts.{ScriptParts}
 use Rattle.tt_world.specs.World.{World}
 
 -- what the runner keeps beside the world: how long a round is, how far it is corrected, how many modes and rounds there are, the
@@ -16,3 +18,21 @@ pub record Beside : Type 0 where
 pub record RunState : Type 0 where
   pub world : World
   pub beside : Beside
+
+-- what stays as it is over a run
+pub record Fixed : Type 0 where
+  pub round : ℕ
+  pub adjust : ℕ
+  pub modes : ℕ
+  pub rounds : ℕ
+  pub times : List ℕ
+
+abbrev pub fixed_in : Beside → Fixed
+fixed_in b = record { round = b.round; adjust = b.adjust; modes = b.modes; rounds = b.rounds; times = b.times }
+
+abbrev pub fixed_of : ConfigParts → ScriptParts → Fixed
+fixed_of c s = record { round = c.round; adjust = c.adjust; modes = length c.modes; rounds = s.rounds; times = s.times }
+
+-- what is kept is that of a configuration and of a script
+abbrev pub IsFor : ConfigParts → ScriptParts → Beside → Type 0
+IsFor c s b = fixed_in b ≡ fixed_of c s

@@ -1,5 +1,10 @@
 //! The dispatcher: a run of a configuration and a script, instant by instant.
 #![tactic(auto)]
 
+mod hooks;
+mod lefts;
+mod monitoring;
+mod plain;
+mod rounds;
 mod state;
 mod unfinished;

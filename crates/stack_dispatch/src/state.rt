@@ -1,9 +1,10 @@
 //! The state of a run.
 
-ghost use Rattle.std.specs.Prelude.{◌≡◌, ◌≤◌, ◌-◌};
+ghost use Rattle.std.specs.Prelude.{◌≡◌};
 ghost use Rattle.tt_world.specs.Runners.{is_done, job_at};
 ghost use Rattle.tt_world.specs.Rows.{HasMode, offset_of, mode_of, row_of};
 
+use crate::lefts::Lefts;
 use crate::unfinished::Unfinished;
 use round_end::RoundState;
 use std::marker::Model;
@@ -45,11 +46,11 @@ pub(crate) struct State {
     pub(crate) isrs_enabled: Series<bool>,
     pub(crate) isrs_held: Series<bool>,
     pub(crate) oisrs_held: Series<bool>,
-    pub(crate) isrs_ticks: Series<Series<Tick>>,
-    pub(crate) oisrs_ticks: Series<Series<Tick>>,
-    pub(crate) isrs: Series<Left>,
-    pub(crate) oisrs: Series<Left>,
-    pub(crate) oseks: Series<Left>,
+    pub(crate) isrs_left: Series<Series<Tick>>,
+    pub(crate) oisrs_left: Series<Series<Tick>>,
+    pub(crate) isrs: Lefts,
+    pub(crate) oisrs: Lefts,
+    pub(crate) oseks: Lefts,
     pub(crate) last: Option<Owner>,
 }
 
@@ -91,8 +92,8 @@ impl Model for State {
         modes = s.round.modes;
         rounds = s.round.rounds;
         times = s.round.times;
-        isrs_ticks = s.isrs_ticks;
-        oisrs_ticks = s.oisrs_ticks;
+        isrs_ticks = s.isrs_left;
+        oisrs_ticks = s.oisrs_left;
       };
     } };
 
@@ -116,6 +117,16 @@ pub(crate) fn is_done_at(jobs: &[Job], place: usize) -> bool
     }
 }
 
+/// The entry number of the job at a place. Of one that is not there it is 0.
+pub(crate) fn entry_at(jobs: &[Job], place: usize) -> usize
+    ensures { result ≡ (job_at jobs.now place).entry }
+{
+    match jobs.get(place) {
+        Some(job) => job.entry,
+        None => 0,
+    }
+}
+
 /// The row of an entry number.
 pub(crate) fn row(mode: &ModeDef, entry: usize) -> Activation
     ensures { result ≡ row_of mode.now entry }
@@ -134,10 +145,9 @@ pub(crate) fn row(mode: &ModeDef, entry: usize) -> Activation
 impl State {
     /// The offset of the instant in the present round.
     pub(crate) fn offset(&self) -> u64
-        requires { self.now.world.start ≤ self.now.world.tick }
         ensures { result ≡ offset_of self.now.world }
     {
-        self.round.offset(self.tick)
+        self.tick.saturating_sub(self.round.start())
     }
 
     /// The present mode.
