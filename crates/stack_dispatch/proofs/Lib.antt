@@ -4,3 +4,5 @@ pub mod Playing
 pub mod Openings
 pub mod Checking
 pub mod Served
+pub mod Scanning
+pub mod Accepting

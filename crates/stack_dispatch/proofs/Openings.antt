@@ -11,7 +11,7 @@ use Rattle.tt_world.specs.declared.script.ScriptParts.{ScriptParts}
 use Rattle.tt_world.specs.declared.world.Point.{Point}
 use Rattle.tt_world.specs.World.{World, Source, Job}
 use Rattle.tt_world.specs.Correction.{is_length}
-use Rattle.tt_world.specs.Gates.{enable, enables, arrivals_of, arrival, arrivals, is_accepted, acceptance, acceptances, sources}
+use Rattle.tt_world.specs.Gates.{enable, enables, arrivals_of, arrival, arrivals, acceptance, acceptances, sources}
 use Rattle.tt_world.specs.Monitoring.{Checked, is_at, checked, check_if, check_then, after_checks, monitored}
 use Rattle.tt_world.specs.Moved.{Moved, goes_on, preceded, is_over, continued, followed, chain}
 use Rattle.tt_world.specs.Opening.{checks, activated, activation, due, first_parts, later_parts, opening}
@@ -22,6 +22,7 @@ use Rattle.tt_world.specs.Runners.{job_at, is_done}
 use Rattle.tt_world.proofs.Moves.{going_from}
 use Rattle.tt_world.proofs.Parts.{by_end, Alone, Anything}
 use Rattle.tt_world.proofs.Keeps.{Holds, monitored_holds, IgnoresGates, enables_hold, arrivals_hold, acceptances_hold}
+use Rattle.stack_dispatch.specs.Sources.{NoneAccepted}
 use Rattle.stack_dispatch.specs.Due.{enables_from, due_from}
 
 -- ---- parts
@@ -129,10 +130,6 @@ pub record NothingDue (c : ConfigParts) (s : ScriptParts) (w : World) : Type 0 w
   pub enables : enables_at (offset_of w) (mode_of c w).enables ≡ []
   pub arrivals : (source : Source) → list_any (λ tick. tick == w.tick) (arrivals_of s source) ≡ false
   pub activation : entry_at (offset_of w) (mode_of c w).activations ≡ None
-
--- nothing can be accepted
-abbrev pub NoneAccepted : World → Type 0
-NoneAccepted w = (source : Source) → is_accepted w source ≡ false
 
 module _ (c : ConfigParts) (s : ScriptParts) (w : World) (n : NothingDue c s w) where
   no_checks : monitored c (is_at (offset_of w)) w ≡ goes_on w []

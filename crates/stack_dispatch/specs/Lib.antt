@@ -5,3 +5,4 @@ pub mod Due
 pub mod RunEnd
 pub mod Checking
 pub mod Served
+pub mod Sources

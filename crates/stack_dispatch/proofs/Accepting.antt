@@ -1,0 +1,120 @@
+-- The acceptances are done at the first source at which an interrupt can be accepted, again and again.
+use Rattle.std.proofs.Common.{◌≡◌, ℕ, zero, suc, ◌≢◌, ◌<◌, ◌≤◌, ◌+◌, List, [], ◌∷◌, ◌++◌, Bool, true, false, Option, None, Some, refl, ap, sym, ◌∙◌, subst, length, arith, get_or, set, get_or-set_same, get_or-set_other, ⊎_elim}
+use Rattle.std.specs.Prelude.{◌&&◌, not, map, if◌then◌else◌}
+use Rattle.std.specs.List.{find, range_with_len}
+use Rattle.std.proofs.Math.Seq.{set_out}
+use Rattle.std.proofs.lemmas.List.{get_or_past}
+use Rattle.std.proofs.lemmas.Bool.{cases_lt, cases_eq}
+use Rattle.task_lang.specs.declared.syntax.Stmt.{Stmt}
+use Rattle.tt_base.specs.declared.event.Event.{Event}
+use Rattle.tt_base.specs.declared.number.IsrNo.{IsrNo}
+use Rattle.tt_base.specs.declared.number.OisrNo.{OisrNo}
+use Rattle.tt_base.specs.declared.event.Owner.TheVariants as owner
+use Rattle.tt_world.specs.declared.config.ConfigParts.{ConfigParts}
+use Rattle.tt_world.specs.World.{World, Source, IsrSource, OisrSource}
+use Rattle.tt_world.specs.Moved.{goes_on}
+use Rattle.tt_world.specs.Gates.{sources, source_owner, source_runner, is_held, is_enabled, is_accepted, acceptance, acceptances, holding, disabling}
+use Rattle.tt_world.specs.Rows.{routine_of}
+use Rattle.tt_world.specs.Runners.{is_done, left_of, leaving}
+use Rattle.isr_window.specs.Busy.{BusySources, is_busy}
+use Rattle.isr_window.specs.Window.{Window, is_ready, all_sources}
+use Rattle.stack_dispatch.specs.State.{RunState}
+use Rattle.stack_dispatch.specs.Sources.{Action, accepting, NoneAccepted, IsSource, AreBusy, window_in, HasLists}
+use Rattle.stack_dispatch.proofs.Scanning.{Settles, scan, chain_scan}
+
+-- ---- an acceptance settles its source
+
+unset : (xs : List Bool) (i : ℕ) → get_or (set xs i false) i false ≡ false
+unset xs i =
+    ⊎_elim (λ (l : i < length xs). get_or-set_same xs i false false l)
+    (λ (g : length xs ≤ i). ap (λ ys. get_or ys i false) (set_out xs i false g) ∙ get_or_past xs i false g) (cases_lt i (length xs))
+
+abbrev accepted_by : (held enabled : Bool) → List Stmt → Bool
+accepted_by held enabled left = held && (enabled && is_done left)
+
+module _ (c : ConfigParts) where
+  pub settles : Settles (accepting c) (λ _. Unit {0})
+  settles = record { here = here; others = others }
+    where
+      here : (x : Source) (w : World) → Unit {0} → is_accepted w x ≡ true
+          → is_accepted (leaving (disabling (holding w x false) x) (source_runner x) (routine_of c x)) x ≡ false
+      here (IsrSource i) w u e = ap (λ b. b && _) (unset w.isrs_held i.0)
+      here (OisrSource i) w u e = ap (λ b. b && _) (unset w.oisrs_held i.0)
+
+      others : (x y : Source) (w : World) → Unit {0} → is_accepted w y ≡ false
+          → is_accepted (leaving (disabling (holding w x false) x) (source_runner x) (routine_of c x)) y ≡ false
+      others (IsrSource i) (IsrSource j) w u f =
+          ⊎_elim (λ (e : j.0 ≡ i.0). rw e (ap (λ b. b && _) (unset w.isrs_held i.0)))
+          (λ (ne : j.0 ≢ i.0).
+          ap (λ b. accepted_by b _ _) (get_or-set_other w.isrs_held i.0 j.0 false false ne)
+          ∙ ap (λ b. accepted_by (get_or w.isrs_held j.0 false) b _) (get_or-set_other w.isrs_enabled i.0 j.0 false false ne)
+          ∙ ap (λ l. accepted_by (get_or w.isrs_held j.0 false) (get_or w.isrs_enabled j.0 false) l) (get_or-set_other w.isrs i.0 j.0 (routine_of c (IsrSource i)) [] ne) ∙ f)
+          (cases_eq j.0 i.0)
+      others (IsrSource i) (OisrSource j) w u f = f
+      others (OisrSource i) (IsrSource j) w u f = f
+      others (OisrSource i) (OisrSource j) w u f =
+          ⊎_elim (λ (e : j.0 ≡ i.0). rw e (ap (λ b. b && _) (unset w.oisrs_held i.0)))
+          (λ (ne : j.0 ≢ i.0).
+          ap (λ b. accepted_by b true _) (get_or-set_other w.oisrs_held i.0 j.0 false false ne)
+          ∙ ap (λ l. accepted_by (get_or w.oisrs_held j.0 false) true l) (get_or-set_other w.oisrs i.0 j.0 (routine_of c (OisrSource i)) [] ne) ∙ f)
+          (cases_eq j.0 i.0)
+
+  pub acceptances_scan : (w : World)
+      → acceptances c w ≡ goes_on (scan (accepting c) (sources c) w).state (scan (accepting c) (sources c) w).events
+  unfolding acceptances acceptance
+  acceptances_scan w =
+      chain_scan (accepting c) (λ v. v) (acceptance c) (λ _ _. Unit {0}) (λ x xs v _. refl) (λ x xs v _ _. tt) (λ x xs v _. tt) (sources c) w tt
+
+  -- ---- the source that is found
+
+  abbrev Each : (Source → Type 0) → List Source → Type 0
+  Each E [] = Unit {0}
+  Each E (x ∷ xs) = E x × Each E xs
+
+  each_more : (E : Source → Type 0) (xs ys : List Source) → Each E xs → Each E ys → Each E (xs ++ ys)
+  each_more E [] ys p q = q
+  each_more E (x ∷ xs) ys p q = (p.0, each_more E xs ys p.1 q)
+
+  each_number : (E : Source → Type 0) (mk : ℕ → Source) (k n : ℕ) → ((j : ℕ) → k ≤ j → j < k + n → E (mk j)) → Each E (map mk (range_with_len k n))
+  each_number E mk k zero h = tt
+  each_number E mk k (suc n) h = (h k (omega arith) (omega arith), each_number E mk (k + 1) n (λ j l m. h j (omega arith) (omega arith)))
+
+  each_source : Each (IsSource c) (sources c)
+  each_source =
+      each_more (IsSource c) _ _
+      (each_number (IsSource c) (λ (j : ℕ). IsrSource (record { 0 = j })) 0 (length c.isrs) (λ j l m. omega arith))
+      (each_number (IsSource c) (λ (j : ℕ). OisrSource (record { 0 = j })) 0 (length c.oisrs) (λ j l m. omega arith))
+
+  pub find_alike : (p q : Source → Bool) → ((x : Source) → IsSource c x → p x ≡ q x) → find p (sources c) ≡ find q (sources c)
+  find_alike p q same = alike (sources c) each_source
+    where
+      alike : (xs : List Source) → Each (IsSource c) xs → find p xs ≡ find q xs
+      alike [] e = refl
+      alike (x ∷ xs) e = ap (λ b. if b then Some x else find p xs) (same x e.0) ∙ ap (λ o. if q x then Some x else o) (alike xs e.1)
+
+  pub same_sources : (st : RunState) → HasLists c st.beside → all_sources (window_in st) ≡ sources c
+  same_sources st h =
+      ap (λ (n : ℕ). map (λ (j : ℕ). IsrSource (record { 0 = j })) (range_with_len 0 n) ++ map (λ (j : ℕ). OisrSource (record { 0 = j })) (range_with_len 0 (length st.beside.oisrs_ticks))) h.isrs
+      ∙ ap (λ (n : ℕ). map (λ (j : ℕ). IsrSource (record { 0 = j })) (range_with_len 0 (length c.isrs)) ++ map (λ (j : ℕ). OisrSource (record { 0 = j })) (range_with_len 0 n)) h.oisrs
+
+  ready_same : (busy : BusySources) (st : RunState) → AreBusy c busy st.world → (x : Source) → IsSource c x
+      → is_ready busy (window_in st) x ≡ is_accepted st.world x
+  ready_same busy st are (IsrSource i) is = by_held _ (are (IsrSource i) is)
+    where
+      by_held : (held : Bool) → (held ≡ true → not (is_busy busy (owner.Isr i)) ≡ is_done (get_or st.world.isrs i.0 []))
+          → (held && (get_or st.world.isrs_enabled i.0 false && not (is_busy busy (owner.Isr i)))) ≡ (held && (get_or st.world.isrs_enabled i.0 false && is_done (get_or st.world.isrs i.0 [])))
+      by_held true h = ap (λ b. get_or st.world.isrs_enabled i.0 false && b) (h refl)
+      by_held false h = refl
+  ready_same busy st are (OisrSource i) is = by_held _ (are (OisrSource i) is)
+    where
+      by_held : (held : Bool) → (held ≡ true → not (is_busy busy (owner.Oisr i)) ≡ is_done (get_or st.world.oisrs i.0 []))
+          → (held && (true && not (is_busy busy (owner.Oisr i)))) ≡ (held && (true && is_done (get_or st.world.oisrs i.0 [])))
+      by_held true h = ap (λ b. true && b) (h refl)
+      by_held false h = refl
+
+  -- the first interrupt that is ready is the first that can be accepted
+  pub first_same : (busy : BusySources) (st : RunState) → AreBusy c busy st.world → HasLists c st.beside
+      → find (is_ready busy (window_in st)) (all_sources (window_in st)) ≡ find (is_accepted st.world) (sources c)
+  first_same busy st are h =
+      ap (find (is_ready busy (window_in st))) (same_sources st h)
+      ∙ find_alike (is_ready busy (window_in st)) (is_accepted st.world) (ready_same busy st are)
