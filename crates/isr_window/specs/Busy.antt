@@ -1,5 +1,5 @@
 -- The sources whose routines are unfinished.
-use Rattle.std.specs.Prelude.{◌≡◌, ℕ, ◌<◌, Bool, true, false, List, replicate, slice_index_or, slice_set}
+use Rattle.std.specs.Prelude.{◌<◌, Bool, true, false, List, replicate, slice_index_or, slice_set}
 use Rattle.tt_base.specs.declared.event.Owner.{Owner}
 use Rattle.tt_base.specs.declared.event.Owner.TheVariants.{Isr, Oisr}
 

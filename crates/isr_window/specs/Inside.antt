@@ -29,8 +29,10 @@ window_of g = record {
   oisrs_left = g.oisrs_left;
 }
 
--- there is a flag for each list, and the least tick is known
+-- there are at most 16 sources of each kind, there is a flag for each, and the least tick is known
 pub record IsWindow (g : GatesInside) : Type 0 where
+  pub isrs : length g.isrs_left ≤ 16
+  pub oisrs : length g.oisrs_left ≤ 16
   pub isrs_enabled : length g.isrs_enabled ≡ length g.isrs_left
   pub isrs_held : length g.isrs_held ≡ length g.isrs_left
   pub oisrs_held : length g.oisrs_held ≡ length g.oisrs_left

@@ -1,6 +1,6 @@
 //! The sources whose routines are unfinished.
 
-ghost use Rattle.std.specs.Prelude.{◌≡◌, false, slice_index_or};
+ghost use Rattle.std.specs.Prelude.{◌≡◌};
 ghost use Rattle.isr_window.specs.Busy.{IsNumbered, is_busy, marked, none_busy};
 
 use crate::flags::{Flags, MOST};
@@ -56,23 +56,23 @@ impl Busy {
         ensures { result ≡ is_busy self.now source }
     {
         match source {
-            Owner::Isr(isr) => self.isr(usize::from(isr.0)),
-            Owner::Oisr(oisr) => self.oisr(usize::from(oisr.0)),
+            Owner::Isr(isr) => self.isrs.is(usize::from(isr.0)),
+            Owner::Oisr(oisr) => self.oisrs.is(usize::from(oisr.0)),
             _ => unreachable!(),
         }
     }
 
-    /// Whether the time-triggered source of a number is in the set.
-    pub(crate) fn isr(&self, number: usize) -> bool
-        ensures { result ≡ slice_index_or self.now.isrs number false }
+    /// The flags of the time-triggered sources.
+    pub(crate) fn isrs(&self) -> &Flags
+        ensures { result.now ≡ self.now.isrs }
     {
-        self.isrs.is(number)
+        &self.isrs
     }
 
-    /// Whether the source of a number of the OSEK subsystem is in the set.
-    pub(crate) fn oisr(&self, number: usize) -> bool
-        ensures { result ≡ slice_index_or self.now.oisrs number false }
+    /// The flags of the sources of the OSEK subsystem.
+    pub(crate) fn oisrs(&self) -> &Flags
+        ensures { result.now ≡ self.now.oisrs }
     {
-        self.oisrs.is(number)
+        &self.oisrs
     }
 }

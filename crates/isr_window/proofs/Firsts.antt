@@ -1,0 +1,99 @@
+-- The first number that passes a test, and the least of the first ticks, as loops find them.
+use Rattle.std.proofs.Common.{ℕ, zero, suc, ◌≡◌, ◌<◌, ◌≤◌, ◌+◌, ◌-◌, Bool, true, false, cond, ◌≢◌, List, [], ◌∷◌, length, get_or, drop, refl, sym, ap, ◌∙◌, arith}
+use Rattle.std.specs.Prelude.{Option, None, Some, find, map, option_map, slice_get}
+use Rattle.std.specs.List.{range_with_len}
+use Rattle.std.specs.Option.{ForSome}
+use Rattle.std.proofs.lemmas.Bool.{eqb-false, ne_eqb}
+use Rattle.std.proofs.lemmas.List.{drop_more}
+use Rattle.isr_window.specs.Window.{is_at, is_next, lesser, least_next}
+
+-- the numbers from one on
+range_here : (i n : ℕ) → i < n → range_with_len i (n - i) ≡ i ∷ range_with_len (i + 1) (n - (i + 1))
+range_here i n here =
+    let one : n - i ≡ suc (n - (i + 1)) = omega arith in
+    ap (range_with_len i) one
+
+pub passes_here : (test : ℕ → Bool) (i n : ℕ) → i < n → test i ≡ true → find test (range_with_len i (n - i)) ≡ Some i
+passes_here test i n here passes =
+    ap (find test) (range_here i n here) ∙ ap (λ b. cond b (Some i) (find test (range_with_len (i + 1) (n - (i + 1))))) passes
+
+pub fails_here : (test : ℕ → Bool) (i n : ℕ) → i < n → test i ≡ false → find test (range_with_len i (n - i)) ≡ find test (range_with_len (i + 1) (n - (i + 1)))
+fails_here test i n here fails =
+    ap (find test) (range_here i n here) ∙ ap (λ b. cond b (Some i) (find test (range_with_len (i + 1) (n - (i + 1))))) fails
+
+pub none_left : (test : ℕ → Bool) (i n : ℕ) → n ≤ i → find test (range_with_len i (n - i)) ≡ None
+none_left test i n past =
+    let none : n - i ≡ 0 = omega arith in
+    ap (λ k. find test (range_with_len i k)) none
+
+-- no number passes
+pub none_passes : (test : ℕ → Bool) (i n : ℕ) → ((k : ℕ) → test k ≡ false) → find test (range_with_len i n) ≡ None
+none_passes test i zero fail = refl
+none_passes test i (suc n) fail =
+    ap (λ b. cond b (Some i) (find test (range_with_len (i + 1) n))) (fail i) ∙ none_passes test (i + 1) n fail
+
+-- ---- the lesser of two ticks
+
+pub lesser-none : (a : Option ℕ) → lesser a None ≡ a
+lesser-none None = refl
+lesser-none (Some x) = refl
+
+pub lesser_assoc : (a b c : Option ℕ) → lesser (lesser a b) c ≡ lesser a (lesser b c)
+lesser_assoc None b c = refl
+lesser_assoc (Some x) None c = refl
+lesser_assoc (Some x) (Some y) None = refl
+lesser_assoc (Some x) (Some y) (Some z) = ap Some (omega arith)
+
+pub least_more : (least : Option ℕ) (lists : List (List ℕ)) (i : ℕ) → i < length lists → lesser (lesser least (slice_get (get_or lists i []) 0)) (least_next (drop (i + 1) lists)) ≡ lesser least (least_next (drop i lists))
+unfolding least_next
+least_more least lists i here =
+    lesser_assoc least (slice_get (get_or lists i []) 0) (least_next (drop (i + 1) lists))
+    ∙ ap (λ xs. lesser least (least_next xs)) (sym (drop_more lists i [] here))
+
+-- ---- what a first number is
+
+-- it is one of the numbers
+pub found_below : (test : ℕ → Bool) (i n k : ℕ) → find test (range_with_len i n) ≡ Some k → k < i + n
+found_below test i zero k found = absurd cc
+found_below test i (suc n) k found = by_test (test i) (λ e. found_below test (i + 1) n k e) found
+  where
+    by_test : (passes : Bool) → (find test (range_with_len (i + 1) n) ≡ Some k → k < i + 1 + n) → cond passes (Some i) (find test (range_with_len (i + 1) n)) ≡ Some k → k < i + suc n
+    by_test true below e = let same : i ≡ k = cc in omega arith
+    by_test false below e = let here = below e in omega arith
+
+pub find-map : {X : Type 0} (test : X → Bool) (f : ℕ → X) (numbers : List ℕ) → find test (map f numbers) ≡ option_map f (find (λ number. test (f number)) numbers)
+find-map test f [] = refl
+find-map test f (number ∷ rest) = by_test (test (f number)) (find-map test f rest)
+  where
+    by_test : (passes : Bool) → find test (map f rest) ≡ option_map f (find (λ number. test (f number)) rest) → cond passes (Some (f number)) (find test (map f rest)) ≡ option_map f (cond passes (Some number) (find (λ number. test (f number)) rest))
+    by_test true e = refl
+    by_test false e = e
+
+-- ---- no tick before the least one
+
+-- each tick that there is comes after this one
+abbrev pub IsAfter : ℕ → Option ℕ → Type 0
+IsAfter now None = Unit {0}
+IsAfter now (Some tick) = now < tick
+
+pub is_after : (now : ℕ) (tick : Option ℕ) → ForSome tick (λ t. now ≤ t) → is_at now tick ≡ false → IsAfter now tick
+is_after now None none_before other = tt
+is_after now (Some tick) none_before other =
+    let from : now ≤ tick = none_before tick refl in
+    let differ : tick ≢ now = eqb-false tick now other in
+    omega arith
+
+is_not_at : (now : ℕ) (tick : Option ℕ) → IsAfter now tick → is_at now tick ≡ false
+is_not_at now None after = refl
+is_not_at now (Some tick) after = let differ : tick ≢ now = omega arith in ne_eqb tick now differ
+
+pub after_both : (now : ℕ) (a b : Option ℕ) → IsAfter now (lesser a b) → (IsAfter now a) × (IsAfter now b)
+after_both now None b after = (tt, after)
+after_both now (Some x) None after = (after, tt)
+after_both now (Some x) (Some y) after = (omega arith, omega arith)
+
+pub none_next : (now : ℕ) (lists : List (List ℕ)) → IsAfter now (least_next lists) → (k : ℕ) → is_next now (get_or lists k []) ≡ false
+unfolding least_next
+none_next now [] after k = refl
+none_next now (ticks ∷ rest) after zero = is_not_at now (slice_get ticks 0) (after_both now (slice_get ticks 0) (least_next rest) after).0
+none_next now (ticks ∷ rest) after (suc k) = none_next now rest (after_both now (slice_get ticks 0) (least_next rest) after).1 k

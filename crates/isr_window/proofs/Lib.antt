@@ -1,0 +1,4 @@
+pub mod Counted
+pub mod Taken
+pub mod Firsts
+pub mod Chosen
