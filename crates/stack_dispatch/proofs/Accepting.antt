@@ -29,6 +29,9 @@ unset xs i =
     ⊎_elim (λ (l : i < length xs). get_or-set_same xs i false false l)
     (λ (g : length xs ≤ i). ap (λ ys. get_or ys i false) (set_out xs i false g) ∙ get_or_past xs i false g) (cases_lt i (length xs))
 
+none_held : (held rest : Bool) → held ≡ false → (held && rest) ≡ false
+none_held held rest e = ap (λ b. b && rest) e
+
 abbrev accepted_by : (held enabled : Bool) → List Stmt → Bool
 accepted_by held enabled left = held && (enabled && is_done left)
 
@@ -38,24 +41,24 @@ module _ (c : ConfigParts) where
     where
       here : (x : Source) (w : World) → Unit {0} → is_accepted w x ≡ true
           → is_accepted (leaving (disabling (holding w x false) x) (source_runner x) (routine_of c x)) x ≡ false
-      here (IsrSource i) w u e = ap (λ b. b && _) (unset w.isrs_held i.0)
-      here (OisrSource i) w u e = ap (λ b. b && _) (unset w.oisrs_held i.0)
+      here (IsrSource i) w u e = none_held _ _ (unset w.isrs_held i.0)
+      here (OisrSource i) w u e = none_held _ _ (unset w.oisrs_held i.0)
 
       others : (x y : Source) (w : World) → Unit {0} → is_accepted w y ≡ false
           → is_accepted (leaving (disabling (holding w x false) x) (source_runner x) (routine_of c x)) y ≡ false
       others (IsrSource i) (IsrSource j) w u f =
-          ⊎_elim (λ (e : j.0 ≡ i.0). rw e (ap (λ b. b && _) (unset w.isrs_held i.0)))
+          ⊎_elim (λ (e : j.0 ≡ i.0). rw e (none_held _ _ (unset w.isrs_held i.0)))
           (λ (ne : j.0 ≢ i.0).
-          ap (λ b. accepted_by b _ _) (get_or-set_other w.isrs_held i.0 j.0 false false ne)
-          ∙ ap (λ b. accepted_by (get_or w.isrs_held j.0 false) b _) (get_or-set_other w.isrs_enabled i.0 j.0 false false ne)
+          ap (λ b. accepted_by b (get_or (set w.isrs_enabled i.0 false) j.0 false) (get_or (set w.isrs i.0 (routine_of c (IsrSource i))) j.0 [])) (get_or-set_other w.isrs_held i.0 j.0 false false ne)
+          ∙ ap (λ b. accepted_by (get_or w.isrs_held j.0 false) b (get_or (set w.isrs i.0 (routine_of c (IsrSource i))) j.0 [])) (get_or-set_other w.isrs_enabled i.0 j.0 false false ne)
           ∙ ap (λ l. accepted_by (get_or w.isrs_held j.0 false) (get_or w.isrs_enabled j.0 false) l) (get_or-set_other w.isrs i.0 j.0 (routine_of c (IsrSource i)) [] ne) ∙ f)
           (cases_eq j.0 i.0)
       others (IsrSource i) (OisrSource j) w u f = f
       others (OisrSource i) (IsrSource j) w u f = f
       others (OisrSource i) (OisrSource j) w u f =
-          ⊎_elim (λ (e : j.0 ≡ i.0). rw e (ap (λ b. b && _) (unset w.oisrs_held i.0)))
+          ⊎_elim (λ (e : j.0 ≡ i.0). rw e (none_held _ _ (unset w.oisrs_held i.0)))
           (λ (ne : j.0 ≢ i.0).
-          ap (λ b. accepted_by b true _) (get_or-set_other w.oisrs_held i.0 j.0 false false ne)
+          ap (λ b. accepted_by b true (get_or (set w.oisrs i.0 (routine_of c (OisrSource i))) j.0 [])) (get_or-set_other w.oisrs_held i.0 j.0 false false ne)
           ∙ ap (λ l. accepted_by (get_or w.oisrs_held j.0 false) true l) (get_or-set_other w.oisrs i.0 j.0 (routine_of c (OisrSource i)) [] ne) ∙ f)
           (cases_eq j.0 i.0)
 

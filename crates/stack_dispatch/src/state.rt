@@ -6,6 +6,7 @@ ghost use Rattle.tt_world.specs.Rows.{HasMode, offset_of, mode_of, row_of};
 
 use crate::lefts::Lefts;
 use crate::unfinished::Unfinished;
+use isr_window::Gates;
 use round_end::RoundState;
 use std::marker::Model;
 use task_lang::{Cursors, Left, Vars};
@@ -43,11 +44,7 @@ pub(crate) struct State {
     pub(crate) jobs: Series<Job>,
     /// No job at another place has statements left.
     pub(crate) unfinished: Unfinished,
-    pub(crate) isrs_enabled: Series<bool>,
-    pub(crate) isrs_held: Series<bool>,
-    pub(crate) oisrs_held: Series<bool>,
-    pub(crate) isrs_left: Series<Series<Tick>>,
-    pub(crate) oisrs_left: Series<Series<Tick>>,
+    pub(crate) gates: Gates,
     pub(crate) isrs: Lefts,
     pub(crate) oisrs: Lefts,
     pub(crate) oseks: Lefts,
@@ -78,10 +75,10 @@ impl Model for State {
         vars = s.vars;
         cursors = s.cursors;
         jobs = s.jobs;
-        isrs_enabled = s.isrs_enabled;
-        isrs_held = s.isrs_held;
+        isrs_enabled = s.gates.isrs_enabled;
+        isrs_held = s.gates.isrs_held;
         isrs = s.isrs;
-        oisrs_held = s.oisrs_held;
+        oisrs_held = s.gates.oisrs_held;
         oisrs = s.oisrs;
         oseks = s.oseks;
         last = s.last;
@@ -92,8 +89,8 @@ impl Model for State {
         modes = s.round.modes;
         rounds = s.round.rounds;
         times = s.round.times;
-        isrs_ticks = s.isrs_left;
-        oisrs_ticks = s.oisrs_left;
+        isrs_ticks = s.gates.isrs_left;
+        oisrs_ticks = s.gates.oisrs_left;
       };
     } };
 
