@@ -6,3 +6,4 @@ pub mod Checking
 pub mod Served
 pub mod Scanning
 pub mod Accepting
+pub mod Arriving

@@ -5,7 +5,6 @@ use Rattle.tt_base.specs.declared.event.Event.{Event}
 use Rattle.tt_base.specs.declared.event.Event.TheVariants.{Arrive, Merge, Accept}
 use Rattle.tt_world.specs.declared.config.ConfigParts.{ConfigParts}
 use Rattle.tt_world.specs.declared.script.ScriptParts.{ScriptParts}
-use Rattle.tt_world.specs.ScriptRules.{ticks_ascend}
 use Rattle.tt_world.specs.World.{World, Source, IsrSource, OisrSource}
 use Rattle.tt_world.specs.Gates.{sources, source_owner, source_runner, arrivals_of, is_held, is_accepted, holding, disabling}
 use Rattle.tt_world.specs.Rows.{routine_of}
@@ -93,10 +92,15 @@ pub record HasLists (c : ConfigParts) (b : Beside) : Type 0 where
 abbrev pub ticks_at : RunState → Source → List ℕ
 ticks_at st x = left_at (window_in st) x
 
+-- ticks that ascend from this one on
+abbrev pub Ascends : ℕ → List ℕ → Type 0
+Ascends least [] = Unit {0}
+Ascends least (tick ∷ rest) = (least ≤ tick) × Ascends (tick + 1) rest
+
 -- from a tick on the arrivals to come are those of the script; none before another tick is left
 pub record AreToCome (c : ConfigParts) (s : ScriptParts) (least from : ℕ) (st : RunState) : Type 0 where
   pub lists : HasLists c st.beside
-  pub ascending : (x : Source) → ticks_ascend least (ticks_at st x) ≡ true
+  pub ascending : (x : Source) → Ascends least (ticks_at st x)
   pub same : (x : Source) (u : ℕ) → from ≤ u
       → list_any (λ (tick : ℕ). tick == u) (ticks_at st x) ≡ list_any (λ (tick : ℕ). tick == u) (arrivals_of s x)
 
