@@ -1,25 +1,25 @@
 -- The acceptances are done at the first source at which an interrupt can be accepted, again and again.
-use Rattle.std.proofs.Common.{◌≡◌, ℕ, zero, suc, ◌≢◌, ◌<◌, ◌≤◌, ◌+◌, List, [], ◌∷◌, ◌++◌, Bool, true, false, Option, None, Some, refl, ap, sym, ◌∙◌, subst, length, arith, get_or, set, get_or-set_same, get_or-set_other, ⊎_elim}
-use Rattle.std.specs.Prelude.{◌&&◌, not, map, if◌then◌else◌}
+use Rattle.std.proofs.Common.{◌≡◌, ℕ, zero, suc, ◌≢◌, ◌<◌, ◌≤◌, ◌+◌, List, [], ◌∷◌, ◌++◌, Bool, true, false, Option, None, Some, refl, ap, sym, ◌∙◌, subst, length, arith, get_or, set, get_or-set_same, get_or-set_other, append-nil, ⊎_elim}
+use Rattle.std.specs.Prelude.{option_map, ◌&&◌, not, map, if◌then◌else◌}
 use Rattle.std.specs.List.{find, range_with_len}
 use Rattle.std.proofs.Math.Seq.{set_out}
 use Rattle.std.proofs.lemmas.List.{get_or_past}
 use Rattle.std.proofs.lemmas.Bool.{cases_lt, cases_eq}
 use Rattle.task_lang.specs.declared.syntax.Stmt.{Stmt}
 use Rattle.tt_base.specs.declared.event.Event.{Event}
-use Rattle.tt_base.specs.declared.number.IsrNo.{IsrNo}
+use Rattle.tt_base.specs.declared.event.Event.TheVariants.{Accept}
 use Rattle.tt_base.specs.declared.number.OisrNo.{OisrNo}
 use Rattle.tt_base.specs.declared.event.Owner.TheVariants as owner
 use Rattle.tt_world.specs.declared.config.ConfigParts.{ConfigParts}
 use Rattle.tt_world.specs.World.{World, Source, IsrSource, OisrSource}
-use Rattle.tt_world.specs.Moved.{goes_on}
+use Rattle.tt_world.specs.Moved.{Gives, goes_on}
 use Rattle.tt_world.specs.Gates.{sources, source_owner, source_runner, is_held, is_enabled, is_accepted, acceptance, acceptances, holding, disabling}
 use Rattle.tt_world.specs.Rows.{routine_of}
 use Rattle.tt_world.specs.Runners.{is_done, left_of, leaving}
 use Rattle.isr_window.specs.Busy.{BusySources, is_busy}
-use Rattle.isr_window.specs.Window.{Window, is_ready, all_sources}
+use Rattle.isr_window.specs.Window.{Window, is_ready, all_sources, accepting as accepting_at}
 use Rattle.stack_dispatch.specs.State.{RunState}
-use Rattle.stack_dispatch.specs.Sources.{Action, accepting, NoneAccepted, IsSource, AreBusy, window_in, HasLists}
+use Rattle.stack_dispatch.specs.Sources.{Action, Acts, accepting, first_of, NoneAccepted, IsSource, AreBusy, window_in, HasLists}
 use Rattle.stack_dispatch.proofs.Scanning.{Settles, scan, chain_scan}
 
 -- ---- an acceptance settles its source
@@ -121,3 +121,46 @@ module _ (c : ConfigParts) where
   first_same busy st are h =
       ap (find (is_ready busy (window_in st))) (same_sources st h)
       ∙ find_alike (is_ready busy (window_in st)) (is_accepted st.world) (ready_same busy st are)
+
+  -- ---- what the code does at a source
+
+  owner_is : (o : Option Source) (x : Source) → Some (source_owner x) ≡ option_map source_owner o → o ≡ Some x
+  owner_is None x e = cc
+  owner_is (Some (IsrSource i)) (IsrSource j) e = let same : j ≡ i = cc in ap (λ n. Some (IsrSource n)) (sym same)
+  owner_is (Some (OisrSource i)) (OisrSource j) e = let same : j ≡ i = cc in ap (λ n. Some (OisrSource n)) (sym same)
+  owner_is (Some (IsrSource i)) (OisrSource j) e = cc
+  owner_is (Some (OisrSource i)) (IsrSource j) e = cc
+
+  none_is : (o : Option Source) → None ≡ option_map source_owner o → o ≡ None
+  none_is None e = refl
+  none_is (Some x) e = cc
+
+  abbrev accepted_world : World → Window → World
+  accepted_world w g = record w { isrs_enabled = g.isrs_enabled; isrs_held = g.isrs_held; oisrs_held = g.oisrs_held }
+
+  accepted_is : (st : RunState) (x : Source)
+      → accepted_world st.world (accepting_at (Some x) (window_in st)) ≡ disabling (holding st.world x false) x
+  accepted_is st (IsrSource i) = refl
+  accepted_is st (OisrSource i) = refl
+
+  module _ (busy : BusySources) (st : RunState) (are : AreBusy c busy st.world) (h : HasLists c st.beside) (g : Window)
+      (g_is : g ≡ accepting_at (find (is_ready busy (window_in st)) (all_sources (window_in st))) (window_in st)) where
+    pub accept_given : (x : Source)
+        → Some (source_owner x) ≡ option_map source_owner (find (is_ready busy (window_in st)) (all_sources (window_in st)))
+        → (es fs : List Event) (v : World)
+        → Gives es fs v None (goes_on (leaving (accepted_world st.world g) (source_runner x) (routine_of c x)) (Accept st.world.tick (source_owner x) ∷ []))
+        → Acts (accepting c) (first_of (accepting c) c st.world) st.world es v fs true
+    accept_given x some es fs v gives =
+        let first = owner_is _ x some in
+        let found : first_of (accepting c) c st.world ≡ Some x = sym (first_same busy st are h) ∙ first in
+        let after = ap (accepted_world st.world) (g_is ∙ ap (λ o. accepting_at o (window_in st)) first) ∙ accepted_is st x in
+        subst (λ o. Acts (accepting c) o st.world es v fs true) (sym found)
+        (record { state_is = gives.world_is ∙ ap (λ u. leaving u (source_runner x) (routine_of c x)) after; events_are = gives.events_are; more_is = refl })
+
+    pub accept_none : None ≡ option_map source_owner (find (is_ready busy (window_in st)) (all_sources (window_in st))) → (es : List Event)
+        → Acts (accepting c) (first_of (accepting c) c st.world) st.world es (accepted_world st.world g) es false
+    accept_none none es =
+        let first = none_is _ none in
+        let found : first_of (accepting c) c st.world ≡ None = sym (first_same busy st are h) ∙ first in
+        subst (λ o. Acts (accepting c) o st.world es (accepted_world st.world g) es false) (sym found)
+        (record { state_is = ap (accepted_world st.world) (g_is ∙ ap (λ o. accepting_at o (window_in st)) first); events_are = sym (append-nil es); more_is = refl })

@@ -1,21 +1,26 @@
 -- The arrivals of a tick are taken at the first source with one, again and again.
-use Rattle.std.proofs.Common.{◌≡◌, ℕ, zero, suc, ◌≢◌, ◌<◌, ◌≤◌, ◌+◌, List, [], ◌∷◌, ◌++◌, Bool, true, false, Option, None, Some, refl, ap, sym, ◌∙◌, subst, eqb, length, arith, drop, get_or, set, get_or-set_same, get_or-set_other, ⊎_elim}
-use Rattle.std.specs.Prelude.{◌==◌, ◌||◌, map, if◌then◌else◌, slice_get}
+use Rattle.std.proofs.Common.{◌≡◌, ℕ, zero, suc, ◌≢◌, ◌<◌, ◌≤◌, ◌+◌, List, [], ◌∷◌, ◌++◌, Bool, true, false, Option, None, Some, refl, ap, sym, ◌∙◌, subst, eqb, length, arith, drop, get_or, set, get_or-set_same, get_or-set_other, append-nil, ⊎_elim}
+use Rattle.std.specs.Prelude.{◌==◌, ◌||◌, option_map, map, min, if◌then◌else◌, slice_get}
 use Rattle.std.specs.List.{find, list_any, range_with_len}
-use Rattle.std.specs.Option.{ForSome}
+use Rattle.std.specs.Option.{ForSome, option_or}
 use Rattle.std.proofs.Math.Seq.{set_out}
 use Rattle.std.proofs.lemmas.List.{get_or_past, set-get_or, length-set}
+use Rattle.std.proofs.lemmas.List.Folds.{find-append}
 use Rattle.std.proofs.lemmas.List.FromFn.{length-map-range_with_len}
 use Rattle.std.proofs.lemmas.Bool.{cases_lt, cases_eq, cases_Bool, eq-eqb, eqb-true, eqb-false, false_from_ne_true, cond-true, cond-false}
+use Rattle.tt_base.specs.declared.event.Event.{Event}
 use Rattle.tt_base.specs.declared.event.Event.TheVariants.{Arrive, Merge}
 use Rattle.tt_world.specs.declared.config.ConfigParts.{ConfigParts}
 use Rattle.tt_world.specs.declared.script.ScriptParts.{ScriptParts}
 use Rattle.tt_world.specs.World.{World, Source, IsrSource, OisrSource}
 use Rattle.tt_world.specs.Moved.{goes_on}
 use Rattle.tt_world.specs.Gates.{sources, source_owner, arrivals_of, is_held, arrived, arrival, arrivals, holding}
-use Rattle.isr_window.specs.Window.{is_next, least_next, lesser, next_tick}
+use Rattle.isr_window.specs.Window.{Window, is_next, least_next, lesser, next_tick, first_due, held_at, taking}
+use Rattle.isr_window.specs.Arrived.{arrived_at}
+use Rattle.isr_window.specs.declared.gates.Arrived.{Arrived}
 use Rattle.stack_dispatch.specs.State.{RunState}
-use Rattle.stack_dispatch.specs.Sources.{Action, arriving, window_in, HasLists, Ascends, ticks_at, AreToCome, NoneBefore}
+use Rattle.stack_dispatch.specs.Sources.{Action, Acts, arriving, first_of, window_in, with_window, HasLists, Ascends, ticks_at, AreToCome, NoneBefore}
+use Rattle.stack_dispatch.proofs.Accepting.{same_sources}
 use Rattle.stack_dispatch.proofs.Scanning.{Settles, scan, chain_scan}
 
 -- ---- ticks that ascend
@@ -196,3 +201,169 @@ module _ (c : ConfigParts) (s : ScriptParts) where
 
       passed : (x : Source) (xs : List Source) (v : RunState) → Pending (x ∷ xs) v → Pending xs v
       passed x xs v h = record { rank_is = h.rank_is + 1; order = h.order.1; due = λ y l. h.due y (omega arith) }
+
+  -- ---- what is to come
+
+  lists_take : (x : Source) (st : RunState) → HasLists c st.beside → HasLists c (arriving.act x st).beside
+  lists_take (IsrSource i) st h = record { isrs = length-set st.beside.isrs_ticks i.0 _ ∙ h.isrs; oisrs = h.oisrs }
+  lists_take (OisrSource i) st h = record { isrs = h.isrs; oisrs = length-set st.beside.oisrs_ticks i.0 _ ∙ h.oisrs }
+
+  -- what holds of the ticks to come at a source, and of those without the first where its arrival is due, is kept
+  at_taken : (P : Source → List ℕ → Type 0) (x y : Source) (st : RunState) → P y (ticks_at st y)
+      → (y ≡ x → P y (drop 1 (ticks_at st y))) → P y (ticks_at (arriving.act x st) y)
+  at_taken P (IsrSource i) (IsrSource j) st p q = at_any (P (IsrSource j)) st.beside.isrs_ticks i.0 j.0 p (λ e. q (ap (λ n. IsrSource (record { 0 = n })) e))
+  at_taken P (OisrSource i) (OisrSource j) st p q = at_any (P (OisrSource j)) st.beside.oisrs_ticks i.0 j.0 p (λ e. q (ap (λ n. OisrSource (record { 0 = n })) e))
+  at_taken P (IsrSource i) (OisrSource j) st p q = p
+  at_taken P (OisrSource i) (IsrSource j) st p q = p
+
+  pub to_come_take : (t : ℕ) (x : Source) (st : RunState) → st.world.tick ≡ t → arriving.test st x ≡ true
+      → AreToCome c s t (t + 1) st → AreToCome c s t (t + 1) (arriving.act x st)
+  to_come_take t x st now due h = record {
+    lists = lists_take x st h.lists;
+    ascending = λ y. at_taken (λ _ xs. Ascends t xs) x y st (h.ascending y) (λ _. without_ascends t _ (h.ascending y));
+    same = λ y u l.
+        at_taken (λ z xs. has u xs ≡ has u (arrivals_of s z)) x y st (h.same y u l)
+        (λ e. without_same t u _ (ap (λ (n : ℕ). is_next n (ticks_at st y)) (sym now) ∙ ap (arriving.test st) e ∙ due) (omega arith) ∙ h.same y u l);
+  }
+
+  -- no source that is there has one
+  none_number : (p : Source → Bool) (mk : ℕ → Source) (k n : ℕ) → find p (map mk (range_with_len k n)) ≡ None
+      → (j : ℕ) → k ≤ j → j < k + n → p (mk j) ≡ false
+  none_number p mk k zero e j l m = absurd (omega arith)
+  none_number p mk k (suc n) e j l m =
+      ⊎_elim (λ (t : p (mk k) ≡ true). let clash : Some (mk k) ≡ None = sym (cond-true _ _ _ t) ∙ e in cc)
+      (λ (f : p (mk k) ≡ false).
+      ⊎_elim (λ (same : j ≡ k). rw same f)
+      (λ (ne : j ≢ k). none_number p mk (k + 1) n (sym (cond-false _ _ _ f) ∙ e) j (omega (arith, ne)) (omega arith)) (cases_eq j k))
+      (cases_Bool (p (mk k)))
+
+  both_none : (a b : Option Source) → option_or a b ≡ None → (a ≡ None) × (b ≡ None)
+  both_none None b e = (refl, e)
+  both_none (Some x) b e = cc
+
+  none_due : (st : RunState) → HasLists c st.beside → find (arriving.test st) (sources c) ≡ None → (x : Source) → arriving.test st x ≡ false
+  none_due st h e x =
+      let isrs = map (λ (j : ℕ). IsrSource (record { 0 = j })) (range_with_len 0 (length c.isrs)) in
+      let both = both_none _ _ (sym (find-append (arriving.test st) isrs _) ∙ e) in
+      of_source x both.0 both.1
+    where
+      past : (lists : List (List ℕ)) (i : ℕ) → length lists ≤ i → is_next st.world.tick (get_or lists i []) ≡ false
+      past lists i g = ap (is_next st.world.tick) (get_or_past lists i [] g)
+
+      of_source : (y : Source)
+          → find (arriving.test st) (map (λ (j : ℕ). IsrSource (record { 0 = j })) (range_with_len 0 (length c.isrs))) ≡ None
+          → find (arriving.test st) (map (λ (j : ℕ). OisrSource (record { 0 = j })) (range_with_len 0 (length c.oisrs))) ≡ None
+          → arriving.test st y ≡ false
+      of_source (IsrSource i) a b =
+          let long = h.isrs in
+          ⊎_elim (λ (l : i.0 < length c.isrs). none_number (arriving.test st) (λ (j : ℕ). IsrSource (record { 0 = j })) 0 _ a i.0 (omega arith) (omega arith))
+          (λ (g : length c.isrs ≤ i.0). past st.beside.isrs_ticks i.0 (omega arith)) (cases_lt i.0 (length c.isrs))
+      of_source (OisrSource i) a b =
+          let long = h.oisrs in
+          ⊎_elim (λ (l : i.0 < length c.oisrs). none_number (arriving.test st) (λ (j : ℕ). OisrSource (record { 0 = j })) 0 _ b i.0 (omega arith) (omega arith))
+          (λ (g : length c.oisrs ≤ i.0). past st.beside.oisrs_ticks i.0 (omega arith)) (cases_lt i.0 (length c.oisrs))
+
+  -- none is left at this tick
+  pub to_come_later : (t : ℕ) (st : RunState) → st.world.tick ≡ t → find (arriving.test st) (sources c) ≡ None
+      → AreToCome c s t (t + 1) st → AreToCome c s (t + 1) (t + 1) st
+  to_come_later t st now none h = record {
+    lists = h.lists;
+    ascending = λ x. ascends_later t _ (h.ascending x) (ap (λ (n : ℕ). is_next n (ticks_at st x)) (sym now) ∙ none_due st h.lists none x);
+    same = h.same;
+  }
+
+  -- an instant without an arrival is over
+  pub to_come_skip : (t next : ℕ) (st : RunState) → t < next → NoneBefore next st → AreToCome c s t t st → AreToCome c s (t + 1) (t + 1) st
+  to_come_skip t next st l none h = record {
+    lists = h.lists;
+    ascending = λ x. ascends_later t _ (h.ascending x) (next_is t _ (h.ascending x) ∙ none x t l);
+    same = λ x u m. h.same x u (omega arith);
+  }
+
+  pub from_now : (t : ℕ) (st : RunState) → AreToCome c s t t st → AreToCome c s t (t + 1) st
+  from_now t st h = record { lists = h.lists; ascending = h.ascending; same = λ x u l. h.same x u (omega arith) }
+
+  -- ---- what the code does at a source
+
+  module _ (st : RunState) (h : HasLists c st.beside) (g : Window) where
+    due_same : first_due st.world.tick (window_in st) ≡ first_of arriving c st
+    due_same = ap (find (arriving.test st)) (same_sources c st h)
+
+    module _ (g_is : g ≡ taking (first_due st.world.tick (window_in st)) (window_in st)) where
+      pub arrive_given : (arrived : Arrived) → Some arrived ≡ option_map (arrived_at (window_in st)) (first_due st.world.tick (window_in st))
+          → (es fs : List Event)
+          → fs ≡ es ++ (if arrived.merged then Merge st.world.tick arrived.source else Arrive st.world.tick arrived.source) ∷ []
+          → Acts arriving (first_of arriving c st) st es (with_window g st) fs true
+      arrive_given arrived some es fs noted = of_first (first_due st.world.tick (window_in st)) refl some
+        where
+          of_first : (o : Option Source) → o ≡ first_due st.world.tick (window_in st) → Some arrived ≡ option_map (arrived_at (window_in st)) o
+              → Acts arriving (first_of arriving c st) st es (with_window g st) fs true
+          of_first None is e = cc
+          of_first (Some x) is e =
+              let same : arrived ≡ arrived_at (window_in st) x = cc in
+              subst (λ o. Acts arriving o st es (with_window g st) fs true) (is ∙ due_same)
+              (record {
+                state_is = ap (λ (k : Window). with_window k st) (g_is ∙ ap (λ o. taking o (window_in st)) (sym is));
+                events_are = noted ∙ ap (λ (a : Arrived). es ++ (if a.merged then Merge st.world.tick a.source else Arrive st.world.tick a.source) ∷ []) same ∙ line_is x;
+                more_is = refl;
+              })
+            where
+              line_is : (x : Source) → es ++ (if held_at (window_in st) x then Merge st.world.tick (source_owner x) else Arrive st.world.tick (source_owner x)) ∷ [] ≡ es ++ arriving.line st x ∷ []
+              line_is (IsrSource i) = refl
+              line_is (OisrSource i) = refl
+
+      pub arrive_none : None ≡ option_map (arrived_at (window_in st)) (first_due st.world.tick (window_in st)) → (es : List Event)
+          → Acts arriving (first_of arriving c st) st es (with_window g st) es false
+      arrive_none none es = of_first (first_due st.world.tick (window_in st)) refl none
+        where
+          of_first : (o : Option Source) → o ≡ first_due st.world.tick (window_in st) → None ≡ option_map (arrived_at (window_in st)) o
+              → Acts arriving (first_of arriving c st) st es (with_window g st) es false
+          of_first (Some x) is e = cc
+          of_first None is e =
+              subst (λ o. Acts arriving o st es (with_window g st) es false) (is ∙ due_same)
+              (record { state_is = ap (λ (k : Window). with_window k st) (g_is ∙ ap (λ o. taking o (window_in st)) (sym is)); events_are = sym (append-nil es); more_is = refl })
+
+-- ---- the next arrival
+
+lesser_from : (n : ℕ) (a b : Option ℕ) → ForSome a (λ t. n ≤ t) → ForSome b (λ t. n ≤ t) → ForSome (lesser a b) (λ t. n ≤ t)
+lesser_from n None b p q = q
+lesser_from n (Some x) None p q = p
+lesser_from n (Some x) (Some y) p q = λ t e. let low = p x refl in let up = q y refl in let same : min x y ≡ t = cc in omega arith
+
+lesser_parts : (n : ℕ) (a b : Option ℕ) → ForSome (lesser a b) (λ t. n ≤ t) → ForSome a (λ t. n ≤ t) × ForSome b (λ t. n ≤ t)
+lesser_parts n None b p = (λ t e. cc, p)
+lesser_parts n (Some x) None p = (p, λ t e. cc)
+lesser_parts n (Some x) (Some y) p =
+    let low = p (min x y) refl in
+    (λ t e. let same : x ≡ t = cc in omega arith, λ t e. let same : y ≡ t = cc in omega arith)
+
+first_from : (n : ℕ) (xs : List ℕ) → Ascends n xs → ForSome (slice_get xs 0) (λ t. n ≤ t)
+first_from n [] a = λ t e. cc
+first_from n (x ∷ xs) a = λ t e. let same : x ≡ t = cc in let low = a.0 in omega arith
+
+least_from : (n : ℕ) (lists : List (List ℕ)) → ((i : ℕ) → Ascends n (get_or lists i [])) → ForSome (least_next lists) (λ t. n ≤ t)
+unfolding least_next
+least_from n [] h = λ t e. cc
+least_from n (xs ∷ rest) h = lesser_from n _ _ (first_from n xs (h 0)) (least_from n rest (λ i. h (suc i)))
+
+-- no arrival before this tick is left
+pub next_from : (n : ℕ) (st : RunState) → ((x : Source) → Ascends n (ticks_at st x)) → ForSome (next_tick (window_in st)) (λ t. n ≤ t)
+next_from n st h =
+    lesser_from n _ _ (least_from n st.beside.isrs_ticks (λ i. h (IsrSource (record { 0 = i }))))
+    (least_from n st.beside.oisrs_ticks (λ i. h (OisrSource (record { 0 = i }))))
+
+none_by_first : (n t u : ℕ) (xs : List ℕ) → Ascends t xs → ForSome (slice_get xs 0) (λ f. n ≤ f) → u < n → has u xs ≡ false
+none_by_first n t u [] a f l = refl
+none_by_first n t u (x ∷ xs) a f l = let low = f x refl in none_early x u (x ∷ xs) (omega arith, a.1) (omega arith)
+
+none_by_least : (n t u : ℕ) (lists : List (List ℕ)) (i : ℕ) → Ascends t (get_or lists i []) → ForSome (least_next lists) (λ f. n ≤ f) → u < n
+    → has u (get_or lists i []) ≡ false
+unfolding least_next
+none_by_least n t u [] i a f l = ap (has u) (get_or_past [] i [] (omega arith))
+none_by_least n t u (xs ∷ rest) zero a f l = none_by_first n t u xs a (lesser_parts n _ _ f).0 l
+none_by_least n t u (xs ∷ rest) (suc i) a f l = none_by_least n t u rest i a (lesser_parts n _ _ f).1 l
+
+pub none_before : (n t : ℕ) (st : RunState) → ((x : Source) → Ascends t (ticks_at st x)) → ForSome (next_tick (window_in st)) (λ f. n ≤ f)
+    → NoneBefore n st
+none_before n t st h f (IsrSource i) u l = none_by_least n t u st.beside.isrs_ticks i.0 (h (IsrSource i)) (lesser_parts n _ _ f).0 l
+none_before n t st h f (OisrSource i) u l = none_by_least n t u st.beside.oisrs_ticks i.0 (h (OisrSource i)) (lesser_parts n _ _ f).1 l

@@ -1,5 +1,5 @@
 -- What the runner does at a source of interrupts.
-use Rattle.std.specs.Prelude.{◌≡◌, ℕ, ◌+◌, ◌<◌, ◌≤◌, ◌==◌, not, Bool, true, false, List, [], ◌∷◌, Option, None, Some, length, if◌then◌else◌}
+use Rattle.std.specs.Prelude.{◌≡◌, ℕ, ◌+◌, ◌<◌, ◌≤◌, ◌==◌, not, Bool, true, false, List, [], ◌∷◌, ◌++◌, Option, is_some, None, Some, length, if◌then◌else◌}
 use Rattle.std.specs.List.{find, list_any}
 use Rattle.tt_base.specs.declared.event.Event.{Event}
 use Rattle.tt_base.specs.declared.event.Event.TheVariants.{Arrive, Merge, Accept}
@@ -34,6 +34,13 @@ acted a (Some x) st = record { state = a.act x st; events = a.line st x ∷ [] }
 -- the first source at which there is something to do
 abbrev pub first_of : {St : Type 0} → Action St → ConfigParts → St → Option Source
 first_of a c st = find (a.test st) (sources c)
+
+-- a part of the code did what is done at a source, and says whether there was one
+pub record Acts {St : Type 0} (a : Action St) (x : Option Source) (before : St) (es : List Event) (after : St) (fs : List Event)
+    (more : Bool) : Type 0 where
+  pub state_is : after ≡ (acted a x before).state
+  pub events_are : fs ≡ es ++ (acted a x before).events
+  pub more_is : more ≡ is_some x
 
 -- ---- acceptances
 

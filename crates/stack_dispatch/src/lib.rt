@@ -2,6 +2,7 @@
 #![tactic(auto)]
 
 mod hooks;
+mod interrupts;
 mod lefts;
 mod monitoring;
 mod plain;
