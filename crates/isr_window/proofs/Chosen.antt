@@ -1,5 +1,5 @@
 -- The first source of all, found kind by kind.
-use Rattle.std.proofs.Common.{ℕ, ◌≡◌, ◌≤◌, Bool, true, false, cond, List, [], ◌∷◌, ◌++◌, length, get_or, refl, sym, ap, ◌∙◌}
+use Rattle.std.proofs.Common.{ℕ, ◌≡◌, ◌≤◌, ◌+◌, Bool, true, false, cond, List, [], ◌∷◌, ◌++◌, length, get_or, refl, sym, ap, ◌∙◌}
 use Rattle.std.specs.Prelude.{Option, None, Some, ◌&&◌, not, find, map, option_map}
 use Rattle.std.specs.List.{range_with_len}
 use Rattle.std.specs.Option.{option_or, ForSome}
@@ -8,7 +8,7 @@ use Rattle.tt_world.specs.World.{Source, IsrSource, OisrSource}
 use Rattle.isr_window.specs.Busy.{BusySources}
 use Rattle.isr_window.specs.Window.{Window, is_at, is_next, is_due, is_ready, first_due, first_ready, least_next, next_tick, taking}
 use Rattle.isr_window.specs.Numbers.{first_at, first_ready_in, is_ready_in, with_flag, without_next}
-use Rattle.isr_window.proofs.Firsts.{find-map, none_next, none_passes, is_after, after_both}
+use Rattle.isr_window.proofs.Firsts.{find-map, none_next, none_passes, is_after, is_from, from_both}
 
 abbrev pub isr_source : ℕ → Source
 isr_source number = IsrSource (record { 0 = number })
@@ -30,7 +30,7 @@ first_due_is now g = first_of_both (is_due now g) (length g.isrs_left) (length g
 
 pub none_due : (now : ℕ) (g : Window) → ForSome (next_tick g) (λ tick. now ≤ tick) → is_at now (next_tick g) ≡ false → None ≡ first_due now g
 none_due now g none_before other =
-    let after = after_both now (least_next g.isrs_left) (least_next g.oisrs_left) (is_after now (next_tick g) none_before other) in
+    let after = from_both (now + 1) (least_next g.isrs_left) (least_next g.oisrs_left) (is_after now (next_tick g) (is_from now (next_tick g) none_before) other) in
     sym (first_due_is now g
     ∙ ap (λ o. option_or (option_map isr_source o) (option_map oisr_source (first_at now g.oisrs_left))) (none_passes (λ number. is_next now (get_or g.isrs_left number [])) 0 (length g.isrs_left) (none_next now g.isrs_left after.0))
     ∙ ap (option_map oisr_source) (none_passes (λ number. is_next now (get_or g.oisrs_left number [])) 0 (length g.oisrs_left) (none_next now g.oisrs_left after.1)))

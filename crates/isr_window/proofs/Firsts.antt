@@ -71,29 +71,51 @@ find-map test f (number ∷ rest) = by_test (test (f number)) (find-map test f r
 
 -- ---- no tick before the least one
 
--- each tick that there is comes after this one
-abbrev pub IsAfter : ℕ → Option ℕ → Type 0
-IsAfter now None = Unit {0}
-IsAfter now (Some tick) = now < tick
+-- a tick that there is, is this one or comes after it
+abbrev pub IsFrom : ℕ → Option ℕ → Type 0
+IsFrom now None = Unit {0}
+IsFrom now (Some tick) = now ≤ tick
 
-pub is_after : (now : ℕ) (tick : Option ℕ) → ForSome tick (λ t. now ≤ t) → is_at now tick ≡ false → IsAfter now tick
-is_after now None none_before other = tt
-is_after now (Some tick) none_before other =
-    let from : now ≤ tick = none_before tick refl in
-    let differ : tick ≢ now = eqb-false tick now other in
-    omega arith
+pub is_from : (now : ℕ) (tick : Option ℕ) → ForSome tick (λ t. now ≤ t) → IsFrom now tick
+is_from now None from = tt
+is_from now (Some tick) from = from tick refl
 
-is_not_at : (now : ℕ) (tick : Option ℕ) → IsAfter now tick → is_at now tick ≡ false
+pub for_some : (now : ℕ) (tick : Option ℕ) → IsFrom now tick → ForSome tick (λ t. now ≤ t)
+for_some now None from t e = absurd cc
+for_some now (Some tick) from t e = let same : tick ≡ t = cc in omega arith
+
+-- one that is not this one comes after it
+pub is_after : (now : ℕ) (tick : Option ℕ) → IsFrom now tick → is_at now tick ≡ false → IsFrom (now + 1) tick
+is_after now None from other = tt
+is_after now (Some tick) from other = let differ : tick ≢ now = eqb-false tick now other in omega arith
+
+pub is_not_at : (now : ℕ) (tick : Option ℕ) → IsFrom (now + 1) tick → is_at now tick ≡ false
 is_not_at now None after = refl
 is_not_at now (Some tick) after = let differ : tick ≢ now = omega arith in ne_eqb tick now differ
 
-pub after_both : (now : ℕ) (a b : Option ℕ) → IsAfter now (lesser a b) → (IsAfter now a) × (IsAfter now b)
-after_both now None b after = (tt, after)
-after_both now (Some x) None after = (after, tt)
-after_both now (Some x) (Some y) after = (omega arith, omega arith)
+-- the lesser of two
+pub from_both : (now : ℕ) (a b : Option ℕ) → IsFrom now (lesser a b) → (IsFrom now a) × (IsFrom now b)
+from_both now None b from = (tt, from)
+from_both now (Some x) None from = (from, tt)
+from_both now (Some x) (Some y) from = (omega arith, omega arith)
 
-pub none_next : (now : ℕ) (lists : List (List ℕ)) → IsAfter now (least_next lists) → (k : ℕ) → is_next now (get_or lists k []) ≡ false
+pub both_from : (now : ℕ) (a b : Option ℕ) → IsFrom now a → IsFrom now b → IsFrom now (lesser a b)
+both_from now None b from too = too
+both_from now (Some x) None from too = from
+both_from now (Some x) (Some y) from too = omega arith
+
+-- the first tick of each list, and the least of them
+pub each_from : (now : ℕ) (lists : List (List ℕ)) → IsFrom now (least_next lists) → (k : ℕ) → IsFrom now (slice_get (get_or lists k []) 0)
 unfolding least_next
-none_next now [] after k = refl
-none_next now (ticks ∷ rest) after zero = is_not_at now (slice_get ticks 0) (after_both now (slice_get ticks 0) (least_next rest) after).0
-none_next now (ticks ∷ rest) after (suc k) = none_next now rest (after_both now (slice_get ticks 0) (least_next rest) after).1 k
+each_from now [] from k = tt
+each_from now (ticks ∷ rest) from zero = (from_both now (slice_get ticks 0) (least_next rest) from).0
+each_from now (ticks ∷ rest) from (suc k) = each_from now rest (from_both now (slice_get ticks 0) (least_next rest) from).1 k
+
+pub from_each : (now : ℕ) (lists : List (List ℕ)) → ((k : ℕ) → k < length lists → IsFrom now (slice_get (get_or lists k []) 0)) → IsFrom now (least_next lists)
+unfolding least_next
+from_each now [] each = tt
+from_each now (ticks ∷ rest) each =
+    both_from now (slice_get ticks 0) (least_next rest) (each 0 (omega arith)) (from_each now rest (λ k below. each (suc k) (omega arith)))
+
+pub none_next : (now : ℕ) (lists : List (List ℕ)) → IsFrom (now + 1) (least_next lists) → (k : ℕ) → is_next now (get_or lists k []) ≡ false
+none_next now lists after k = is_not_at now (slice_get (get_or lists k []) 0) (each_from (now + 1) lists after k)

@@ -2,3 +2,9 @@ pub mod Counted
 pub mod Taken
 pub mod Firsts
 pub mod Chosen
+pub mod TickLists
+pub mod Places
+pub mod Silent
+pub mod Windows
+pub mod Arrivals
+pub mod Acceptances

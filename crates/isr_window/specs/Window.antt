@@ -1,7 +1,9 @@
 -- The interrupt sources of a run: which are enabled, where an interrupt is held, and which arrivals are to come.
-use Rattle.std.specs.Prelude.{◌≡◌, ℕ, ◌==◌, ◌&&◌, not, min, Bool, true, false, List, [], ◌∷◌, ◌++◌, Option, None, Some, drop, find, length, map, replicate, slice_get, slice_index_or, slice_set}
+use Rattle.std.specs.Prelude.{◌<◌, ◌≡◌, ℕ, ◌==◌, ◌&&◌, not, min, Bool, true, false, List, [], ◌∷◌, ◌++◌, Option, None, Some, drop, find, length, map, replicate, slice_get, slice_index_or, slice_set}
 use Rattle.std.specs.List.{range_with_len}
 use Rattle.tt_base.specs.declared.number.IsrNo.{IsrNo}
+use Rattle.tt_base.specs.declared.event.Owner.{Owner}
+use Rattle.tt_base.specs.declared.event.Owner.TheVariants as owner
 use Rattle.tt_world.specs.declared.script.Arrivals.{Arrivals}
 use Rattle.tt_world.specs.World.{Source, IsrSource, OisrSource}
 use Rattle.tt_world.specs.Gates.{source_owner}
@@ -52,6 +54,12 @@ held_at g (OisrSource oisr) = slice_index_or g.oisrs_held oisr.0 false
 abbrev pub enabled_at : Window → Source → Bool
 enabled_at g (IsrSource isr) = slice_index_or g.isrs_enabled isr.0 false
 enabled_at g (OisrSource oisr) = true
+
+-- the owner is a source of one of these numbers
+abbrev pub IsSourceOf : Window → Owner → Type 0
+IsSourceOf g (owner.Isr isr) = isr.0 < length g.isrs_left
+IsSourceOf g (owner.Oisr oisr) = oisr.0 < length g.oisrs_left
+IsSourceOf g _ = ⊥
 
 -- ---- the next arrival
 

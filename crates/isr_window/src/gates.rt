@@ -1,9 +1,9 @@
 //! The gates of the interrupt sources.
 
-ghost use Rattle.std.specs.Prelude.{◌≡◌, ◌<◌, ◌≤◌, true, false, length, option_map, slice_index_or};
+ghost use Rattle.std.specs.Prelude.{◌≡◌, ◌<◌, ◌≤◌, true, false, length, option_map, slice_index_or, IfSome};
 ghost use Rattle.std.specs.Option.{ForSome};
 ghost use Rattle.tt_world.specs.Gates.{source_owner};
-ghost use Rattle.isr_window.specs.Window.{first_due, first_ready, least_next, lesser, new_window, next_tick, taking, accepting, enabling};
+ghost use Rattle.isr_window.specs.Window.{IsSourceOf, first_due, first_ready, least_next, lesser, new_window, next_tick, taking, accepting, enabling};
 ghost use Rattle.isr_window.specs.Numbers.{first_at, first_ready_in, is_ready_in, with_flag, without_next};
 ghost use Rattle.isr_window.specs.Arrived.{arrived_at};
 
@@ -149,6 +149,7 @@ impl Gates {
     pub fn accept_next(&mut self, busy: &Busy) -> Option<Owner>
         ensures value { result ≡ option_map source_owner (first_ready busy.now self.old) }
         ensures state { self.new ≡ accepting (first_ready busy.now self.old) self.old }
+        ensures source { IfSome result (IsSourceOf self.old) }
     {
         if let Some(number) = first_ready(&self.isrs_held, &self.isrs_enabled, busy.isrs()) {
             self.isrs_held.put(number, false);

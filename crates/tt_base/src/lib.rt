@@ -1,5 +1,5 @@
-//! What every crate of the bench stands on: that memory ran out, numbers of declared things, ticks, events, names, a list type, and a
-//! counter of steps.
+//! What every crate of the bench stands on: the answer 'out of memory', numbers of declared things,
+//! ticks, events, names, a list type, and a counter of steps.
 #![tactic(auto)]
 
 mod event;

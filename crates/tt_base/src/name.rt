@@ -2,7 +2,7 @@
 
 ghost use Rattle.std.specs.Prelude.{◌≡◌, ◌≤◌, true, false, length, take, MatchOption};
 ghost use Rattle.std.specs.Str.{bytes_eq};
-ghost use Rattle.tt_base.specs.Name.{is_name, is_letter, is_name_byte, is_rest_of_name};
+ghost use Rattle.tt_base.specs.Name.{is_name, is_letter, is_name_byte, is_rest_of_name, with_zeros};
 
 use std::cmp::Ordering;
 use std::hash::{Hash, Hasher};
@@ -11,8 +11,8 @@ use std::marker::Model;
 /// How many bytes a name has at most.
 pub const NAME_BYTES: usize = 16;
 
-/// A name of a document: 1 to 16 bytes, a letter or `_` and then letters, digits or `_`. Case counts. Contracts see it
-/// as the list of its bytes.
+/// A name of a document: 1 to 16 bytes, a letter or `_` and then letters, digits or `_`. Case
+/// counts. Contracts see it as the list of its bytes.
 #[derive(Clone, Copy, Debug)]
 pub struct Name {
     /// The text, and zeros after it.
@@ -71,7 +71,8 @@ impl Name {
 
     /// The text with zeros after it.
     pub fn padded(&self) -> &[u8; NAME_BYTES]
-        ensures { take (length self.now) result.now ≡ self.now }
+        ensures text { take (length self.now) result.now ≡ self.now }
+        ensures whole { result.now ≡ with_zeros self.now }
     {
         &self.bytes
     }
@@ -113,8 +114,9 @@ impl Hash for Name {
 
     ghost respects_eq = { same_number };
 
+    #[tactic(auto, unfolding(crate::specs::Name::number_of_name))]
     fn hash<H: Hasher>(&self, state: &mut H) {
-        state.write_u128(u128::from_le_bytes(self.bytes));
+        state.write_u128(u128::from_le_bytes(*self.padded()));
     }
 }
 

@@ -1,4 +1,5 @@
-//! The numbers of declared things, each counted from 0 per kind in the order of declaration, and the answer that memory ran out.
+//! The numbers of declared things, each counted from 0 per kind in the order of declaration, and
+//! the answer 'out of memory'.
 
 ghost use Rattle.std.specs.Prelude.{◌≡◌};
 
@@ -10,7 +11,7 @@ pub struct Memory;
 
 /// So that `?` on a call that allocates answers `Memory`.
 impl From<AllocError> for Memory {
-    ghost from_gives = { λ _ e. e ≡ record { } };
+    ghost from_gives = { λ _ e. e ≡ record {} };
 
     fn from(_error: AllocError) -> Memory {
         Memory
@@ -19,7 +20,7 @@ impl From<AllocError> for Memory {
 
 /// So that `?` on a call that allocates room for a value answers `Memory`. The value is given up.
 impl<T: Drop> From<AllocFailed<T>> for Memory {
-    ghost from_gives = { λ _ e. e ≡ record { } };
+    ghost from_gives = { λ _ e. e ≡ record {} };
 
     fn from(_error: AllocFailed<T>) -> Memory {
         Memory

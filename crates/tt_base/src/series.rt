@@ -9,7 +9,8 @@ use crate::number::Memory;
 use std::alloc::Global;
 use std::marker::Model;
 
-/// A `Vec` that contracts see as the list of its items, so that two with the same items are one value.
+/// A `Vec` that contracts see as the list of its items, so that two with the same items are one
+/// value.
 #[derive(Debug, Drop)]
 pub struct Series<T> {
     items: Vec<T>,
@@ -110,7 +111,8 @@ impl<T: Drop> Series<T> {
         Ok(())
     }
 
-    /// Puts an item in the place of another. Where there is no such place the list is unchanged and the item is given up.
+    /// Puts an item in the place of another. Where there is no such place, the list is unchanged
+    /// and the item is given up.
     pub fn set(&mut self, place: usize, item: T)
         ensures { self.new ≡ slice_set self.old place item }
     {
@@ -145,7 +147,8 @@ mod tests {
         assert_eq!(rt; marks.len(), 4);
         marks.clear();
         assert!(rt; marks.is_empty());
-        assert_eq!(rt; Series::from_vec([1, 2].to_vec(rt.alloc())?).into_vec().as_slice(), [1, 2].as_slice());
+        let pair = Series::from_vec([1, 2].to_vec(rt.alloc())?);
+        assert_eq!(rt; pair.into_vec().as_slice(), [1, 2].as_slice());
         Ok(())
     }
 }

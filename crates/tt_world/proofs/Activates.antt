@@ -40,95 +40,10 @@ use Rattle.tt_world.proofs.Emits.{Of, all_more, OfHooks, latch_all, monitored_al
 use Rattle.tt_world.proofs.Through.{last_round, last_round_more}
 use Rattle.tt_world.proofs.Fates.{round_in, IsQuiet, quiet_round, EndsAt, ends_after, shut_at, step_forward, Forward, last_stamp_at}
 use Rattle.tt_world.proofs.FateParts.{Never}
+use Rattle.tt_world.proofs.SameRounds.{SameRound, latch_same, enables_same, arrivals_same, acceptances_same, OneLater, step_later}
 use Rattle.tt_world.proofs.RoundActs.{last_acts, last_acts_more, has_acts, RoundsOver, rounds_more, quiet_acts, quiet_over, each_has, acts_same, acts_row, acts_none}
 use Rattle.tt_world.proofs.Calm.{IsCalm, calm_status, ChecksTell, checked_tell, step_tells}
 use Rattle.tt_world.specs.declared.world.RunEnd.TheVariants as ending
-
--- ---- parts that leave the clock and the round alone
-
-pub record SameRound (w v : World) : Type 0 where
-  pub tick : v.tick ≡ w.tick
-  pub start : v.start ≡ w.start
-  pub mode : v.mode ≡ w.mode
-
-module _ (c : ConfigParts) (s : ScriptParts) (w : World) where
-  S : OfRun
-  S v es = SameRound w v
-
-  latch_same : Leads S S Never (latch c)
-  unfolding latch S
-  latch_same v es p =
-      cond_both (eqb (offset_of v) (c.round - c.adjust)) _ _ (LeadsTo S Never es)
-          (λ _. record { tick = p.tick; start = p.start; mode = p.mode }) (λ _. p)
-
-  enable_same : (row : EnableRow) → Leads S S Never (enable row)
-  unfolding enable S
-  enable_same row v es p = record { tick = p.tick; start = p.start; mode = p.mode }
-
-  enables_same : Leads S S Never (enables c)
-  unfolding enables
-  enables_same v es p = chain_each S Never enable (enables_at (offset_of v) (mode_of c v).enables) enable_same v es p
-
-  arrived_same : (held : Bool) (source : Source) (v : World) (es : List Event) → S v es
-      → LeadsTo S Never es (arrived held source v)
-  unfolding S
-  arrived_same true source v es p = p
-  arrived_same false (IsrSource i) v es p = record { tick = p.tick; start = p.start; mode = p.mode }
-  arrived_same false (OisrSource i) v es p = record { tick = p.tick; start = p.start; mode = p.mode }
-
-  arrival_same : (source : Source) → Leads S S Never (arrival s source)
-  unfolding arrival
-  arrival_same source v es p =
-      cond_both (list_any (λ (tick : ℕ). tick == v.tick) (arrivals_of s source)) _ _ (LeadsTo S Never es)
-          (λ _. arrived_same (is_held v source) source v es p) (λ _. still_leads S Never es v p)
-
-  arrivals_same : Leads S S Never (arrivals c s)
-  unfolding arrivals
-  arrivals_same = chain_each S Never (arrival s) (sources c) arrival_same
-
-  acceptance_same : (source : Source) → Leads S S Never (acceptance c source)
-  unfolding acceptance S
-  acceptance_same (IsrSource i) v es p =
-      cond_both (is_accepted v (IsrSource i)) _ _ (LeadsTo S Never es)
-      (λ _. record { tick = p.tick; start = p.start; mode = p.mode }) (λ _. p)
-  acceptance_same (OisrSource i) v es p =
-      cond_both (is_accepted v (OisrSource i)) _ _ (LeadsTo S Never es)
-      (λ _. record { tick = p.tick; start = p.start; mode = p.mode }) (λ _. p)
-
-  acceptances_same : Leads S S Never (acceptances c)
-  unfolding acceptances
-  acceptances_same = chain_each S Never (acceptance c) (sources c) acceptance_same
-
--- a tick raises the clock
-module _ (c : ConfigParts) (s : ScriptParts) (w : World) where
-  Now : World → Type 0
-  Now v = SameRound w v
-
-  pub record OneLater (v : World) : Type 0 where
-    pub tick : v.tick ≡ w.tick + 1
-    pub start : v.start ≡ w.start
-    pub mode : v.mode ≡ w.mode
-
-  left_now : (u : World) (r : Runner) (after : List Stmt) → Now u → Now (leaving u r after)
-  unfolding Now
-  left_now u (runner.Isr isr) after p = record { tick = p.tick; start = p.start; mode = p.mode }
-  left_now u (runner.Job place) after p = record { tick = p.tick; start = p.start; mode = p.mode }
-  left_now u (runner.Oisr oisr) after p = record { tick = p.tick; start = p.start; mode = p.mode }
-  left_now u (runner.Osek task) after p = record { tick = p.tick; start = p.start; mode = p.mode }
-  left_now u runner.Nobody after p = p
-
-  step_now : StepKeeps c s Now Now OneLater
-  unfolding Now
-  step_now = record {
-    free = λ u _ _ _ _ _ p. record { tick = p.tick; start = p.start; mode = p.mode };
-    synced = λ u _ p. record { tick = p.tick; start = p.start; mode = p.mode };
-    left = λ u after p _. left_now u (runner_of c u) after p;
-    over = λ u _ p. record { tick = ap (λ (t : ℕ). t + 1) p.tick; start = p.start; mode = p.mode };
-  }
-
-  pub step_later : (es : List Event) → LeadsTo (Alone OneLater) Anything es (step c s w)
-  unfolding Now
-  step_later es = step_holds c s Now Now OneLater step_now w es (record { tick = refl; start = refl; mode = refl })
 
 -- ---- what is said of the events so far
 
@@ -205,23 +120,19 @@ module _ (c : ConfigParts) (s : ScriptParts) (rules : IsConfig c) where
     same_as w = record { tick = refl; start = refl; mode = refl }
 
     latch_said : Leads P P Q (latch c)
-    unfolding S
     latch_said w es p = same_said w es (latch c w) p (latch_all IsQuiet c (λ _ _. (refl, refl)) w)
         (latch_all IsCalm c (λ _ _ _. refl) w) (latch_same c s w w es (same_as w))
 
     enables_said : Leads P P Q (enables c)
-    unfolding S
     enables_said w es p = same_said w es (enables c w) p (enables_all IsQuiet c (λ _ _. (refl, refl)) w)
         (enables_all IsCalm c (λ _ _ _. refl) w) (enables_same c s w w es (same_as w))
 
     arrivals_said : Leads P P Q (arrivals c s)
-    unfolding S
     arrivals_said w es p =
         same_said w es (arrivals c s w) p (arrivals_all IsQuiet c s (λ _ _. (refl, refl)) (λ _ _. (refl, refl)) w)
             (arrivals_all IsCalm c s (λ _ _ _. refl) (λ _ _ _. refl) w) (arrivals_same c s w w es (same_as w))
 
     acceptances_said : Leads P P Q (acceptances c)
-    unfolding S
     acceptances_said w es p = same_said w es (acceptances c w) p (acceptances_all IsQuiet c (λ _ _. (refl, refl)) w)
         (acceptances_all IsCalm c (λ _ _ _. refl) w) (acceptances_same c s w w es (same_as w))
 

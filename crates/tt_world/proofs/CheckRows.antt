@@ -23,25 +23,25 @@ use Rattle.tt_world.proofs.Deadlines.{IsFrom, point_is_from}
 use Rattle.tt_world.proofs.Places.{Placed}
 
 module _ (seen : List Event) (at start : ℕ) (mode : ModeDef) (is_due : Point → Bool) where
-  abbrev rows_of : List ActivationRow → List Event
+  abbrev pub rows_of : List ActivationRow → List Event
   rows_of rows = checked_rows seen at start mode is_due rows
 
-  abbrev ended : ActivationRow → Bool
+  abbrev pub ended : ActivationRow → Bool
   ended row = has_ended (start + row.offset) (owner.Task row.task) seen
 
-  abbrev check_of : TaskNo → Bool → List Event → List Event
+  abbrev pub check_of : TaskNo → Bool → List Event → List Event
   check_of task met others = (check_then at task met (record { events = others; missed = None })).events
 
-  no_rows : rows_of [] ≡ []
+  pub no_rows : rows_of [] ≡ []
   unfolding checked_rows
   no_rows = refl
 
-  row_not_due : (row : ActivationRow) (rest : List ActivationRow) → is_due (point_of mode row) ≡ false
+  pub row_not_due : (row : ActivationRow) (rest : List ActivationRow) → is_due (point_of mode row) ≡ false
       → rows_of (row ∷ rest) ≡ rows_of rest
   unfolding checked_rows
   row_not_due row rest e = rw e refl
 
-  row_due : (row : ActivationRow) (rest : List ActivationRow) (met : Bool) → is_due (point_of mode row) ≡ true
+  pub row_due : (row : ActivationRow) (rest : List ActivationRow) (met : Bool) → is_due (point_of mode row) ≡ true
       → ended row ≡ met → rows_of (row ∷ rest) ≡ check_of row.task met (rows_of rest)
   unfolding checked_rows
   row_due row rest true e f = rw e (rw f refl)

@@ -162,7 +162,7 @@ module _ (E : Event → Type 0) where
         (h.hook _, all_more (outs_of w.tick owner.ShutdownHook w.vars c.shutdown_hook) (Shutdown w.tick ∷ [])
             (outs_all w.tick owner.ShutdownHook w.vars c.shutdown_hook) (h.shutdown _, tt))
 
-    after_all : (c : ConfigParts) (fs : List Event) (missed : Option TaskNo) (w : World) → Of E fs
+    pub after_all : (c : ConfigParts) (fs : List Event) (missed : Option TaskNo) (w : World) → Of E fs
         → Of E (after_checks c fs missed w).events
     after_all c fs None w p = p
     after_all c fs (Some task) w p =

@@ -26,6 +26,7 @@ pub mod Through
 pub mod Fates
 pub mod FateParts
 pub mod NoMiss
+pub mod SameRounds
 pub mod RoundActs
 pub mod Calm
 pub mod Activates
@@ -41,3 +42,8 @@ pub mod OwnerLaws
 pub mod EndsSeen
 pub mod SeenTicks
 pub mod SeenRuns
+pub mod RoundFolds
+pub mod RoundRuns
+pub mod CheckEnds
+pub mod RoundChecks
+pub mod MonitorLaw

@@ -118,7 +118,7 @@ all_done k i =
 -- ---- a run
 
 module _ (c : ConfigParts) (s : ScriptParts) (rules : IsConfig c) (script : IsScript c s) where
-  abbrev State : ℕ → OfRun
+  abbrev pub State : ℕ → OfRun
   State n v es = FactsOf c n n v es × (Ran v.last es × Of Mute es)
 
   -- after an opening that goes on
@@ -136,7 +136,7 @@ module _ (c : ConfigParts) (s : ScriptParts) (rules : IsConfig c) (script : IsSc
       followed_leads (λ v fs. FactsOf c n (n + 1) v fs × Ahead c 1 v) (FactsOf c (n + 1) (n + 1)) Anything es
           (opening c s w) (step c s) (opened n w es f a) (λ v ds p. step_facts c s rules n v ds p.0 p.1)
 
-  state_at : (n : ℕ) → GoesOnBefore c s n → State n (world_at c s n) (events_before c s n)
+  pub state_at : (n : ℕ) → GoesOnBefore c s n → State n (world_at c s n) (events_before c s n)
   unfolding world_at events_before instant_at last_owner after_round
   state_at zero g = (
     (
@@ -182,7 +182,7 @@ module _ (c : ConfigParts) (s : ScriptParts) (rules : IsConfig c) (script : IsSc
   said_at k l = said c s k (world_at c s k) (state_at k (before k l)).0.0
 
   -- later instants are not seen
-  later_unseen : (u j : ℕ) → u + 1 ≤ j → j ≤ n + 1
+  pub later_unseen : (u j : ℕ) → u + 1 ≤ j → j ≤ n + 1
       → seen_at u (events_before c s j) ≡ seen_at u (events_before c s (suc u))
   unfolding events_before
   later_unseen u zero l m = absurd (omega arith)

@@ -154,7 +154,7 @@ module _ (c : ConfigParts) (s : ScriptParts) (P : Phase → OfRun) (Q : OfEnd) (
       → Leads (P b) (P Activated) Q (chain parts) → Leads (P a) (P Activated) Q (chain (part ∷ parts))
   link a b part parts h rest = chain_more (P a) (P b) (P Activated) Q part parts h rest
 
-  due_leads : Leads (P Begun) (P Activated) Q (chain (due c s))
+  pub due_leads : Leads (P Begun) (P Activated) Q (chain (due c s))
   due_leads =
       link Begun Checked (checks c) _ k.checks_are (link Checked Enabled (enables c) _ k.enables_are
       (link Enabled Arrived (arrivals c s) _ k.arrivals_are (link Arrived Accepted (acceptances c) _ k.acceptances_are

@@ -1,5 +1,5 @@
 -- The laws of the events of a schedule. Each is read from the events and the configuration alone.
-use Rattle.std.specs.Prelude.{◌≡◌, ℕ, ◌+◌, ◌-◌, ◌<◌, ◌≤◌, ◌==◌, ◌⊎◌, not, nat_lt, Bool, true, false, List, [], ◌∷◌, ◌++◌, map, filter, All, Option, None, Some, IfSome, cond, ℤ}
+use Rattle.std.specs.Prelude.{◌≡◌, ℕ, ◌+◌, ◌-◌, ◌<◌, ◌≤◌, ◌==◌, ◌⊎◌, not, nat_lt, Bool, true, false, List, [], ◌∷◌, ◌++◌, map, filter, All, Option, None, Some, is_some, IfSome, cond, ℤ}
 use Rattle.std.specs.List.{list_any}
 use Rattle.tt_base.specs.declared.number.TaskNo.{TaskNo}
 use Rattle.tt_base.specs.declared.number.IsrNo.{IsrNo}
@@ -35,13 +35,9 @@ unfoldable pub next_start : (end : ℕ) → List Event → ℕ
 next_start end [] = end
 next_start end (event ∷ rest) = start_or (next_start end rest) (round_of event)
 
--- whether another round begins
+-- whether no other round begins
 abbrev pub is_last_round : List Event → Bool
-is_last_round rest = not (list_any (λ (event : Event). is_round (round_of event)) rest)
-  where
-    is_round : Option RoundStart → Bool
-    is_round None = false
-    is_round (Some round) = true
+is_last_round rest = not (list_any (λ (event : Event). is_some (round_of event)) rest)
 
 -- a law of each round: of its start and mode, and of the events after its Round event
 abbrev pub EachRound : (RoundStart → List Event → Type 0) → List Event → Type 0
@@ -120,12 +116,16 @@ HasChecks c events round rest t is_due =
     filter (is_check_at t) (until_round rest) ≡ checked_rows
         (seen_at t events) t round.start mode is_due mode.activations
 
+-- a round can have this length
+abbrev pub IsRoundLength : ConfigParts → ℕ → Type 0
+IsRoundLength c length = (c.round - c.adjust ≤ length) × (length ≤ c.round + c.adjust)
+
 -- at the last tick of a round: the points that are not offsets of the round, where it ends by its length
-abbrev pub ChecksAtEnd : (last : Bool) → Status → ((Point → Bool) → Type 0) → ℕ → Type 0
-ChecksAtEnd false status Has length = Has (is_at_end length)
-ChecksAtEnd true Done Has length = Has (is_at_end length)
-ChecksAtEnd true (Shut tick) Has length = Has (is_at length)
-ChecksAtEnd true (Missed task tick) Has length = Has (is_at length) ⊎ Has (is_at_end length)
+abbrev pub ChecksAtEnd : ConfigParts → (last : Bool) → Status → ((Point → Bool) → Type 0) → ℕ → Type 0
+ChecksAtEnd c false status Has length = Has (is_at_end length)
+ChecksAtEnd c true Done Has length = Has (is_at_end length)
+ChecksAtEnd c true (Shut tick) Has length = Has (is_at length)
+ChecksAtEnd c true (Missed task tick) Has length = Has (is_at length) ⊎ (IsRoundLength c length × Has (is_at_end length))
 
 -- an event of the body of a hook
 abbrev pub IsOutOf : Owner → ℕ → Event → Type 0
@@ -139,15 +139,23 @@ pub record IsViolation (at : ℕ) (task : TaskNo) (after : List Event) : Type 0 
   pub outs_are : All (IsOutOf owner.ShutdownHook at) outs
   pub is : after ≡ ErrorHook at task ∷ (errors ++ ShutdownHook at ∷ (outs ++ Shutdown at ∷ []))
 
+-- each round has the checks of the points that it reaches, up to the first that is missed, and no others; a missed check is
+-- followed by the hooks, and ttErrorHook is called right after a missed check alone
 pub record ChecksMonitor (c : ConfigParts) (events : List Event) : Type 0 where
   pub checks : EachRound
-      (λ round rest. (t : ℕ) → round.start ≤ t → t < next_start (last_stamp events) rest
-          → HasChecks c events round rest t (is_at (t - round.start)))
+      (λ round rest.
+      (t : ℕ) → round.start ≤ t → t < next_start (last_stamp events) rest
+      → HasChecks c events round rest t (is_at (t - round.start)))
       events
   pub at_end : EachRound
       (λ round rest.
       let end = next_start (last_stamp events) rest in
-      ChecksAtEnd (is_last_round rest) (status_of events) (HasChecks c events round rest end) (end - round.start))
+      ChecksAtEnd c (is_last_round rest) (status_of events) (HasChecks c events round rest end) (end - round.start))
+      events
+  pub others : EachRound
+      (λ round rest.
+      (t : ℕ) → (t < round.start) ⊎ (next_start (last_stamp events) rest < t)
+      → filter (is_check_at t) (until_round rest) ≡ [])
       events
   pub violation : (before after : List Event) (at : ℕ) (task : TaskNo) → events ≡ before ++ Check at task false ∷ after
       → IsViolation at task after

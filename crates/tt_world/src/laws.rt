@@ -1,6 +1,6 @@
 //! Laws of every run. Each is the contract of a function with an empty body.
 
-ghost use Rattle.tt_world.specs.RunLaws.{PointsAreAhead, IsrIsBounded, NoMiss, ActivationsLaw, TasksAreSingle, OwnersLaw};
+ghost use Rattle.tt_world.specs.RunLaws.{PointsAreAhead, IsrIsBounded, NoMiss, ActivationsLaw, TasksAreSingle, OwnersLaw, ChecksLaw};
 
 /// An activation with statements left has not reached its monitoring point.
 pub fn points_are_ahead()
@@ -33,4 +33,12 @@ pub fn tasks_are_single()
 /// the unfinished one of the highest level, and anybody else where neither is unfinished.
 pub fn owners_are_right()
     ensures { OwnersLaw }
+{}
+
+/// Each round has the checks of the monitoring points that it reaches, each at its tick and in the
+/// order of the rows, up to the first that is missed, and no others; a check is missed exactly where
+/// its activation has not ended. After a missed check ttErrorHook is called, and nowhere else; then
+/// ttShutdownHook, and the run is over.
+pub fn checks_monitor()
+    ensures { ChecksLaw }
 {}

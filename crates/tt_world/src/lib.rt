@@ -11,7 +11,8 @@ pub use config::{
     Activation, Config, ConfigParts, Enable, IsrDef, ModeDef, OisrDef, OsekDef, TaskDef,
 };
 pub use laws::{
-    isr_is_bounded, no_miss, owners_are_right, points_are_ahead, rounds_activate, tasks_are_single,
+    checks_monitor, isr_is_bounded, no_miss, owners_are_right, points_are_ahead, rounds_activate,
+    tasks_are_single,
 };
 pub use script::{Arrivals, Script, ScriptParts};
 pub use world::{Point, RunEnd, Runner};

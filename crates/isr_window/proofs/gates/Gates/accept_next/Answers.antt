@@ -1,4 +1,4 @@
-use Rattle.std.proofs.Common.{List, Bool, length, sym, ap, ◌∙◌, arith}
+use Rattle.std.proofs.Common.{◌<◌, List, Bool, length, sym, ap, subst, ◌∙◌, arith}
 use Rattle.std.specs.Prelude.{Some, option_map}
 use Rattle.tt_world.specs.Gates.{source_owner}
 use Rattle.isr_window.specs.Window.{Window, first_ready, accepting}
@@ -110,3 +110,21 @@ returns-clause-state c =
     ∙ ap (option_map oisr_source) (ap (first_ready_in g.oisrs_held g.oisrs_held) (sym c.oisrs.ensures) ∙ sym c.first_ready-2.ensures ∙ c.in_ok-number.was) in
     ap (λ (held : List Bool). record g { oisrs_held = held }) c.put-2.ensures
     ∙ sym (ap (λ (w : Window). accepting (first_ready busy w) w) (sym c.self.view_is) ∙ ap (λ o. accepting o g) chosen)
+
+pub returns-in-Some-clause-source : goal.returns-in-Some-clause-source
+returns-in-Some-clause-source c =
+    let g = c.self.inside in
+    let number = c.in-Some.number in
+    let below =
+    found_below (is_ready_in g.isrs_held g.isrs_enabled c.isrs.result.now) 0 (length g.isrs_held) number (sym c.first_ready.ensures ∙ c.in-Some.is) in
+    let here : number < length g.isrs_left = omega arith in
+    subst (λ (w : Window). number < length w.isrs_left) c.self.view_is here
+
+pub returns-clause-source : goal.returns-clause-source
+returns-clause-source c =
+    let g = c.self.inside in
+    let number = c.in_ok-number.number in
+    let below =
+    found_below (is_ready_in g.oisrs_held g.oisrs_held c.oisrs.result.now) 0 (length g.oisrs_held) number (sym c.first_ready-2.ensures ∙ c.in_ok-number.was) in
+    let here : number < length g.oisrs_left = omega arith in
+    subst (λ (w : Window). number < length w.oisrs_left) c.self.view_is here

@@ -1,0 +1,6 @@
+-- The ticks of an ascending list from one on.
+use Rattle.std.specs.Prelude.{ℕ, nat_le, List, [], ◌∷◌, if◌then◌else◌}
+
+abbrev pub ticks_from : ℕ → List ℕ → List ℕ
+ticks_from now [] = []
+ticks_from now (tick ∷ rest) = if nat_le now tick then tick ∷ rest else ticks_from now rest
