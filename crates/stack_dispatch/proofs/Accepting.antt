@@ -4,7 +4,7 @@ use Rattle.std.specs.Prelude.{option_map, ◌&&◌, not, map, if◌then◌else�
 use Rattle.std.specs.List.{find, range_with_len}
 use Rattle.std.proofs.Math.Seq.{set_out}
 use Rattle.std.proofs.lemmas.List.{get_or_past}
-use Rattle.std.proofs.lemmas.Bool.{cases_lt, cases_eq}
+use Rattle.std.proofs.lemmas.Bool.{cases_lt, cases_eq, cases_Bool, cond-true, cond-false, true≢false}
 use Rattle.task_lang.specs.declared.syntax.Stmt.{Stmt}
 use Rattle.tt_base.specs.declared.event.Event.{Event}
 use Rattle.tt_base.specs.declared.event.Event.TheVariants.{Accept}
@@ -19,8 +19,8 @@ use Rattle.tt_world.specs.Runners.{is_done, left_of, leaving}
 use Rattle.isr_window.specs.Busy.{BusySources, is_busy}
 use Rattle.isr_window.specs.Window.{Window, is_ready, all_sources, accepting as accepting_at}
 use Rattle.stack_dispatch.specs.State.{RunState}
-use Rattle.stack_dispatch.specs.Sources.{Action, Acts, accepting, first_of, NoneAccepted, IsSource, AreBusy, window_in, HasLists}
-use Rattle.stack_dispatch.proofs.Scanning.{Settles, scan, chain_scan}
+use Rattle.stack_dispatch.specs.Sources.{Action, Acts, accepting, first_of, Reached, NoneAccepted, IsSource, AreMarked, AreBusy, window_in, HasLists}
+use Rattle.stack_dispatch.proofs.Scanning.{Settles, scan, scan_none, chain_scan}
 
 -- ---- an acceptance settles its source
 
@@ -88,12 +88,46 @@ module _ (c : ConfigParts) where
       (each_number (IsSource c) (λ (j : ℕ). IsrSource (record { 0 = j })) 0 (length c.isrs) (λ j l m. omega arith))
       (each_number (IsSource c) (λ (j : ℕ). OisrSource (record { 0 = j })) 0 (length c.oisrs) (λ j l m. omega arith))
 
+  each_at : (E : Source → Type 0) (mk : ℕ → Source) (k n : ℕ) → Each E (map mk (range_with_len k n)) → (j : ℕ) → k ≤ j → j < k + n → E (mk j)
+  each_at E mk k zero h j l m = absurd (omega arith)
+  each_at E mk k (suc n) h j l m =
+      ⊎_elim (λ (e : j ≡ k). rw e h.0) (λ (ne : j ≢ k). each_at E mk (k + 1) n h.1 j (omega (arith, ne)) (omega arith)) (cases_eq j k)
+
+  each_parts : (E : Source → Type 0) (xs ys : List Source) → Each E (xs ++ ys) → Each E xs × Each E ys
+  each_parts E [] ys h = (tt, h)
+  each_parts E (x ∷ xs) ys h = let rest = each_parts E xs ys h.1 in ((h.0, rest.0), rest.1)
+
+  none_each : (p : Source → Bool) (xs : List Source) → find p xs ≡ None → Each (λ x. p x ≡ false) xs
+  none_each p [] e = tt
+  none_each p (x ∷ xs) e =
+      ⊎_elim (λ (t : p x ≡ true). let clash : Some x ≡ None = sym (cond-true _ _ _ t) ∙ e in absurd cc)
+      (λ (f : p x ≡ false). (f, none_each p xs (sym (cond-false _ _ _ f) ∙ e))) (cases_Bool (p x))
+
+  -- where no source is found none passes the test
+  pub none_found : (p : Source → Bool) → find p (sources c) ≡ None → (x : Source) → IsSource c x → p x ≡ false
+  none_found p e (IsrSource i) is =
+      each_at (λ x. p x ≡ false) (λ (j : ℕ). IsrSource (record { 0 = j })) 0 (length c.isrs)
+      (each_parts (λ x. p x ≡ false) _ _ (none_each p (sources c) e)).0 i.0 (omega arith) (omega arith)
+  none_found p e (OisrSource i) is =
+      each_at (λ x. p x ≡ false) (λ (j : ℕ). OisrSource (record { 0 = j })) 0 (length c.oisrs)
+      (each_parts (λ x. p x ≡ false) (map (λ (j : ℕ). IsrSource (record { 0 = j })) (range_with_len 0 (length c.isrs))) _ (none_each p (sources c) e)).1 i.0 (omega arith) (omega arith)
+
   pub find_alike : (p q : Source → Bool) → ((x : Source) → IsSource c x → p x ≡ q x) → find p (sources c) ≡ find q (sources c)
   find_alike p q same = alike (sources c) each_source
     where
       alike : (xs : List Source) → Each (IsSource c) xs → find p xs ≡ find q xs
       alike [] e = refl
       alike (x ∷ xs) e = ap (λ b. if b then Some x else find p xs) (same x e.0) ∙ ap (λ o. if q x then Some x else o) (alike xs e.1)
+
+  none_passes : (xs : List Source) → find (λ _. false) xs ≡ None
+  none_passes [] = refl
+  none_passes (x ∷ xs) = none_passes xs
+
+  -- where nothing can be accepted, acceptances change nothing
+  pub none_of : (w : World) → NoneAccepted c w → acceptances c w ≡ goes_on w []
+  none_of w none =
+      acceptances_scan w
+      ∙ ap (λ (r : Reached World). goes_on r.state r.events) (scan_none (accepting c) (sources c) w (find_alike (is_accepted w) (λ _. false) none ∙ none_passes (sources c)))
 
   pub same_sources : (st : RunState) → HasLists c st.beside → all_sources (window_in st) ≡ sources c
   same_sources st h =
@@ -121,6 +155,40 @@ module _ (c : ConfigParts) where
   first_same busy st are h =
       ap (find (is_ready busy (window_in st))) (same_sources st h)
       ∙ find_alike (is_ready busy (window_in st)) (is_accepted st.world) (ready_same busy st are)
+
+  -- ---- the sources that are busy
+
+  not_not : (a b : Bool) → a ≡ not b → not a ≡ b
+  not_not a true e = ap not e
+  not_not a false e = ap not e
+
+  pub are_busy : (busy : BusySources) (w : World) → AreMarked (length c.isrs) w.isrs busy.isrs → AreMarked (length c.oisrs) w.oisrs busy.oisrs
+      → AreBusy c busy w
+  are_busy busy w p q (IsrSource i) is held = not_not _ _ (p i.0 is)
+  are_busy busy w p q (OisrSource i) is held = not_not _ _ (q i.0 is)
+
+  -- an acceptance leaves them as they are at the other sources
+  pub busy_kept : (busy : BusySources) (w : World) (x : Source) → AreBusy c busy w → AreBusy c busy ((accepting c).act x w)
+  busy_kept busy w (IsrSource i) are (IsrSource j) is held =
+      ⊎_elim (λ (e : j.0 ≡ i.0). absurd (true≢false (sym held ∙ rw e (unset w.isrs_held i.0))))
+      (λ (ne : j.0 ≢ i.0).
+      are (IsrSource j) is (sym (get_or-set_other w.isrs_held i.0 j.0 false false ne) ∙ held)
+      ∙ ap is_done (sym (get_or-set_other w.isrs i.0 j.0 (routine_of c (IsrSource i)) [] ne))) (cases_eq j.0 i.0)
+  busy_kept busy w (OisrSource i) are (OisrSource j) is held =
+      ⊎_elim (λ (e : j.0 ≡ i.0). absurd (true≢false (sym held ∙ rw e (unset w.oisrs_held i.0))))
+      (λ (ne : j.0 ≢ i.0).
+      are (OisrSource j) is (sym (get_or-set_other w.oisrs_held i.0 j.0 false false ne) ∙ held)
+      ∙ ap is_done (sym (get_or-set_other w.oisrs i.0 j.0 (routine_of c (OisrSource i)) [] ne))) (cases_eq j.0 i.0)
+  busy_kept busy w (IsrSource i) are (OisrSource j) is held = are (OisrSource j) is held
+  busy_kept busy w (OisrSource i) are (IsrSource j) is held = are (IsrSource j) is held
+
+  pub busy_acted : (busy : BusySources) (w v : World) (es fs : List Event) → Acts (accepting c) (first_of (accepting c) c w) w es v fs true
+      → AreBusy c busy w → AreBusy c busy v
+  busy_acted busy w v es fs acts are = of_first (first_of (accepting c) c w) acts
+    where
+      of_first : (o : Option Source) → Acts (accepting c) o w es v fs true → AreBusy c busy v
+      of_first None d = absurd (true≢false d.more_is)
+      of_first (Some x) d = subst (AreBusy c busy) (sym d.state_is) (busy_kept busy w x are)
 
   -- ---- what the code does at a source
 

@@ -2,10 +2,9 @@
 use Rattle.std.proofs.Common.{◌≡◌, ℕ, zero, suc, ◌≢◌, ◌<◌, ◌≤◌, ◌+◌, List, [], ◌∷◌, ◌++◌, Bool, true, false, Option, None, Some, refl, ap, sym, ◌∙◌, subst, eqb, length, arith, drop, get_or, set, get_or-set_same, get_or-set_other, append-nil, ⊎_elim}
 use Rattle.std.specs.Prelude.{◌==◌, ◌||◌, option_map, map, min, if◌then◌else◌, slice_get}
 use Rattle.std.specs.List.{find, list_any, range_with_len}
-use Rattle.std.specs.Option.{ForSome, option_or}
+use Rattle.std.specs.Option.{ForSome}
 use Rattle.std.proofs.Math.Seq.{set_out}
 use Rattle.std.proofs.lemmas.List.{get_or_past, set-get_or, length-set}
-use Rattle.std.proofs.lemmas.List.Folds.{find-append}
 use Rattle.std.proofs.lemmas.List.FromFn.{length-map-range_with_len}
 use Rattle.std.proofs.lemmas.Bool.{cases_lt, cases_eq, cases_Bool, eq-eqb, eqb-true, eqb-false, false_from_ne_true, cond-true, cond-false}
 use Rattle.tt_base.specs.declared.event.Event.{Event}
@@ -20,7 +19,7 @@ use Rattle.isr_window.specs.Arrived.{arrived_at}
 use Rattle.isr_window.specs.declared.gates.Arrived.{Arrived}
 use Rattle.stack_dispatch.specs.State.{RunState}
 use Rattle.stack_dispatch.specs.Sources.{Action, Acts, arriving, first_of, window_in, with_window, HasLists, Ascends, ticks_at, AreToCome, NoneBefore}
-use Rattle.stack_dispatch.proofs.Accepting.{same_sources}
+use Rattle.stack_dispatch.proofs.Accepting.{same_sources, none_found}
 use Rattle.stack_dispatch.proofs.Scanning.{Settles, scan, chain_scan}
 
 -- ---- ticks that ascend
@@ -226,41 +225,21 @@ module _ (c : ConfigParts) (s : ScriptParts) where
         (λ e. without_same t u _ (ap (λ (n : ℕ). is_next n (ticks_at st y)) (sym now) ∙ ap (arriving.test st) e ∙ due) (omega arith) ∙ h.same y u l);
   }
 
-  -- no source that is there has one
-  none_number : (p : Source → Bool) (mk : ℕ → Source) (k n : ℕ) → find p (map mk (range_with_len k n)) ≡ None
-      → (j : ℕ) → k ≤ j → j < k + n → p (mk j) ≡ false
-  none_number p mk k zero e j l m = absurd (omega arith)
-  none_number p mk k (suc n) e j l m =
-      ⊎_elim (λ (t : p (mk k) ≡ true). let clash : Some (mk k) ≡ None = sym (cond-true _ _ _ t) ∙ e in cc)
-      (λ (f : p (mk k) ≡ false).
-      ⊎_elim (λ (same : j ≡ k). rw same f)
-      (λ (ne : j ≢ k). none_number p mk (k + 1) n (sym (cond-false _ _ _ f) ∙ e) j (omega (arith, ne)) (omega arith)) (cases_eq j k))
-      (cases_Bool (p (mk k)))
-
-  both_none : (a b : Option Source) → option_or a b ≡ None → (a ≡ None) × (b ≡ None)
-  both_none None b e = (refl, e)
-  both_none (Some x) b e = cc
-
+  -- no source has an arrival at this tick
   none_due : (st : RunState) → HasLists c st.beside → find (arriving.test st) (sources c) ≡ None → (x : Source) → arriving.test st x ≡ false
-  none_due st h e x =
-      let isrs = map (λ (j : ℕ). IsrSource (record { 0 = j })) (range_with_len 0 (length c.isrs)) in
-      let both = both_none _ _ (sym (find-append (arriving.test st) isrs _) ∙ e) in
-      of_source x both.0 both.1
+  none_due st h e x = of_source x
     where
       past : (lists : List (List ℕ)) (i : ℕ) → length lists ≤ i → is_next st.world.tick (get_or lists i []) ≡ false
       past lists i g = ap (is_next st.world.tick) (get_or_past lists i [] g)
 
-      of_source : (y : Source)
-          → find (arriving.test st) (map (λ (j : ℕ). IsrSource (record { 0 = j })) (range_with_len 0 (length c.isrs))) ≡ None
-          → find (arriving.test st) (map (λ (j : ℕ). OisrSource (record { 0 = j })) (range_with_len 0 (length c.oisrs))) ≡ None
-          → arriving.test st y ≡ false
-      of_source (IsrSource i) a b =
+      of_source : (y : Source) → arriving.test st y ≡ false
+      of_source (IsrSource i) =
           let long = h.isrs in
-          ⊎_elim (λ (l : i.0 < length c.isrs). none_number (arriving.test st) (λ (j : ℕ). IsrSource (record { 0 = j })) 0 _ a i.0 (omega arith) (omega arith))
+          ⊎_elim (λ (l : i.0 < length c.isrs). none_found c (arriving.test st) e (IsrSource i) l)
           (λ (g : length c.isrs ≤ i.0). past st.beside.isrs_ticks i.0 (omega arith)) (cases_lt i.0 (length c.isrs))
-      of_source (OisrSource i) a b =
+      of_source (OisrSource i) =
           let long = h.oisrs in
-          ⊎_elim (λ (l : i.0 < length c.oisrs). none_number (arriving.test st) (λ (j : ℕ). OisrSource (record { 0 = j })) 0 _ b i.0 (omega arith) (omega arith))
+          ⊎_elim (λ (l : i.0 < length c.oisrs). none_found c (arriving.test st) e (OisrSource i) l)
           (λ (g : length c.oisrs ≤ i.0). past st.beside.oisrs_ticks i.0 (omega arith)) (cases_lt i.0 (length c.oisrs))
 
   -- none is left at this tick

@@ -11,7 +11,7 @@ use Rattle.tt_world.specs.declared.script.ScriptParts.{ScriptParts}
 use Rattle.tt_world.specs.declared.world.Point.{Point}
 use Rattle.tt_world.specs.World.{World, Source, Job}
 use Rattle.tt_world.specs.Correction.{is_length}
-use Rattle.tt_world.specs.Gates.{enable, enables, arrivals_of, arrival, arrivals, acceptance, acceptances, sources}
+use Rattle.tt_world.specs.Gates.{enable, enables, arrivals_of, arrival, arrivals, acceptances, sources}
 use Rattle.tt_world.specs.Monitoring.{Checked, is_at, checked, check_if, check_then, after_checks, monitored}
 use Rattle.tt_world.specs.Moved.{Moved, goes_on, preceded, is_over, continued, followed, chain}
 use Rattle.tt_world.specs.Opening.{checks, activated, activation, due, first_parts, later_parts, opening}
@@ -23,6 +23,7 @@ use Rattle.tt_world.proofs.Moves.{going_from}
 use Rattle.tt_world.proofs.Parts.{by_end, Alone, Anything}
 use Rattle.tt_world.proofs.Keeps.{Holds, monitored_holds, IgnoresGates, enables_hold, arrivals_hold, acceptances_hold}
 use Rattle.stack_dispatch.specs.Sources.{NoneAccepted}
+use Rattle.stack_dispatch.proofs.Accepting.{none_of}
 use Rattle.stack_dispatch.specs.Due.{enables_from, due_from}
 
 -- ---- parts
@@ -173,6 +174,5 @@ module _ (c : ConfigParts) (s : ScriptParts) (w : World) (n : NothingDue c s w) 
       ∙ last_parts
 
   -- where nothing can be accepted either, the opening changes nothing
-  pub opening_idles : NoneAccepted w → opening c s w ≡ goes_on w []
-  unfolding acceptances acceptance
-  opening_idles none = opening_accepts ∙ idle_parts (acceptance c) (sources c) w (λ source. cond-false _ _ _ (none source))
+  pub opening_idles : NoneAccepted c w → opening c s w ≡ goes_on w []
+  opening_idles none = opening_accepts ∙ none_of c w none

@@ -1,12 +1,14 @@
 -- What is done at the first of some sources at which there is something to do, again and again, is what is done source after source.
-use Rattle.std.proofs.Common.{◌≡◌, ℕ, ◌<◌, suc, List, [], ◌∷◌, ◌++◌, Bool, true, false, None, Some, refl, ap, sym, ◌∙◌, append_assoc, append-nil, length, arith, ⊎_elim}
+use Rattle.std.proofs.Common.{◌≡◌, ℕ, ◌<◌, suc, List, [], ◌∷◌, ◌++◌, Bool, true, false, Option, None, Some, refl, ap, sym, ◌∙◌, append_assoc, append-nil, length, arith, ⊎_elim}
 use Rattle.std.specs.Prelude.{map, if◌then◌else◌}
 use Rattle.std.specs.List.{find}
-use Rattle.std.proofs.lemmas.Bool.{cond-true, cond-false, cases_Bool}
+use Rattle.std.proofs.lemmas.Bool.{cond-true, cond-false, cases_Bool, true≢false}
 use Rattle.tt_base.specs.declared.event.Event.{Event}
+use Rattle.tt_world.specs.declared.config.ConfigParts.{ConfigParts}
+use Rattle.tt_world.specs.Gates.{sources}
 use Rattle.tt_world.specs.World.{World, Source}
 use Rattle.tt_world.specs.Moved.{Moved, goes_on, preceded, followed, chain}
-use Rattle.stack_dispatch.specs.Sources.{Action, Reached}
+use Rattle.stack_dispatch.specs.Sources.{Action, Acts, Reached, first_of}
 
 abbrev noted : {St : Type 0} → Event → Reached St → Reached St
 noted e r = record { state = r.state; events = e ∷ r.events }
@@ -23,7 +25,7 @@ module _ {St : Type 0} (a : Action St) where
   scan [] st = record { state = st; events = [] }
   scan (x ∷ xs) st = if a.test st x then noted (a.line st x) (scan xs (a.act x st)) else scan xs st
 
-  scan_none : (xs : List Source) (st : St) → find (a.test st) xs ≡ None → scan xs st ≡ record { state = st; events = [] }
+  pub scan_none : (xs : List Source) (st : St) → find (a.test st) xs ≡ None → scan xs st ≡ record { state = st; events = [] }
   unfolding scan
   scan_none [] st e = refl
   scan_none (x ∷ xs) st e =
@@ -79,6 +81,36 @@ module _ {St : Type 0} (a : Action St) where
     pub fewer : (xs : List Source) (x : Source) (st : St) → P st → find (a.test st) xs ≡ Some x
         → length (scan xs (a.act x st)).events < length (scan xs st).events
     fewer xs x st p e = let more = ap (λ (z : Reached St). length z.events) (scan_some xs x st p e) in omega arith
+
+    -- what the code did is what is done at the first source with something to do
+    module _ (c : ConfigParts) (from : St) (before : List Event) (st : St) (es : List Event) (next : St) (fs : List Event) where
+      pub resumes_acted : P st → Acts a (first_of a c st) st es next fs true → Resumes (sources c) from before st es
+          → Resumes (sources c) from before next fs
+      resumes_acted p acts r = of_first (first_of a c st) refl acts
+        where
+          of_first : (o : Option Source) → o ≡ first_of a c st → Acts a o st es next fs true → Resumes (sources c) from before next fs
+          of_first None is d = absurd (true≢false d.more_is)
+          of_first (Some x) is d = rw (d.state_is, d.events_are) (resumes_more (sources c) from before x st es p (sym is) r)
+
+      pub resumes_fewer : P st → Acts a (first_of a c st) st es next fs true
+          → length (scan (sources c) next).events < length (scan (sources c) st).events
+      resumes_fewer p acts = of_first (first_of a c st) refl acts
+        where
+          of_first : (o : Option Source) → o ≡ first_of a c st → Acts a o st es next fs true
+              → length (scan (sources c) next).events < length (scan (sources c) st).events
+          of_first None is d = absurd (true≢false d.more_is)
+          of_first (Some x) is d = rw d.state_is (fewer (sources c) x st p (sym is))
+
+      pub resumes_last : Acts a (first_of a c st) st es next fs false → Resumes (sources c) from before st es
+          → (first_of a c st ≡ None) × (next ≡ st) × (st ≡ (scan (sources c) from).state) × (fs ≡ before ++ (scan (sources c) from).events)
+      resumes_last acts r = of_first (first_of a c st) refl acts
+        where
+          of_first : (o : Option Source) → o ≡ first_of a c st → Acts a o st es next fs false
+              → (first_of a c st ≡ None) × (next ≡ st) × (st ≡ (scan (sources c) from).state) × (fs ≡ before ++ (scan (sources c) from).events)
+          of_first (Some x) is d = absurd (true≢false (sym d.more_is))
+          of_first None is d =
+              let last = resumes_none (sources c) from before st es (sym is) r in
+              (sym is, d.state_is, last.0, d.events_are ∙ append-nil es ∙ last.1)
 
   -- where each part does so, their chain does it source after source
   module _ (world_of : St → World) (part : Source → World → Moved) (H : List Source → St → Type 0)

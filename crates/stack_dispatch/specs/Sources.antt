@@ -1,6 +1,7 @@
 -- What the runner does at a source of interrupts.
-use Rattle.std.specs.Prelude.{◌≡◌, ℕ, ◌+◌, ◌<◌, ◌≤◌, ◌==◌, not, Bool, true, false, List, [], ◌∷◌, ◌++◌, Option, is_some, None, Some, length, if◌then◌else◌}
+use Rattle.std.specs.Prelude.{◌≡◌, ℕ, ◌+◌, ◌<◌, ◌≤◌, ◌==◌, not, Bool, true, false, List, [], ◌∷◌, ◌++◌, Option, is_some, None, Some, length, slice_index_or, if◌then◌else◌}
 use Rattle.std.specs.List.{find, list_any}
+use Rattle.task_lang.specs.declared.syntax.Stmt.{Stmt}
 use Rattle.tt_base.specs.declared.event.Event.{Event}
 use Rattle.tt_base.specs.declared.event.Event.TheVariants.{Arrive, Merge, Accept}
 use Rattle.tt_world.specs.declared.config.ConfigParts.{ConfigParts}
@@ -51,14 +52,19 @@ accepting c = record {
   line = λ w x. Accept w.tick (source_owner x);
 }
 
--- nothing can be accepted
-abbrev pub NoneAccepted : World → Type 0
-NoneAccepted w = (source : Source) → is_accepted w source ≡ false
-
 -- the sources of a configuration
 abbrev pub IsSource : ConfigParts → Source → Type 0
 IsSource c (IsrSource isr) = isr.0 < length c.isrs
 IsSource c (OisrSource oisr) = oisr.0 < length c.oisrs
+
+-- nothing can be accepted
+abbrev pub NoneAccepted : ConfigParts → World → Type 0
+NoneAccepted c w = (x : Source) → IsSource c x → is_accepted w x ≡ false
+
+-- the flags of the numbers below a count are set where something is left
+abbrev pub AreMarked : ℕ → List (List Stmt) → List Bool → Type 0
+AreMarked count lefts flags =
+    (number : ℕ) → number < count → slice_index_or flags number false ≡ not (is_done (slice_index_or lefts number []))
 
 -- the sources that are busy are those whose routine is unfinished, as far as an interrupt is held there
 abbrev pub AreBusy : ConfigParts → BusySources → World → Type 0
