@@ -1,7 +1,6 @@
-pub mod Activated
-pub mod Checking
-pub mod Playing
-pub mod Quiet
-pub mod Rounds
-pub mod Running
+pub mod Highest
 pub mod LastUnfinished
+pub mod Leaving
+pub mod Playing
+pub mod Serving
+pub mod Ticks

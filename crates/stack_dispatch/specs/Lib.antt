@@ -1,6 +1,5 @@
-pub mod Activated
-pub mod Checking
-pub mod RunEnd
-pub mod Runners
+pub mod Lefts
+pub mod Serving
 pub mod State
+pub mod Ticking
 pub mod Unfinished
