@@ -39,6 +39,7 @@ pub mod Unended
 pub mod OpenTicks
 pub mod TheOwner
 pub mod OwnerLaws
+pub mod Closing
 pub mod EndsSeen
 pub mod SeenTicks
 pub mod SeenRuns

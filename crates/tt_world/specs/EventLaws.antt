@@ -54,7 +54,7 @@ is_activate event = false
 abbrev pub activates_below : List ActivationRow → (start offset : ℕ) → List Event
 activates_below rows start offset =
     map (λ (row : ActivationRow). Activate (start + row.offset) row.task)
-        (filter (λ (row : ActivationRow). nat_lt row.offset offset) rows)
+    (filter (λ (row : ActivationRow). nat_lt row.offset offset) rows)
 
 -- after the end of the last round: a ttShutdownOS ends a run after the activation of its tick
 abbrev pub after_end : Status → ℕ → ℕ
@@ -68,7 +68,7 @@ ActivatesRows c events =
     (λ round rest.
     filter is_activate (until_round rest)
     ≡ activates_below (mode_at c round.mode.0).activations round.start
-        (next_start (after_end (status_of events) (last_stamp events)) rest - round.start))
+    (next_start (after_end (status_of events) (last_stamp events)) rest - round.start))
     events
 
 -- ---- owners
@@ -97,7 +97,7 @@ unfoldable pub checked_rows : (seen : List Event) → (at start : ℕ) → ModeD
 checked_rows seen at start mode is_due [] = []
 checked_rows seen at start mode is_due (row ∷ rest) =
     check_row (is_due (point_of mode row)) (has_ended (start + row.offset) (owner.Task row.task) seen)
-        (checked_rows seen at start mode is_due rest)
+    (checked_rows seen at start mode is_due rest)
   where
     check_row : (due met : Bool) → List Event → List Event
     check_row false met others = others
@@ -113,19 +113,21 @@ abbrev pub HasChecks : ConfigParts → (events : List Event) → RoundStart → 
     → Type 0
 HasChecks c events round rest t is_due =
     let mode = mode_at c round.mode.0 in
-    filter (is_check_at t) (until_round rest) ≡ checked_rows
-        (seen_at t events) t round.start mode is_due mode.activations
+    filter (is_check_at t) (until_round rest)
+    ≡ checked_rows (seen_at t events) t round.start mode is_due mode.activations
 
 -- a round can have this length
 abbrev pub IsRoundLength : ConfigParts → ℕ → Type 0
 IsRoundLength c length = (c.round - c.adjust ≤ length) × (length ≤ c.round + c.adjust)
 
--- at the last tick of a round: the points that are not offsets of the round, where it ends by its length
+-- at the last tick of a round: the points that are not offsets of the round, where it ends by its length; and where a
+-- missed deadline or ttShutdownOS ends the run at an offset of the round, the points at this offset
 abbrev pub ChecksAtEnd : ConfigParts → (last : Bool) → Status → ((Point → Bool) → Type 0) → ℕ → Type 0
 ChecksAtEnd c false status Has length = Has (is_at_end length)
 ChecksAtEnd c true Done Has length = Has (is_at_end length)
 ChecksAtEnd c true (Shut tick) Has length = Has (is_at length)
-ChecksAtEnd c true (Missed task tick) Has length = Has (is_at length) ⊎ (IsRoundLength c length × Has (is_at_end length))
+ChecksAtEnd c true (Missed task tick) Has length =
+    ((length < c.round + c.adjust) × Has (is_at length)) ⊎ (IsRoundLength c length × Has (is_at_end length))
 
 -- an event of the body of a hook
 abbrev pub IsOutOf : Owner → ℕ → Event → Type 0
@@ -139,8 +141,8 @@ pub record IsViolation (at : ℕ) (task : TaskNo) (after : List Event) : Type 0 
   pub outs_are : All (IsOutOf owner.ShutdownHook at) outs
   pub is : after ≡ ErrorHook at task ∷ (errors ++ ShutdownHook at ∷ (outs ++ Shutdown at ∷ []))
 
--- each round has the checks of the points that it reaches, up to the first that is missed, and no others; a missed check is
--- followed by the hooks, and ttErrorHook is called right after a missed check alone
+-- each round has the checks of the points that it reaches, up to the first that is missed, and no others; a missed
+-- check is followed by the hooks, and ttErrorHook is called right after a missed check alone
 pub record ChecksMonitor (c : ConfigParts) (events : List Event) : Type 0 where
   pub checks : EachRound
       (λ round rest.
