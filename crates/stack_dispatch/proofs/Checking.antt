@@ -21,16 +21,16 @@ use Rattle.stack_dispatch.specs.Checking.{checked_entries, Checks}
 
 -- ---- places of a list
 
-range_past : (xs : List ℕ) (i j : ℕ) → j ≤ i → slice_range xs i j ≡ []
+pub range_past : {X : Type 0} (xs : List X) (i j : ℕ) → j ≤ i → slice_range xs i j ≡ []
 range_past xs i j l = let none : j - i ≡ 0 = omega arith in ap (λ n. take n (drop i xs)) none
 
-range_more : (xs : List ℕ) (i j x : ℕ) → i < j → slice_get xs i ≡ Some x → slice_range xs i j ≡ x ∷ slice_range xs (i + 1) j
+pub range_more : {X : Type 0} (xs : List X) (i j : ℕ) (x : X) → i < j → slice_get xs i ≡ Some x → slice_range xs i j ≡ x ∷ slice_range xs (i + 1) j
 range_more xs i j x l e =
     let some : j - i ≡ suc (j - (i + 1)) = omega arith in
     let next : suc i ≡ i + 1 = omega arith in
     ap (λ n. take n (drop i xs)) some
-    ∙ ap (take (suc (j - (i + 1)))) (drop-cons xs i 0 (slice_get_within xs i x e))
-    ∙ ap (λ y. y ∷ take (j - (i + 1)) (drop (suc i) xs)) (get_or_from_slice_get xs i x 0 e)
+    ∙ ap (take (suc (j - (i + 1)))) (drop-cons xs i x (slice_get_within xs i x e))
+    ∙ ap (λ y. y ∷ take (j - (i + 1)) (drop (suc i) xs)) (get_or_from_slice_get xs i x x e)
     ∙ ap (λ n. x ∷ take (j - (i + 1)) (drop n xs)) next
 
 -- one more check: the events so far, and then those of this check

@@ -22,9 +22,8 @@ use Rattle.tt_world.specs.Runners.{job_at, is_done}
 use Rattle.tt_world.proofs.Moves.{going_from}
 use Rattle.tt_world.proofs.Parts.{by_end, Alone, Anything}
 use Rattle.tt_world.proofs.Keeps.{Holds, monitored_holds, IgnoresGates, enables_hold, arrivals_hold, acceptances_hold}
-use Rattle.stack_dispatch.specs.Sources.{NoneAccepted}
-use Rattle.stack_dispatch.proofs.Accepting.{none_of}
-use Rattle.stack_dispatch.specs.Due.{enables_from, due_from}
+use Rattle.isr_window.proofs.Acceptances.{acceptances_silent}
+use Rattle.stack_dispatch.specs.Due.{enables_from, due_from, NoneAccepted}
 
 -- ---- parts
 
@@ -175,4 +174,4 @@ module _ (c : ConfigParts) (s : ScriptParts) (w : World) (n : NothingDue c s w) 
 
   -- where nothing can be accepted either, the opening changes nothing
   pub opening_idles : NoneAccepted c w → opening c s w ≡ goes_on w []
-  opening_idles none = opening_accepts ∙ none_of c w none
+  opening_idles none = opening_accepts ∙ acceptances_silent c w none

@@ -1,14 +1,17 @@
 -- What is due at an instant, by the offset and the mode that it begins with.
-use Rattle.std.specs.Prelude.{ℕ, List, [], ◌∷◌, map}
+use Rattle.std.specs.Prelude.{◌≡◌, ℕ, ◌<◌, not, Bool, false, List, [], ◌∷◌, length, map, slice_index_or}
+use Rattle.task_lang.specs.declared.syntax.Stmt.{Stmt}
 use Rattle.tt_base.specs.declared.number.IsrNo.{IsrNo}
 use Rattle.tt_world.specs.declared.config.ModeDef.{ModeDef}
 use Rattle.tt_world.specs.declared.config.ConfigParts.{ConfigParts}
 use Rattle.tt_world.specs.declared.script.ScriptParts.{ScriptParts}
 use Rattle.tt_world.specs.World.{World}
+use Rattle.tt_world.specs.Runners.{is_done}
+use Rattle.isr_window.specs.Played.{source_at}
 use Rattle.tt_world.specs.Moved.{Moved, chain}
 use Rattle.tt_world.specs.Rows.{enables_at, entry_at}
 use Rattle.tt_world.specs.Monitoring.{is_at, monitored}
-use Rattle.tt_world.specs.Gates.{enable, arrivals, acceptances}
+use Rattle.tt_world.specs.Gates.{enable, arrivals, acceptances, is_accepted, sources}
 use Rattle.tt_world.specs.Opening.{activated}
 
 -- the enables of routines, in their order
@@ -28,3 +31,12 @@ due_from c s offset mode =
     ∷ acceptances c
     ∷ activated c (entry_at offset mode.activations)
     ∷ []
+
+-- nothing can be accepted
+abbrev pub NoneAccepted : ConfigParts → World → Type 0
+NoneAccepted c w = (place : ℕ) → place < length (sources c) → is_accepted w (source_at c place) ≡ false
+
+-- the flags of the numbers below a count are set where something is left
+abbrev pub AreMarked : ℕ → List (List Stmt) → List Bool → Type 0
+AreMarked count lefts flags =
+    (number : ℕ) → number < count → slice_index_or flags number false ≡ not (is_done (slice_index_or lefts number []))

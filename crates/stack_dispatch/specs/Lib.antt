@@ -1,8 +1,9 @@
-pub mod State
-pub mod Unfinished
-pub mod Lefts
-pub mod Due
-pub mod RunEnd
 pub mod Checking
+pub mod Due
+pub mod Lefts
+pub mod RunEnd
 pub mod Served
-pub mod Sources
+pub mod Serving
+pub mod State
+pub mod Ticking
+pub mod Unfinished

@@ -1,19 +1,17 @@
 //! Interrupts at an instant: enables, arrivals and acceptances.
 
-ghost use Rattle.std.specs.Prelude.{◌≡◌, ◌+◌, ◌≤◌, ◌<◌, ◌++◌, [], ◌∷◌, None, Some, true, false, length, replicate, slice_range, IfOk, if◌then◌else◌};
+ghost use Rattle.std.specs.Prelude.{◌≡◌, ◌+◌, ◌≤◌, ◌<◌, ◌++◌, [], ◌∷◌, None, Some, false, length, replicate, slice_range, IfOk};
 ghost use Rattle.tt_base.specs.declared.event.Event.TheVariants as event;
-ghost use Rattle.tt_base.specs.declared.event.Owner.TheVariants as owner;
-ghost use Rattle.tt_world.specs.Gates.{enable, acceptances, arrivals};
 ghost use Rattle.tt_world.specs.ConfigRules.{IsConfig};
-ghost use Rattle.tt_world.specs.Moved.{Gives, goes_on};
+ghost use Rattle.tt_world.specs.Gates.{enable, acceptances, arrivals};
+ghost use Rattle.tt_world.specs.Moved.{Gives};
 ghost use Rattle.tt_world.specs.Rows.{routine_of};
-ghost use Rattle.tt_world.specs.Runners.{leaving};
+ghost use Rattle.tt_world.specs.ScriptRules.{IsScript};
 ghost use Rattle.tt_world.specs.World.{IsrSource, OisrSource};
-ghost use Rattle.tt_world.specs.declared.world.Runner.TheVariants as runner;
+ghost use Rattle.isr_window.specs.Played.{arrival_event, begun, AreLeftFrom, AreSourcesOf, AreUnfinished};
 ghost use Rattle.round_table.specs.DueRows.{enables_of};
-ghost use Rattle.stack_dispatch.specs.State.{fixed_in};
-ghost use Rattle.stack_dispatch.specs.Due.{enables_by};
-ghost use Rattle.stack_dispatch.specs.Sources.{Acts, AreMarked, accepting, arriving, first_of, AreBusy, HasLists, AreToCome, NoneAccepted};
+ghost use Rattle.stack_dispatch.specs.Due.{enables_by, AreMarked, NoneAccepted};
+ghost use Rattle.stack_dispatch.specs.State.{fixed_in, window_in};
 
 use crate::lefts::Lefts;
 use crate::plain::Events;
@@ -47,7 +45,7 @@ fn begin_oisr(alloc: Global, config: &ConfigParts, oisr: OisrNo) -> Result<Left,
 
 /// The event of an arrival.
 fn arrival(at: Tick, arrived: Arrived) -> Event
-    ensures { result ≡ (if arrived.merged then event.Merge at arrived.source else event.Arrive at arrived.source) }
+    ensures { result ≡ arrival_event at arrived }
 {
     let source = arrived.source;
     if arrived.merged {
@@ -86,141 +84,6 @@ fn mark_oisrs(oisrs: &Lefts, count: usize, busy: &mut Busy)
 }
 
 impl State {
-    /// The routine of a time-triggered source begins.
-    fn start_isr(
-        &mut self,
-        alloc: Global,
-        config: &ConfigParts,
-        isr: IsrNo,
-        events: &mut Events,
-    ) -> Result<(), Memory>
-        ensures gives { IfOk result (λ _. Gives events.old events.new self.new.world None
-            (goes_on (leaving self.old.world (runner.Isr isr) (routine_of config.now (IsrSource isr)))
-            (event.Accept self.old.world.tick (owner.Isr isr) ∷ []))) }
-        ensures beside { self.new.beside ≡ self.old.beside }
-    {
-        let left = begin_isr(alloc, config, isr)?;
-        self.isrs.set(usize::from(isr.0), left);
-        events.push(Event::Accept {
-            at: self.tick,
-            source: Owner::Isr(isr),
-        })
-    }
-
-    /// The routine of a source of the OSEK subsystem begins.
-    fn start_oisr(
-        &mut self,
-        alloc: Global,
-        config: &ConfigParts,
-        oisr: OisrNo,
-        events: &mut Events,
-    ) -> Result<(), Memory>
-        ensures gives { IfOk result (λ _. Gives events.old events.new self.new.world None
-            (goes_on (leaving self.old.world (runner.Oisr oisr) (routine_of config.now (OisrSource oisr)))
-            (event.Accept self.old.world.tick (owner.Oisr oisr) ∷ []))) }
-        ensures beside { self.new.beside ≡ self.old.beside }
-    {
-        let left = begin_oisr(alloc, config, oisr)?;
-        self.oisrs.set(usize::from(oisr.0), left);
-        events.push(Event::Accept {
-            at: self.tick,
-            source: Owner::Oisr(oisr),
-        })
-    }
-
-    /// The first acceptance, if there is one.
-    fn accept_next(
-        &mut self,
-        alloc: Global,
-        config: &ConfigParts,
-        busy: &Busy,
-        events: &mut Events,
-    ) -> Result<bool, Memory>
-        requires busy { AreBusy config.now busy.now self.old.world }
-        requires lists { HasLists config.now self.old.beside }
-        ensures acts { IfOk result (λ more. Acts (accepting config.now)
-            (first_of (accepting config.now) config.now self.old.world) self.old.world events.old self.new.world events.new more) }
-        ensures beside { IfOk result (λ _. self.new.beside ≡ self.old.beside) }
-    {
-        let Some(source) = self.gates.accept_next(busy) else {
-            return Ok(false);
-        };
-        match source {
-            Owner::Isr(isr) => {
-                self.start_isr(alloc, config, isr, events)?;
-                Ok(true)
-            }
-            Owner::Oisr(oisr) => {
-                self.start_oisr(alloc, config, oisr, events)?;
-                Ok(true)
-            }
-            _ => Ok(false),
-        }
-    }
-
-    /// The first arrival of the tick, if there is one.
-    fn arrive_next(
-        &mut self,
-        config: &ConfigParts,
-        script: &ScriptParts,
-        events: &mut Events,
-    ) -> Result<bool, Memory>
-        requires { AreToCome config.now script.now self.old.world.tick (self.old.world.tick + 1) self.old }
-        ensures { IfOk result (λ more. Acts arriving (first_of arriving config.now self.old) self.old events.old self.new events.new more) }
-    {
-        let Some(arrived) = self.gates.arrive(self.tick) else {
-            return Ok(false);
-        };
-        events.push(arrival(self.tick, arrived))?;
-        Ok(true)
-    }
-
-    /// The arrivals of the tick.
-    pub(crate) fn arrive_all(
-        &mut self,
-        config: &ConfigParts,
-        script: &ScriptParts,
-        events: &mut Events,
-    ) -> Result<(), Memory>
-        requires { AreToCome config.now script.now self.old.world.tick self.old.world.tick self.old }
-        ensures gives { IfOk result (λ _. Gives events.old events.new self.new.world None (arrivals config.now script.now self.old.world)) }
-        ensures fixed { IfOk result (λ _. fixed_in self.new.beside ≡ fixed_in self.old.beside) }
-        ensures to_come { IfOk result (λ _. AreToCome config.now script.now (self.old.world.tick + 1) (self.old.world.tick + 1) self.new) }
-    {
-        'sources: while self.arrive_next(config, script, events)? {}
-        Ok(())
-    }
-
-    /// The sources whose routine is unfinished.
-    #[tactic(auto, using(crate::proofs::Accepting::are_busy))]
-    fn busy(&self, config: &ConfigParts) -> Busy
-        requires { IsConfig config.now }
-        ensures { AreBusy config.now result self.now.world }
-    {
-        let mut busy = Busy::new();
-        mark_isrs(&self.isrs, config.isrs.as_slice().len(), &mut busy);
-        mark_oisrs(&self.oisrs, config.oisrs.as_slice().len(), &mut busy);
-        busy
-    }
-
-    /// The acceptances, in the order of the sources. An interrupt that is accepted is no longer held, so that its source is not asked again.
-    pub(crate) fn accept_all(
-        &mut self,
-        alloc: Global,
-        config: &ConfigParts,
-        events: &mut Events,
-    ) -> Result<(), Memory>
-        requires rules { IsConfig config.now }
-        requires lists { HasLists config.now self.old.beside }
-        ensures gives { IfOk result (λ _. Gives events.old events.new self.new.world None (acceptances config.now self.old.world)) }
-        ensures beside { IfOk result (λ _. self.new.beside ≡ self.old.beside) }
-        ensures none { IfOk result (λ _. NoneAccepted config.now self.new.world) }
-    {
-        let busy = self.busy(config);
-        'sources: while self.accept_next(alloc, config, &busy, events)? {}
-        Ok(())
-    }
-
     /// Enables a time-triggered source.
     #[tactic(auto, unfolding(tt_world::specs::Gates::enable))]
     fn enable(&mut self, isr: IsrNo, events: &mut Events) -> Result<(), Memory>
@@ -246,6 +109,96 @@ impl State {
     {
         for place in from..to {
             self.enable(table.enable_at(place), events)?;
+        }
+        Ok(())
+    }
+
+    /// The arrivals of the tick.
+    pub(crate) fn arrive_all(
+        &mut self,
+        config: &ConfigParts,
+        script: &ScriptParts,
+        events: &mut Events,
+    ) -> Result<(), Memory>
+        requires script { IsScript config.now script.now }
+        requires sources { AreSourcesOf config.now (window_in self.old) }
+        requires left { AreLeftFrom config.now script.now self.old.world.tick (window_in self.old) }
+        ensures gives { IfOk result (λ _. Gives events.old events.new self.new.world None (arrivals config.now script.now self.old.world)) }
+        ensures fixed { IfOk result (λ _. fixed_in self.new.beside ≡ fixed_in self.old.beside) }
+        ensures sources { IfOk result (λ _. AreSourcesOf config.now (window_in self.new)) }
+        ensures left { IfOk result (λ _. AreLeftFrom config.now script.now (self.old.world.tick + 1) (window_in self.new)) }
+    {
+        'sources: while let Some(arrived) = self.gates.arrive(self.tick) {
+            events.push(arrival(self.tick, arrived))?;
+        }
+        Ok(())
+    }
+
+    /// The sources whose routine is unfinished.
+    fn busy(&self, config: &ConfigParts) -> Busy
+        requires { IsConfig config.now }
+        ensures { AreUnfinished config.now result self.now.world (window_in self.now) }
+    {
+        let mut busy = Busy::new();
+        mark_isrs(&self.isrs, config.isrs.as_slice().len(), &mut busy);
+        mark_oisrs(&self.oisrs, config.oisrs.as_slice().len(), &mut busy);
+        busy
+    }
+
+    /// The routine of a source begins.
+    fn begin_routine(&mut self, alloc: Global, config: &ConfigParts, source: Owner) -> Result<(), Memory>
+        ensures world { IfOk result (λ _. self.new.world ≡ begun config.now source self.old.world) }
+        ensures beside { IfOk result (λ _. self.new.beside ≡ self.old.beside) }
+    {
+        match source {
+            Owner::Isr(isr) => {
+                let left = begin_isr(alloc, config, isr)?;
+                self.isrs.set(usize::from(isr.0), left);
+                Ok(())
+            }
+            Owner::Oisr(oisr) => {
+                let left = begin_oisr(alloc, config, oisr)?;
+                self.oisrs.set(usize::from(oisr.0), left);
+                Ok(())
+            }
+            _ => Ok(()),
+        }
+    }
+
+    /// The interrupt of a source is accepted.
+    fn accept(
+        &mut self,
+        alloc: Global,
+        config: &ConfigParts,
+        source: Owner,
+        events: &mut Events,
+    ) -> Result<(), Memory>
+        ensures world { IfOk result (λ _. self.new.world ≡ begun config.now source self.old.world) }
+        ensures events { IfOk result (λ _. events.new ≡ events.old ++ event.Accept self.old.world.tick source ∷ []) }
+        ensures beside { IfOk result (λ _. self.new.beside ≡ self.old.beside) }
+    {
+        let at = self.tick;
+        self.begin_routine(alloc, config, source)?;
+        events.push(Event::Accept { at, source })
+    }
+
+    /// The acceptances, in the order of the sources. An interrupt that is accepted is no longer held, so that its source is not asked again.
+    pub(crate) fn accept_all(
+        &mut self,
+        alloc: Global,
+        config: &ConfigParts,
+        events: &mut Events,
+    ) -> Result<(), Memory>
+        requires rules { IsConfig config.now }
+        requires sources { AreSourcesOf config.now (window_in self.old) }
+        ensures gives { IfOk result (λ _. Gives events.old events.new self.new.world None (acceptances config.now self.old.world)) }
+        ensures beside { IfOk result (λ _. self.new.beside ≡ self.old.beside) }
+        ensures sources { IfOk result (λ _. AreSourcesOf config.now (window_in self.new)) }
+        ensures none { IfOk result (λ _. NoneAccepted config.now self.new.world) }
+    {
+        let busy = self.busy(config);
+        'sources: while let Some(source) = self.gates.accept_next(&busy) {
+            self.accept(alloc, config, source, events)?;
         }
         Ok(())
     }

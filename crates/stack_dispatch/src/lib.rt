@@ -7,5 +7,8 @@ mod lefts;
 mod monitoring;
 mod plain;
 mod rounds;
+mod runner;
+mod services;
 mod state;
+mod tick;
 mod unfinished;
