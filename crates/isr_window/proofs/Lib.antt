@@ -8,3 +8,4 @@ pub mod Silent
 pub mod Windows
 pub mod Arrivals
 pub mod Acceptances
+pub mod Fewer

@@ -53,9 +53,9 @@ module _ (isrs : List IsrNo) (i j : ℕ) (before : List Event) (all : Moved) (es
 
 -- the enables of rows are those of their routines
 pub enables_are : (rows : List EnableRow) (w : World) → chain (map enable rows) w ≡ enables_by (isrs_of rows) w
-unfolding chain enable
-enables_are [] w = refl
-enables_are (row ∷ rows) w = ap (λ (part : World → Moved). followed (enable row w) part) (funs rows)
+unfolding enable
+enables_are rows w = ap (λ (parts : List (World → Moved)). chain parts w) (same rows)
   where
-    funs : (xs : List EnableRow) → chain (map enable xs) ≡ enables_by (isrs_of xs)
-    funs xs = ?
+    same : (xs : List EnableRow) → map enable xs ≡ map (λ (isr : IsrNo). enable (no_offset isr)) (isrs_of xs)
+    same [] = refl
+    same (x ∷ xs) = ap (λ (parts : List (World → Moved)). enable x ∷ parts) (same xs)

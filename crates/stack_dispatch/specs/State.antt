@@ -4,6 +4,7 @@ use Rattle.tt_world.specs.declared.config.ConfigParts.{ConfigParts}
 use Rattle.tt_world.specs.declared.script.ScriptParts.{ScriptParts}
 use Rattle.tt_world.specs.World.{World}
 use Rattle.isr_window.specs.Window.{Window}
+use Rattle.isr_window.specs.Played.{with_window}
 
 -- what the runner keeps beside the world: how long a round is, how far it is corrected, how many modes and rounds there are, the
 -- global times, and the ticks of the arrivals that were not yet taken
@@ -46,4 +47,11 @@ window_in st = record {
   isrs_left = st.beside.isrs_ticks;
   oisrs_held = st.world.oisrs_held;
   oisrs_left = st.beside.oisrs_ticks;
+}
+
+-- the state with these sources
+abbrev pub with_sources : Window → RunState → RunState
+with_sources g st = record {
+  world = with_window st.world g;
+  beside = record st.beside { isrs_ticks = g.isrs_left; oisrs_ticks = g.oisrs_left };
 }

@@ -1,17 +1,20 @@
 //! Interrupts at an instant: enables, arrivals and acceptances.
 
-ghost use Rattle.std.specs.Prelude.{◌≡◌, ◌+◌, ◌≤◌, ◌<◌, ◌++◌, [], ◌∷◌, None, Some, false, length, replicate, slice_range, IfOk};
+ghost use Rattle.std.specs.Prelude.{◌≡◌, ◌+◌, ◌≤◌, ◌<◌, ◌++◌, [], ◌∷◌, None, Some, false, length, option_map, replicate, slice_range, IfOk};
 ghost use Rattle.tt_base.specs.declared.event.Event.TheVariants as event;
 ghost use Rattle.tt_world.specs.ConfigRules.{IsConfig};
-ghost use Rattle.tt_world.specs.Gates.{enable, acceptances, arrivals};
+ghost use Rattle.tt_world.specs.Gates.{enable, acceptances, arrivals, source_owner};
 ghost use Rattle.tt_world.specs.Moved.{Gives};
 ghost use Rattle.tt_world.specs.Rows.{routine_of};
 ghost use Rattle.tt_world.specs.ScriptRules.{IsScript};
 ghost use Rattle.tt_world.specs.World.{IsrSource, OisrSource};
+ghost use Rattle.std.specs.Option.{ForSome};
+ghost use Rattle.isr_window.specs.Arrived.{arrived_at};
+ghost use Rattle.isr_window.specs.Window.{first_due, next_tick, taking, first_ready, accepting};
 ghost use Rattle.isr_window.specs.Played.{arrival_event, begun, AreLeftFrom, AreSourcesOf, AreUnfinished};
 ghost use Rattle.round_table.specs.DueRows.{enables_of};
 ghost use Rattle.stack_dispatch.specs.Due.{enables_by, AreMarked, NoneAccepted};
-ghost use Rattle.stack_dispatch.specs.State.{fixed_in, window_in};
+ghost use Rattle.stack_dispatch.specs.State.{fixed_in, window_in, with_sources};
 
 use crate::lefts::Lefts;
 use crate::plain::Events;
@@ -113,6 +116,15 @@ impl State {
         Ok(())
     }
 
+    /// Takes the first arrival of the tick, if there is one.
+    fn take_arrival(&mut self) -> Option<Arrived>
+        requires { ForSome (next_tick (window_in self.old)) (λ tick. self.old.world.tick ≤ tick) }
+        ensures value { result ≡ option_map (arrived_at (window_in self.old)) (first_due self.old.world.tick (window_in self.old)) }
+        ensures state { self.new ≡ with_sources (taking (first_due self.old.world.tick (window_in self.old)) (window_in self.old)) self.old }
+    {
+        self.gates.arrive(self.tick)
+    }
+
     /// The arrivals of the tick.
     pub(crate) fn arrive_all(
         &mut self,
@@ -128,8 +140,9 @@ impl State {
         ensures sources { IfOk result (λ _. AreSourcesOf config.now (window_in self.new)) }
         ensures left { IfOk result (λ _. AreLeftFrom config.now script.now (self.old.world.tick + 1) (window_in self.new)) }
     {
-        'sources: while let Some(arrived) = self.gates.arrive(self.tick) {
-            events.push(arrival(self.tick, arrived))?;
+        let at = self.tick;
+        'sources: while let Some(arrived) = self.take_arrival() {
+            events.push(arrival(at, arrived))?;
         }
         Ok(())
     }
@@ -146,7 +159,12 @@ impl State {
     }
 
     /// The routine of a source begins.
-    fn begin_routine(&mut self, alloc: Global, config: &ConfigParts, source: Owner) -> Result<(), Memory>
+    fn begin_routine(
+        &mut self,
+        alloc: Global,
+        config: &ConfigParts,
+        source: Owner,
+    ) -> Result<(), Memory>
         ensures world { IfOk result (λ _. self.new.world ≡ begun config.now source self.old.world) }
         ensures beside { IfOk result (λ _. self.new.beside ≡ self.old.beside) }
     {
@@ -182,6 +200,14 @@ impl State {
         events.push(Event::Accept { at, source })
     }
 
+    /// Takes the first interrupt that can be accepted, if there is one.
+    fn take_held(&mut self, busy: &Busy) -> Option<Owner>
+        ensures value { result ≡ option_map source_owner (first_ready busy.now (window_in self.old)) }
+        ensures state { self.new ≡ with_sources (accepting (first_ready busy.now (window_in self.old)) (window_in self.old)) self.old }
+    {
+        self.gates.accept_next(busy)
+    }
+
     /// The acceptances, in the order of the sources. An interrupt that is accepted is no longer held, so that its source is not asked again.
     pub(crate) fn accept_all(
         &mut self,
@@ -197,7 +223,7 @@ impl State {
         ensures none { IfOk result (λ _. NoneAccepted config.now self.new.world) }
     {
         let busy = self.busy(config);
-        'sources: while let Some(source) = self.gates.accept_next(&busy) {
+        'sources: while let Some(source) = self.take_held(&busy) {
             self.accept(alloc, config, source, events)?;
         }
         Ok(())
