@@ -32,7 +32,7 @@ pub enum Row<'a> {
     Demand { name: &'a str, most: u64, usual: u64 },
     Task { name: &'a str, stack: u64 },
     Isr { name: &'a str, level: u64, stack: u64, distance: Option<u64> },
-    Osek { name: &'a str, priority: u64 },
+    Osek { name: &'a str, priority: u64, auto: bool },
     Oisr { name: &'a str, priority: u64 },
     HookError,
     HookShutdown,
@@ -186,7 +186,8 @@ fn top_row<'a>(words: &[&'a str]) -> Option<Row<'a>> {
         ["isr", n, level, stack, distance] => {
             Row::Isr { name: name(n)?, level: number(level)?, stack: number(stack)?, distance: Some(number(distance)?) }
         }
-        ["osek", n, p] | ["osek", n, p, "auto"] => Row::Osek { name: name(n)?, priority: number(p)? },
+        ["osek", n, p] => Row::Osek { name: name(n)?, priority: number(p)?, auto: false },
+        ["osek", n, p, "auto"] => Row::Osek { name: name(n)?, priority: number(p)?, auto: true },
         ["oisr", n, p] => Row::Oisr { name: name(n)?, priority: number(p)? },
         ["hook", "error"] => Row::HookError,
         ["hook", "shutdown"] => Row::HookShutdown,

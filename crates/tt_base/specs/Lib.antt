@@ -1,3 +1,4 @@
 pub mod Name
 pub mod Names
 pub mod NameIndex
+pub mod Series

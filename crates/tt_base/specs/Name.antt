@@ -1,7 +1,12 @@
 -- What a name is: the bytes that name a declared thing.
-use Rattle.std.specs.Prelude.{◌≡◌, ℕ, ◌-◌, ◌≤◌, Bool, true, false, ◌&&◌, ◌||◌, ◌==◌, nat_le, List, [], ◌∷◌, ◌++◌, length, take, drop, replicate}
+use Rattle.std.specs.Prelude.{◌≡◌, ℕ, ◌-◌, ◌≤◌, Bool, true, false, IsTrue, ◌&&◌, ◌||◌, ◌==◌, nat_le}
+use Rattle.std.specs.Prelude.{List, [], ◌∷◌, ◌++◌, length, take, drop, replicate}
+use Rattle.std.specs.Hash as fed
+use Rattle.std.specs.Int.{from_le_bytes, w128}
 use Rattle.std.specs.List.{list_all}
+use Rattle.std.specs.Str.{bytes_eq}
 use Rattle.std.proofs.Common.{arith, take-append-drop, length-take-le, ap, sym, ◌∙◌}
+use Rattle.std.proofs.lemmas.Slice.Eq.{bytes_eq-Decides}
 
 -- `_`, or a letter of either case
 abbrev pub is_letter : ℕ → Bool
@@ -22,17 +27,31 @@ abbrev pub is_name : List ℕ → Bool
 is_name [] = false
 is_name (first ∷ rest) = is_letter first && is_rest_of_name rest
 
--- sixteen bytes that hold a name of this length, with zeros behind it
+-- a name with zeros after it, sixteen bytes in all
+abbrev pub with_zeros : List ℕ → List ℕ
+with_zeros name = name ++ replicate (16 - length name) 0
+
+-- sixteen bytes that hold a name of this length, with zeros after it
 pub record IsPadded (len : ℕ) (bytes : List ℕ) : Type 0 where
   pub named : is_name (take len bytes) ≡ true
   pub few : len ≤ 16
   pub long : length bytes ≡ 16
   pub zeros : drop len bytes ≡ replicate (16 - len) 0
 
+-- the name in them has this length
 pub padded_len : (len : ℕ) (bytes : List ℕ) → IsPadded len bytes → length (take len bytes) ≡ len
 padded_len len bytes p = length-take-le len bytes (omega (arith, p.few, p.long))
 
-pub padded_bytes : (len : ℕ) (bytes : List ℕ) → IsPadded len bytes → take len bytes ++ replicate (16 - length (take len bytes)) 0 ≡ bytes
+-- and they are the name with zeros after it
+pub padded_bytes : (len : ℕ) (bytes : List ℕ) → IsPadded len bytes → with_zeros (take len bytes) ≡ bytes
 padded_bytes len bytes p =
     ap (λ k. take len bytes ++ replicate (16 - k) 0) (padded_len len bytes p)
     ∙ ap (λ xs. take len bytes ++ xs) (sym p.zeros) ∙ take-append-drop len bytes
+
+-- those bytes as one number, which is what is hashed
+unfoldable pub number_of_name : List ℕ → ℕ
+number_of_name name = from_le_bytes w128 (with_zeros name)
+
+-- equal names have one number
+pub same_number : (a b : List ℕ) → IsTrue (bytes_eq a b) → fed.u128 (number_of_name a) ≡ fed.u128 (number_of_name b)
+same_number a b same = ap (λ n. fed.u128 (number_of_name n)) ((bytes_eq-Decides a b).0 same)

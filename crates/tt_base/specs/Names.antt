@@ -1,5 +1,6 @@
--- The names of a document, as one list of kinds and names in the order of adding, and the number that each has in its kind.
-use Rattle.std.specs.Prelude.{ℕ, ◌==◌, ◌<◌, Bool, List, length, map, filter, take, position, slice_get, Option, option_map, option_and_then, unwrap_or, []}
+-- The names of a document, as one list of kinds and names in the order of adding, and the number that each has
+-- in its kind.
+use Rattle.std.specs.Prelude.{ℕ, ◌==◌, Bool, List, length, map, filter, take, position, slice_get, Option, option_map, option_and_then, unwrap_or, []}
 use Rattle.std.specs.Str.{bytes_eq}
 use Rattle.tt_base.specs.declared.names.NameKind.{NameKind}
 use Rattle.tt_base.specs.declared.names.NameKind.TheVariants as Kind
@@ -59,17 +60,14 @@ number_of (Which.Isr number) = number.0
 number_of (Which.Osek number) = number.0
 number_of (Which.Oisr number) = number.0
 
--- whether a thing was declared: its kind has such a number
-abbrev pub IsDeclared : List NameEntry → Declared → Type 0
-IsDeclared names which = number_of which < count_of (kind_of which) names
-
 -- the place of the first name that equals this one
 abbrev pub place_of : List ℕ → List NameEntry → Option ℕ
 place_of name names = position (λ entry. bytes_eq entry.name name) names
 
 -- the thing that the name at a place declares: its number is the count of earlier names of its kind
 abbrev pub declared_at : List NameEntry → ℕ → Option Declared
-declared_at names place = option_map (λ entry. declared entry.kind (count_of entry.kind (take place names))) (slice_get names place)
+declared_at names place =
+    option_map (λ entry. declared entry.kind (count_of entry.kind (take place names))) (slice_get names place)
 
 -- the thing that a name declares: the first name that equals it counts
 unfoldable pub find_name : List NameEntry → List ℕ → Option Declared

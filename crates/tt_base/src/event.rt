@@ -53,7 +53,7 @@ pub enum Event {
         number: u32,
         mode: ModeNo,
     },
-    /// The round gets longer or shorter by so many ticks.
+    /// The round gets longer or shorter by this many ticks.
     Correct {
         at: Tick,
         by: i64,

@@ -1,5 +1,5 @@
-//! What every crate of the bench stands on: want of memory, numbers of declared things, ticks, events, names, a list type, and a
-//! counter of steps.
+//! What every crate of the bench stands on: the answer 'out of memory', numbers of declared things,
+//! ticks, events, names, a list type, and a counter of steps.
 #![tactic(auto)]
 
 mod event;
@@ -10,7 +10,7 @@ mod series;
 mod steps;
 
 pub use event::{Call, Event, Owner};
-pub use name::Name;
+pub use name::{NAME_BYTES, Name};
 pub use names::{Declared, NameEntry, NameKind, Names};
 pub use number::{DemandNo, IsrNo, Memory, ModeNo, OisrNo, OsekNo, TaskNo, Tick, VarNo};
 pub use series::Series;

@@ -1,27 +1,28 @@
 //! The names of declared things.
 
-ghost use Rattle.std.specs.Prelude.{◌≡◌, true, false, MatchOption};
+ghost use Rattle.std.specs.Prelude.{◌≡◌, ◌≤◌, true, false, length, take, MatchOption};
 ghost use Rattle.std.specs.Str.{bytes_eq};
-ghost use Rattle.tt_base.specs.Name.{is_name, is_letter, is_name_byte, is_rest_of_name};
+ghost use Rattle.tt_base.specs.Name.{is_name, is_letter, is_name_byte, is_rest_of_name, with_zeros};
 
 use std::cmp::Ordering;
+use std::hash::{Hash, Hasher};
 use std::marker::Model;
 
 /// How many bytes a name has at most.
 pub const NAME_BYTES: usize = 16;
 
-/// A name of a document: 1 to 16 bytes, a letter or `_` and then letters, digits or `_`. Case counts. Contracts see it
-/// as the list of its bytes.
+/// A name of a document: 1 to 16 bytes, a letter or `_` and then letters, digits or `_`. Case
+/// counts. Contracts see it as the list of its bytes.
 #[derive(Clone, Copy, Debug)]
 pub struct Name {
-    /// The text, and zeros behind it.
+    /// The text, and zeros after it.
     bytes: [u8; NAME_BYTES],
     len: u8,
 }
 
 impl Model for Name {
-    ghost use Rattle.std.specs.Prelude.{◌≡◌, ◌-◌, ◌++◌, true, List, ℕ, length, take, replicate};
-    ghost use Rattle.tt_base.specs.Name.{IsPadded, is_name, padded_bytes, padded_len};
+    ghost use Rattle.std.specs.Prelude.{◌≡◌, List, ℕ, length, take};
+    ghost use Rattle.tt_base.specs.Name.{IsPadded, with_zeros, padded_bytes, padded_len};
 
     ghost Value = { List ℕ };
 
@@ -29,15 +30,17 @@ impl Model for Name {
 
     ghost invariant = { λ n. IsPadded n.len n.bytes };
 
-    ghost inverse = { λ v. record { bytes = v ++ replicate (16 - length v) 0; len = length v } };
+    ghost inverse = { λ v. record { bytes = with_zeros v; len = length v } };
 
-    ghost inverse_ok = { λ n h i. record { bytes = padded_bytes n.len n.bytes h i; len = padded_len n.len n.bytes h i } };
+    ghost inverse_ok = { λ n h i.
+        record { bytes = padded_bytes n.len n.bytes h i; len = padded_len n.len n.bytes h i } };
 }
 
 impl Name {
     /// The name that a text is. None exactly where the text is no name.
     pub fn new(text: &[u8]) -> Option<Name>
-        ensures { MatchOption result (is_name text.now ≡ false) (λ n. (is_name text.now ≡ true) × (n ≡ text.now)) }
+        ensures { MatchOption result (is_name text.now ≡ false)
+            (λ n. (is_name text.now ≡ true) × (n ≡ text.now)) }
     {
         if !is_name(text) {
             return None;
@@ -56,6 +59,22 @@ impl Name {
         ensures named { is_name self.now ≡ true }
     {
         &self.bytes[..self.len as usize]
+    }
+
+    /// How many bytes the text has.
+    pub fn len(&self) -> usize
+        ensures value { result ≡ length self.now }
+        ensures few { result ≤ NAME_BYTES }
+    {
+        self.len as usize
+    }
+
+    /// The text with zeros after it.
+    pub fn padded(&self) -> &[u8; NAME_BYTES]
+        ensures text { take (length self.now) result.now ≡ self.now }
+        ensures whole { result.now ≡ with_zeros self.now }
+    {
+        &self.bytes
     }
 
     /// Whether two names are one.
@@ -84,6 +103,21 @@ impl Eq for Name {
     ghost use Rattle.std.specs.Cmp.Lexicographic.{nat_list_eq_equiv};
 
     ghost laws = { nat_list_eq_equiv };
+}
+
+/// Names are hashed by their bytes.
+impl Hash for Name {
+    ghost use Rattle.std.specs.Hash as fed;
+    ghost use Rattle.tt_base.specs.Name.{number_of_name, same_number};
+
+    ghost hash_input = { λ n. fed.u128 (number_of_name n) };
+
+    ghost respects_eq = { same_number };
+
+    #[tactic(auto, unfolding(crate::specs::Name::number_of_name))]
+    fn hash<H: Hasher>(&self, state: &mut H) {
+        state.write_u128(u128::from_le_bytes(*self.padded()));
+    }
 }
 
 /// Names are ordered by their bytes.

@@ -1,14 +1,14 @@
 //! The names of a document and the numbers of what they declare.
 
-ghost use Rattle.std.specs.Prelude.{◌≡◌, [], ◌∷◌, ◌++◌, ◌<◌, IfOk, OnOk, OnErr};
-ghost use Rattle.std.specs.BTreeMap.{IsUnchanged};
-ghost use Rattle.tt_base.specs.NameIndex.{KeepsFirst};
+ghost use Rattle.std.specs.Prelude.{◌≡◌, [], ◌∷◌, ◌++◌, ◌<◌, slice_get, option_and_then, IfOk, OnOk, OnErr};
+ghost use Rattle.std.specs.HashMap.{IsUnchanged};
+ghost use Rattle.tt_base.specs.NameIndex.{KeepsFirst, name_at};
 ghost use Rattle.tt_base.specs.Names.{count_of, declared, find_name, get_name, index_of, kind_of, number_of};
 
 use crate::name::Name;
 use crate::number::{DemandNo, IsrNo, Memory, ModeNo, OisrNo, OsekNo, TaskNo, VarNo};
 use std::alloc::Global;
-use std::collections::BTreeMap;
+use std::collections::HashMap;
 use std::marker::Model;
 
 /// What a name is declared as.
@@ -31,15 +31,26 @@ pub enum NameKind {
 }
 
 impl NameKind {
-    /// The place of this kind among the kinds.
-    fn index(self) -> usize
+    /// All kinds, each at its place.
+    pub const ALL: [NameKind; 7] = [
+        NameKind::Mode,
+        NameKind::Var,
+        NameKind::Demand,
+        NameKind::Task,
+        NameKind::Isr,
+        NameKind::Osek,
+        NameKind::Oisr,
+    ];
+
+    /// The place of this kind among the kinds, from 0.
+    pub fn index(self) -> usize
         ensures { result ≡ index_of self }
     {
         self as usize
     }
 
     /// The thing of this kind that has a number.
-    fn numbered(self, number: u16) -> Declared
+    pub fn numbered(self, number: u16) -> Declared
         ensures { result ≡ declared self number }
     {
         match self {
@@ -74,7 +85,8 @@ pub enum Declared {
 }
 
 impl Declared {
-    fn kind(self) -> NameKind
+    /// Its kind.
+    pub fn kind(self) -> NameKind
         ensures { result ≡ kind_of self }
     {
         match self {
@@ -88,7 +100,8 @@ impl Declared {
         }
     }
 
-    fn number(self) -> u16
+    /// Its number.
+    pub fn number(self) -> u16
         ensures { result ≡ number_of self }
     {
         match self {
@@ -113,19 +126,20 @@ pub struct NameEntry {
 /// How many kinds there are.
 const KINDS: usize = 7;
 
-/// The names of a document. Contracts see them as one list of kinds and names in the order of adding.
+/// The names of a document. Contracts see them as one list of kinds and names in the order of
+/// adding.
 #[derive(Debug, Drop)]
 pub struct Names {
     /// All of them in the order of adding.
     entries: Vec<NameEntry>,
-    /// The names of each kind in the order of adding.
-    by_kind: [Vec<Name>; KINDS],
+    /// The places of the names of each kind in that list, in the order of adding.
+    places: [Vec<usize>; KINDS],
     /// What each name declares.
-    index: BTreeMap<Name, Declared>,
+    index: HashMap<Name, Declared>,
 }
 
 impl Model for Names {
-    ghost use Rattle.std.specs.Prelude.{List};
+    ghost use Rattle.std.specs.Prelude.{List, map};
     ghost use Rattle.tt_base.specs.declared.names.NameEntry.{NameEntry};
     ghost use Rattle.tt_base.specs.NameIndex.{IsIndexed};
 
@@ -133,7 +147,8 @@ impl Model for Names {
 
     ghost view = { λ n. n.entries.items };
 
-    ghost invariant = { λ n. IsIndexed n.entries.items n.by_kind n.index };
+    ghost invariant = { λ n.
+        IsIndexed n.entries.items (map (λ list. list.items) n.places) n.index };
 }
 
 impl Names {
@@ -143,7 +158,7 @@ impl Names {
     {
         Names {
             entries: Vec::new(alloc),
-            by_kind: [
+            places: [
                 Vec::new(alloc),
                 Vec::new(alloc),
                 Vec::new(alloc),
@@ -152,30 +167,31 @@ impl Names {
                 Vec::new(alloc),
                 Vec::new(alloc),
             ],
-            index: BTreeMap::new(alloc),
+            index: HashMap::new(alloc),
         }
     }
 
-    /// Adds a name, and answers the thing that it declares. There are fewer than 1,024 names of its kind. On want of memory
-    /// the names are unchanged.
+    /// Adds a name, and answers the thing that it declares. There are fewer than 1,024 names of
+    /// its kind. When out of memory, the names are unchanged.
     pub fn add(&mut self, kind: NameKind, name: Name) -> Result<Declared, Memory>
         requires { count_of kind self.old < 1024 }
         ensures which { IfOk result (λ which. which ≡ declared kind (count_of kind self.old)) }
-        ensures added { OnOk result (self.new ≡ self.old ++ record { kind = kind; name = name } ∷ []) }
+        ensures added { OnOk result
+            (self.new ≡ self.old ++ record { kind = kind; name = name } ∷ []) }
         ensures err { OnErr result (self.new ≡ self.old) }
     {
-        let place = kind.index();
-        let which = kind.numbered(self.by_kind[place].len() as u16);
-        if self.entries.reserve(1).is_err() || self.by_kind[place].reserve(1).is_err() {
-            return Err(Memory);
-        }
+        let row = kind.index();
+        let which = kind.numbered(self.places[row].len() as u16);
+        self.entries.reserve(1)?;
+        self.places[row].reserve(1)?;
         keep_first(&mut self.index, name, which)?;
-        self.by_kind[place].push_reserved(name);
+        self.places[row].push_reserved(self.entries.len());
         self.entries.push_reserved(NameEntry { kind, name });
         Ok(which)
     }
 
-    /// The thing that a name declares: the first name added that equals it counts. None exactly where there is none.
+    /// The thing that a name declares: the first name added that equals it counts. None exactly
+    /// where there is none.
     pub fn find(&self, name: Name) -> Option<Declared>
         ensures { result ≡ find_name self.now name }
     {
@@ -186,14 +202,23 @@ impl Names {
     pub fn get(&self, which: Declared) -> Option<Name>
         ensures { result ≡ get_name self.now which }
     {
-        let names = &self.by_kind[which.kind().index()];
-        names.get(which.number() as usize).copied()
+        let places = &self.places[which.kind().index()];
+        name_of_number(&self.entries, places, which.number() as usize)
     }
 }
 
-/// Notes what a name declares. A name that declares something keeps that. On want of memory the index is unchanged.
+/// The name at the place that a list of places has for a number.
+fn name_of_number(entries: &[NameEntry], places: &[usize], number: usize) -> Option<Name>
+    ensures { result ≡ option_and_then (name_at entries.now) (slice_get places.now number) }
+{
+    let place = *places.get(number)?;
+    Some(entries.get(place)?.name)
+}
+
+/// Notes what a name declares. A name that declares something keeps that. When out of memory, the
+/// index is unchanged.
 fn keep_first(
-    index: &mut BTreeMap<Name, Declared>,
+    index: &mut HashMap<Name, Declared>,
     name: Name,
     which: Declared,
 ) -> Result<(), Memory>
@@ -203,16 +228,21 @@ fn keep_first(
     if index.contains_key(&name) {
         return Ok(());
     }
-    match index.insert(name, which) {
-        Ok(_) => Ok(()),
-        Err(_) => Err(Memory),
-    }
+    index.insert(name, which)?;
+    Ok(())
 }
 
 #[cfg(test)]
 mod tests {
     use super::*;
     use std::test::Fail;
+
+    #[test]
+    fn lists_kinds_at_their_places(rt: HostRuntime) {
+        for (place, kind) in NameKind::ALL.iter().enumerate() {
+            assert_eq!(rt; kind.index(), place);
+        }
+    }
 
     #[test]
     fn finds_and_gives_back_names(rt: HostRuntime) -> Result<(), Fail> {

@@ -1,8 +1,31 @@
-//! The numbers of declared things, each counted from 0 per kind in the order of declaration.
+//! The numbers of declared things, each counted from 0 per kind in the order of declaration, and
+//! the answer 'out of memory'.
 
-/// Want of memory. It is the one answer that no contract ties to a cause.
+ghost use Rattle.std.specs.Prelude.{◌≡◌};
+
+use std::alloc::{AllocError, AllocFailed};
+
+/// Out of memory. It is the one answer that no contract ties to a cause.
 #[derive(Clone, Copy, Debug, PartialEq, Eq)]
 pub struct Memory;
+
+/// So that `?` on a call that allocates answers `Memory`.
+impl From<AllocError> for Memory {
+    ghost from_gives = { λ _ e. e ≡ record {} };
+
+    fn from(_error: AllocError) -> Memory {
+        Memory
+    }
+}
+
+/// So that `?` on a call that allocates room for a value answers `Memory`. The value is given up.
+impl<T: Drop> From<AllocFailed<T>> for Memory {
+    ghost from_gives = { λ _ e. e ≡ record {} };
+
+    fn from(_error: AllocFailed<T>) -> Memory {
+        Memory
+    }
+}
 
 /// A time-triggered task.
 #[derive(Clone, Copy, Debug, PartialEq, Eq)]

@@ -1,12 +1,16 @@
 //! The list type of the bench.
 
-ghost use Rattle.std.specs.Prelude.{◌≡◌, [], ◌∷◌, ◌++◌, OnOk, OnErr};
+ghost use Rattle.std.specs.Prelude.{◌≡◌, ◌<◌, ◌↔◌, [], ◌∷◌, ◌++◌, length, slice_get, slice_set, replicate, IsTrue, IfOk, OnOk, OnErr, OnSome};
+ghost use Rattle.std.specs.Option.{option_copied};
+ghost use Rattle.std.specs.Borrow.{sem};
+ghost use Rattle.tt_base.specs.Series.{LendsItem};
 
 use crate::number::Memory;
 use std::alloc::Global;
 use std::marker::Model;
 
-/// A `Vec` that contracts see as the list of its items, so that two with the same items are one value.
+/// A `Vec` that contracts see as the list of its items, so that two with the same items are one
+/// value.
 #[derive(Debug, Drop)]
 pub struct Series<T> {
     items: Vec<T>,
@@ -33,23 +37,118 @@ impl<T> Series<T> {
         }
     }
 
+    /// The list of the items of a vector.
+    pub fn from_vec(items: Vec<T>) -> Series<T>
+        ensures { result ≡ items.items }
+    {
+        Series { items }
+    }
+
+    /// The vector of the items.
+    pub fn into_vec(self) -> Vec<T>
+        ensures { result.items ≡ self }
+    {
+        let Series { items } = self;
+        items
+    }
+
     /// The items in order.
     pub fn as_slice(&self) -> &[T]
         ensures { result.now ≡ self.now }
     {
         self.items.as_slice()
     }
+
+    /// How many items there are.
+    pub fn len(&self) -> usize
+        ensures { result ≡ length self.now }
+    {
+        self.items.len()
+    }
+
+    /// Whether there is no item.
+    pub fn is_empty(&self) -> bool
+        ensures { IsTrue result ↔ (self.now ≡ []) }
+    {
+        self.items.is_empty()
+    }
+
+    /// The item at a place. None exactly where there is no such place.
+    pub fn get(&self, place: usize) -> Option<&T>
+        ensures { option_copied result ≡ slice_get self.now place }
+    {
+        self.items.get(place)
+    }
+
+    /// The item at a place, to be changed there. All other items stay.
+    pub fn get_mut(&mut self, place: usize) -> &mut T
+        requires { place < length self.old }
+        ensures* lends { sem 𝓛 (LendsItem T.row self.entry place result) }
+        ensures value { slice_get self.old place ≡ Some result.now }
+    {
+        &mut self.items[place]
+    }
+}
+
+impl<T: Copy> Series<T> {
+    /// A list of n copies of an item.
+    pub fn filled(alloc: Global, count: usize, item: T) -> Result<Series<T>, Memory>
+        ensures { IfOk result (λ list. list ≡ replicate count item) }
+    {
+        let mut items = Vec::new(alloc);
+        items.resize(count, item)?;
+        Ok(Series { items })
+    }
 }
 
 impl<T: Drop> Series<T> {
-    /// Appends an item. On want of memory the list is unchanged and the item is given up.
+    /// Appends an item. When out of memory, the list is unchanged and the item is given up.
     pub fn push(&mut self, item: T) -> Result<(), Memory>
         ensures ok { OnOk result (self.new ≡ self.old ++ item ∷ []) }
         ensures err { OnErr result (self.new ≡ self.old) }
     {
-        match self.items.push(item) {
-            Ok(()) => Ok(()),
-            Err(_) => Err(Memory),
+        self.items.push(item)?;
+        Ok(())
+    }
+
+    /// Puts an item in the place of another. Where there is no such place, the list is unchanged
+    /// and the item is given up.
+    pub fn set(&mut self, place: usize, item: T)
+        ensures { self.new ≡ slice_set self.old place item }
+    {
+        if place < self.items.len() {
+            self.items[place] = item;
         }
+    }
+
+    /// Gives up all items. The list keeps its memory.
+    pub fn clear(&mut self)
+        ensures { self.new ≡ [] }
+    {
+        self.items.clear();
+    }
+}
+
+#[cfg(test)]
+mod tests {
+    use super::*;
+    use std::test::Fail;
+
+    #[test]
+    fn changes_in_place(rt: HostRuntime) -> Result<(), Fail> {
+        let mut marks = Series::filled(rt.alloc(), 3, false)?;
+        marks.set(1, true);
+        marks.set(3, true);
+        *marks.get_mut(2) = true;
+        marks.push(false)?;
+        assert_eq!(rt; marks.as_slice(), [false, true, true, false].as_slice());
+        assert_eq!(rt; marks.get(1), Some(&true));
+        assert_eq!(rt; marks.get(4), None);
+        assert_eq!(rt; marks.len(), 4);
+        marks.clear();
+        assert!(rt; marks.is_empty());
+        let pair = Series::from_vec([1, 2].to_vec(rt.alloc())?);
+        assert_eq!(rt; pair.into_vec().as_slice(), [1, 2].as_slice());
+        Ok(())
     }
 }

@@ -1,4 +1,5 @@
-//! A counter of the steps of a run. Contracts see it as a number; it has no bytes when the program runs.
+//! A counter of the steps of a run. Contracts see it as a number; it has no bytes when the program
+//! runs.
 
 ghost use Rattle.std.specs.Prelude.{◌≡◌, ◌+◌, ◌<◌};
 
@@ -40,5 +41,17 @@ impl<L: Ledger> Steps<L> {
         ensures { self.new ≡ self.old + 1 }
     {
         self.book.add(&mut self.share, 1);
+    }
+}
+
+#[cfg(test)]
+mod tests {
+    use super::*;
+    use std::marker::Brand;
+    use std::mem::size_of;
+
+    #[test]
+    fn has_no_bytes(rt: HostRuntime) {
+        assert_eq!(rt; size_of::<Steps<Brand>>(), 0);
     }
 }

@@ -1,4 +1,5 @@
--- What a part of an instant says of how the run ends: nothing where it goes on, and a missed check or a shutdown where it ends.
+-- What a part of an instant says of how the run ends: nothing where it goes on, and a missed check or a shutdown where
+-- it ends.
 use Rattle.std.proofs.Common.{ℕ, ◌≡◌, ◌+◌, List, [], ◌∷◌, ◌++◌, Bool, true, false, Option, None, Some, refl, ◌∙◌}
 use Rattle.std.specs.Prelude.{ℤ, ◌&&◌}
 use Rattle.std.proofs.lemmas.Bool.{cond_both}
@@ -49,10 +50,12 @@ pub outs_calm : (at : ℕ) (hook : Owner) (vars : List ℤ) (body : List Stmt) �
 unfolding outs_of
 outs_calm at hook vars [] = tt
 outs_calm at hook vars (stmt ∷ rest) =
-    all_more IsCalm (outs_by at hook vars (out-Stmt stmt)) (outs_of at hook (vars_by vars (out-Stmt stmt)) rest) (outs_by_calm at hook vars (out-Stmt stmt)) (outs_calm at hook (vars_by vars (out-Stmt stmt)) rest)
+    all_more IsCalm (outs_by at hook vars (out-Stmt stmt)) (outs_of at hook (vars_by vars (out-Stmt stmt)) rest)
+    (outs_by_calm at hook vars (out-Stmt stmt)) (outs_calm at hook (vars_by vars (out-Stmt stmt)) rest)
 
 pub shuts_status : (c : ConfigParts) (end : Outcome) (w : World) → status_of (shuts_down c end w).events ≡ Shut w.tick
-shuts_status c end w = calm_status (outs_of w.tick owner.ShutdownHook w.vars c.shutdown_hook) (Shutdown w.tick ∷ []) (outs_calm w.tick owner.ShutdownHook w.vars c.shutdown_hook)
+shuts_status c end w = calm_status (outs_of w.tick owner.ShutdownHook w.vars c.shutdown_hook) (Shutdown w.tick ∷ [])
+    (outs_calm w.tick owner.ShutdownHook w.vars c.shutdown_hook)
 
 -- ---- checks
 
@@ -61,24 +64,30 @@ abbrev pub ChecksTell : ℕ → List Event → Option TaskNo → Type 0
 ChecksTell at fs None = Of IsCalm fs
 ChecksTell at fs (Some task) = (rest : List Event) → status_of (fs ++ rest) ≡ Missed task at
 
-met_more : (at : ℕ) (task : TaskNo) (fs : List Event) (missed : Option TaskNo) (e : Event) → IsCalm e → ChecksTell at fs missed → ChecksTell at (e ∷ fs) missed
+met_more : (at : ℕ) (task : TaskNo) (fs : List Event) (missed : Option TaskNo) (e : Event) → IsCalm e
+    → ChecksTell at fs missed → ChecksTell at (e ∷ fs) missed
 met_more at task fs None e q p = (q, p)
 met_more at task fs (Some other) e q p = λ rest. q (fs ++ rest) ∙ p rest
 
-then_tell : (at : ℕ) (task : TaskNo) (met : Bool) (others : Checked) → ChecksTell at others.events others.missed → ChecksTell at (check_then at task met others).events (check_then at task met others).missed
+then_tell : (at : ℕ) (task : TaskNo) (met : Bool) (others : Checked) → ChecksTell at others.events others.missed
+    → ChecksTell at (check_then at task met others).events (check_then at task met others).missed
 then_tell at task true others p = met_more at task others.events others.missed (Check at task true) (λ _. refl) p
 then_tell at task false others p = λ rest. refl
 
-if_tell : (at : ℕ) (due : Bool) (check others : Checked) → ChecksTell at check.events check.missed → ChecksTell at others.events others.missed → ChecksTell at (check_if due check others).events (check_if due check others).missed
+if_tell : (at : ℕ) (due : Bool) (check others : Checked) → ChecksTell at check.events check.missed
+    → ChecksTell at others.events others.missed
+    → ChecksTell at (check_if due check others).events (check_if due check others).missed
 if_tell at true check others p q = p
 if_tell at false check others p q = q
 
-pub checked_tell : (at : ℕ) (mode : ModeDef) (is_due : Point → Bool) (xs : List Job) → ChecksTell at (checked at mode is_due xs).events (checked at mode is_due xs).missed
+pub checked_tell : (at : ℕ) (mode : ModeDef) (is_due : Point → Bool) (xs : List Job)
+    → ChecksTell at (checked at mode is_due xs).events (checked at mode is_due xs).missed
 unfolding checked
 checked_tell at mode is_due [] = tt
 checked_tell at mode is_due (x ∷ xs) =
     if_tell at (is_due (point_of mode (row_of mode x.entry))) _ (checked at mode is_due xs)
-    (then_tell at (row_of mode x.entry).task (is_done x.left) (checked at mode is_due xs) (checked_tell at mode is_due xs)) (checked_tell at mode is_due xs)
+    (then_tell at (row_of mode x.entry).task (is_done x.left) (checked at mode is_due xs)
+    (checked_tell at mode is_due xs)) (checked_tell at mode is_due xs)
 
 -- ---- a tick
 
@@ -87,14 +96,19 @@ abbrev pub Tells : List Event → Moved → Type 0
 Tells = LeadsTo (λ v fs. Of IsCalm fs) (λ end v fs. (t : ℕ) × (status_of fs ≡ Shut t))
 
 module _ (c : ConfigParts) (s : ScriptParts) where
-  effected_tells : (r : Runner) (who : Owner) (effects : List Effect) (left : List Stmt) (w : World) (line : List Event) → Of IsCalm line → Tells line (effected c s r who effects left w).move
+  effected_tells : (r : Runner) (who : Owner) (effects : List Effect) (left : List Stmt) (w : World) (line : List Event)
+      → Of IsCalm line → Tells line (effected c s r who effects left w).move
   effected_tells r who [] left w line p = all_more IsCalm line [] p tt
   effected_tells r who (effect.Out value ∷ rest) left w line p = all_more IsCalm line _ p (λ _. refl, tt)
   effected_tells r who (effect.Service k ∷ rest) left w line p =
       let answer = service c s r k left w in
       let u = leaving answer.world r answer.left in
       cond_both (is_shutdown k) _ _ (Tells line)
-      (λ _. (u.tick, calm_status line (Called u.tick who k answer.result ∷ (shuts_down c (Some ending.Shutdown) u).events) p ∙ shuts_status c (Some ending.Shutdown) u))
+      (λ _. (
+        u.tick,
+        calm_status line (Called u.tick who k answer.result ∷ (shuts_down c (Some ending.Shutdown) u).events)
+            p ∙ shuts_status c (Some ending.Shutdown) u,
+      ))
       (λ _. all_more IsCalm line (Called u.tick who k answer.result ∷ []) p (λ _. refl, tt))
 
   after_tells : (line : List Event) (m : Moved) → Tells line m → Tells [] (preceded line m)
@@ -108,10 +122,14 @@ module _ (c : ConfigParts) (s : ScriptParts) where
       let state = state_after c s w (left_of w r) in
       let v = record w { vars = state.vars; cursors = state.cursors } in
       let tick = runner_tick c s r who w in
-      let told = effected_tells r who state.effects state.left v (run_line w who) (event_if_all IsCalm _ (Run w.tick who) (λ _. refl)) in
-      followed_at (λ v fs. Of IsCalm fs) (λ end v fs. (t : ℕ) × (status_of fs ≡ Shut t)) [] (preceded (run_line w who) tick.move) (tick_over who (is_somebody r && tick.ended))
-      (λ over. led_over (λ v fs. Of IsCalm fs) (λ end v fs. (t : ℕ) × (status_of fs ≡ Shut t)) (run_line w who) tick.move over told)
+      let told = effected_tells r who state.effects state.left v (run_line w who)
+      (event_if_all IsCalm _ (Run w.tick who) (λ _. refl)) in
+      followed_at (λ v fs. Of IsCalm fs) (λ end v fs. (t : ℕ) × (status_of fs ≡ Shut t)) []
+      (preceded (run_line w who) tick.move) (tick_over who (is_somebody r && tick.ended))
+      (λ over. led_over (λ v fs. Of IsCalm fs) (λ end v fs. (t : ℕ) × (status_of fs ≡ Shut t))
+      (run_line w who) tick.move over told)
       (λ on.
-      all_more IsCalm (run_line w who ++ tick.move.events) (event_if (is_somebody r && tick.ended) (End (tick.move.world.tick + 1) who))
+      all_more IsCalm (run_line w who ++ tick.move.events)
+      (event_if (is_somebody r && tick.ended) (End (tick.move.world.tick + 1) who))
       (led_on (λ v fs. Of IsCalm fs) (λ end v fs. (t : ℕ) × (status_of fs ≡ Shut t)) (run_line w who) tick.move on told)
       (event_if_all IsCalm (is_somebody r && tick.ended) (End (tick.move.world.tick + 1) who) (λ _. refl)))

@@ -55,15 +55,18 @@ module _ (E : Event → Type 0) where
   event_if_all true e p = (p, tt)
   event_if_all false e p = tt
 
-  continued_all : (over : Bool) (m : Moved) (next : World → Moved) → Of E m.events → Of E (next m.world).events → Of E (continued over m next).events
+  continued_all : (over : Bool) (m : Moved) (next : World → Moved) → Of E m.events → Of E (next m.world).events
+      → Of E (continued over m next).events
   continued_all true m next p q = p
   continued_all false m next p q = all_more m.events (next m.world).events p q
 
-  pub followed_all : (m : Moved) (next : World → Moved) → Of E m.events → ((v : World) → Of E (next v).events) → Of E (followed m next).events
+  pub followed_all : (m : Moved) (next : World → Moved) → Of E m.events → ((v : World) → Of E (next v).events)
+      → Of E (followed m next).events
   unfolding followed
   followed_all m next p h = continued_all (is_over m.end) m next p (h m.world)
 
-  pub chain_all : {X : Type 0} (part : X → World → Moved) (xs : List X) → ((x : X) (w : World) → Of E (part x w).events) → (w : World) → Of E (chain (map part xs) w).events
+  pub chain_all : {X : Type 0} (part : X → World → Moved) (xs : List X) → ((x : X) (w : World) → Of E (part x w).events)
+      → (w : World) → Of E (chain (map part xs) w).events
   unfolding chain
   chain_all part [] h w = tt
   chain_all part (x ∷ xs) h w = followed_all (part x w) (chain (map part xs)) (h x w) (chain_all part xs h)
@@ -73,50 +76,66 @@ module _ (E : Event → Type 0) where
   pub latch_all : (c : ConfigParts) → ((at : ℕ) (by : ℤ) → E (Correct at by)) → (w : World) → Of E (latch c w).events
   unfolding latch
   latch_all c h w =
-      cond_both (eqb (offset_of w) (c.round - c.adjust)) _ _ (λ (m : Moved). Of E m.events) (λ _. event_if_all (not (is_no_change w.pending)) (Correct w.tick w.pending) (h _ _)) (λ _. tt)
+      cond_both (eqb (offset_of w) (c.round - c.adjust)) _ _ (λ (m : Moved). Of E m.events)
+      (λ _. event_if_all (not (is_no_change w.pending)) (Correct w.tick w.pending) (h _ _)) (λ _. tt)
 
-  pub next_round_all : (s : ScriptParts) → ((at : ℕ) → E (Stop at)) → ((at number : ℕ) (mode : ModeNo) → E (Round at number mode)) → (w : World) → Of E (next_round s w).events
+  pub next_round_all : (s : ScriptParts) → ((at : ℕ) → E (Stop at))
+      → ((at number : ℕ) (mode : ModeNo) → E (Round at number mode)) → (w : World) → Of E (next_round s w).events
   unfolding next_round
-  next_round_all s stop round w = cond_both (eqb w.number s.rounds) _ _ (λ (m : Moved). Of E m.events) (λ _. (stop _, tt)) (λ _. (round _ _ _, tt))
+  next_round_all s stop round w = cond_both (eqb w.number s.rounds) _ _ (λ (m : Moved). Of E m.events)
+      (λ _. (stop _, tt)) (λ _. (round _ _ _, tt))
 
-  pub enables_all : (c : ConfigParts) → ((at : ℕ) (isr : IsrNo) → E (Enable at isr)) → (w : World) → Of E (enables c w).events
+  pub enables_all : (c : ConfigParts) → ((at : ℕ) (isr : IsrNo) → E (Enable at isr)) → (w : World)
+      → Of E (enables c w).events
   unfolding enables enable
   enables_all c h w = chain_all enable (enables_at (offset_of w) (mode_of c w).enables) (λ row v. (h _ _, tt)) w
 
-  arrived_all : (held : Bool) (source : Source) → ((at : ℕ) (who : Owner) → E (Arrive at who)) → ((at : ℕ) (who : Owner) → E (Merge at who)) → (w : World) → Of E (arrived held source w).events
+  arrived_all : (held : Bool) (source : Source) → ((at : ℕ) (who : Owner) → E (Arrive at who))
+      → ((at : ℕ) (who : Owner) → E (Merge at who)) → (w : World) → Of E (arrived held source w).events
   arrived_all true source arrive merge w = (merge _ _, tt)
   arrived_all false source arrive merge w = (arrive _ _, tt)
 
-  pub arrivals_all : (c : ConfigParts) (s : ScriptParts) → ((at : ℕ) (who : Owner) → E (Arrive at who)) → ((at : ℕ) (who : Owner) → E (Merge at who)) → (w : World) → Of E (arrivals c s w).events
+  pub arrivals_all : (c : ConfigParts) (s : ScriptParts) → ((at : ℕ) (who : Owner) → E (Arrive at who))
+      → ((at : ℕ) (who : Owner) → E (Merge at who)) → (w : World) → Of E (arrivals c s w).events
   unfolding arrivals arrival
   arrivals_all c s arrive merge w =
       chain_all (arrival s) (sources c)
-      (λ source v. cond_both (list_any (λ (tick : ℕ). tick == v.tick) (arrivals_of s source)) _ _ (λ (m : Moved). Of E m.events) (λ _. arrived_all (is_held v source) source arrive merge v) (λ _. tt)) w
+      (λ source v. cond_both (list_any (λ (tick : ℕ). tick == v.tick) (arrivals_of s source)) _ _
+      (λ (m : Moved). Of E m.events) (λ _. arrived_all (is_held v source) source arrive merge v) (λ _. tt)) w
 
-  pub acceptances_all : (c : ConfigParts) → ((at : ℕ) (who : Owner) → E (Accept at who)) → (w : World) → Of E (acceptances c w).events
+  pub acceptances_all : (c : ConfigParts) → ((at : ℕ) (who : Owner) → E (Accept at who)) → (w : World)
+      → Of E (acceptances c w).events
   unfolding acceptances acceptance
   acceptances_all c h w =
-      chain_all (acceptance c) (sources c) (λ source v. cond_both (is_accepted v source) _ _ (λ (m : Moved). Of E m.events) (λ _. (h _ _, tt)) (λ _. tt)) w
+      chain_all (acceptance c) (sources c)
+      (λ source v. cond_both (is_accepted v source) _ _ (λ (m : Moved). Of E m.events) (λ _. (h _ _, tt)) (λ _. tt))
+      w
 
-  pub activated_all : (c : ConfigParts) (entry : Option ℕ) → ((at : ℕ) (task : TaskNo) → E (Activate at task)) → (w : World) → Of E (activated c entry w).events
+  pub activated_all : (c : ConfigParts) (entry : Option ℕ) → ((at : ℕ) (task : TaskNo) → E (Activate at task))
+      → (w : World) → Of E (activated c entry w).events
   activated_all c None h w = tt
   activated_all c (Some entry) h w = (h _ _, tt)
 
   -- ---- checks that let the run go on, and the round's end
 
-  if_all : (due : Bool) (check others : Checked) → Of E check.events → Of E others.events → Of E (check_if due check others).events
+  if_all : (due : Bool) (check others : Checked) → Of E check.events → Of E others.events
+      → Of E (check_if due check others).events
   if_all true check others a b = a
   if_all false check others a b = b
 
-  then_all : (at : ℕ) (task : TaskNo) (met : Bool) (others : Checked) → ((at : ℕ) (task : TaskNo) (met : Bool) → E (Check at task met)) → Of E others.events → Of E (check_then at task met others).events
+  then_all : (at : ℕ) (task : TaskNo) (met : Bool) (others : Checked)
+      → ((at : ℕ) (task : TaskNo) (met : Bool) → E (Check at task met)) → Of E others.events
+      → Of E (check_then at task met others).events
   then_all at task true others h q = (h _ _ _, q)
   then_all at task false others h q = (h _ _ _, tt)
 
-  pub checked_all : (at : ℕ) (mode : ModeDef) (is_due : Point → Bool) (xs : List Job) → ((at : ℕ) (task : TaskNo) (met : Bool) → E (Check at task met)) → Of E (checked at mode is_due xs).events
+  pub checked_all : (at : ℕ) (mode : ModeDef) (is_due : Point → Bool) (xs : List Job)
+      → ((at : ℕ) (task : TaskNo) (met : Bool) → E (Check at task met)) → Of E (checked at mode is_due xs).events
   unfolding checked
   checked_all at mode is_due [] h = tt
   checked_all at mode is_due (x ∷ xs) h =
-      if_all (is_due (point_of mode (row_of mode x.entry))) _ _ (then_all at _ (is_done x.left) _ h (checked_all at mode is_due xs h)) (checked_all at mode is_due xs h)
+      if_all (is_due (point_of mode (row_of mode x.entry))) _ _
+      (then_all at _ (is_done x.left) _ h (checked_all at mode is_due xs h)) (checked_all at mode is_due xs h)
 
   -- ---- hooks
 
@@ -135,38 +154,60 @@ module _ (E : Event → Type 0) where
     unfolding outs_of
     outs_all at hook vars [] = tt
     outs_all at hook vars (stmt ∷ rest) =
-        all_more (outs_by at hook vars (out-Stmt stmt)) (outs_of at hook (vars_by vars (out-Stmt stmt)) rest) (outs_by_all at hook vars (out-Stmt stmt)) (outs_all at hook (vars_by vars (out-Stmt stmt)) rest)
+        all_more (outs_by at hook vars (out-Stmt stmt)) (outs_of at hook (vars_by vars (out-Stmt stmt)) rest)
+        (outs_by_all at hook vars (out-Stmt stmt)) (outs_all at hook (vars_by vars (out-Stmt stmt)) rest)
 
     pub shuts_down_all : (c : ConfigParts) (end : Outcome) (w : World) → Of E (shuts_down c end w).events
-    shuts_down_all c end w =
-        (h.hook _, all_more (outs_of w.tick owner.ShutdownHook w.vars c.shutdown_hook) (Shutdown w.tick ∷ []) (outs_all w.tick owner.ShutdownHook w.vars c.shutdown_hook) (h.shutdown _, tt))
+    shuts_down_all c end w = (
+      h.hook _,
+      all_more (outs_of w.tick owner.ShutdownHook w.vars c.shutdown_hook) (Shutdown w.tick ∷ [])
+          (outs_all w.tick owner.ShutdownHook w.vars c.shutdown_hook) (h.shutdown _, tt),
+    )
 
-    after_all : (c : ConfigParts) (fs : List Event) (missed : Option TaskNo) (w : World) → Of E fs → Of E (after_checks c fs missed w).events
+    pub after_all : (c : ConfigParts) (fs : List Event) (missed : Option TaskNo) (w : World) → Of E fs
+        → Of E (after_checks c fs missed w).events
     after_all c fs None w p = p
     after_all c fs (Some task) w p =
-        all_more fs (misses c task w).events p
-        (h.error _ _, all_more (outs_of w.tick owner.ErrorHook w.vars c.error_hook) _ (outs_all w.tick owner.ErrorHook w.vars c.error_hook) (shuts_down_all c (Some (ending.Missed task)) (record w { vars = vars_after w.vars c.error_hook })))
+        all_more fs (misses c task w).events p (
+          h.error _ _,
+          all_more (outs_of w.tick owner.ErrorHook w.vars c.error_hook) _
+              (outs_all w.tick owner.ErrorHook w.vars c.error_hook)
+              (shuts_down_all c (Some (ending.Missed task)) (record w { vars = vars_after w.vars c.error_hook })),
+        )
 
-    pub monitored_all : (c : ConfigParts) (is_due : Point → Bool) → ((at : ℕ) (task : TaskNo) (met : Bool) → E (Check at task met)) → (w : World) → Of E (monitored c is_due w).events
-    monitored_all c is_due check w = after_all c _ (checked w.tick (mode_of c w) is_due w.jobs).missed w (checked_all w.tick (mode_of c w) is_due w.jobs check)
+    pub monitored_all : (c : ConfigParts) (is_due : Point → Bool)
+        → ((at : ℕ) (task : TaskNo) (met : Bool) → E (Check at task met)) → (w : World)
+        → Of E (monitored c is_due w).events
+    monitored_all c is_due check w = after_all c _ (checked w.tick (mode_of c w) is_due w.jobs).missed w
+        (checked_all w.tick (mode_of c w) is_due w.jobs check)
 
-    pub round_end_all : (c : ConfigParts) (s : ScriptParts) → ((at : ℕ) (task : TaskNo) (met : Bool) → E (Check at task met)) → ((at : ℕ) → E (Stop at)) → ((at number : ℕ) (mode : ModeNo) → E (Round at number mode)) → (w : World) → Of E (round_end c s w).events
+    pub round_end_all : (c : ConfigParts) (s : ScriptParts)
+        → ((at : ℕ) (task : TaskNo) (met : Bool) → E (Check at task met)) → ((at : ℕ) → E (Stop at))
+        → ((at number : ℕ) (mode : ModeNo) → E (Round at number mode)) → (w : World) → Of E (round_end c s w).events
     unfolding round_end
     round_end_all c s check stop round w =
         cond_both (is_length w.latched (offset_of w)) _ _ (λ (m : Moved). Of E m.events)
-        (λ _. followed_all (monitored c (is_at_end (offset_of w)) w) (next_round s) (monitored_all c _ check w) (next_round_all s stop round)) (λ _. tt)
+        (λ _. followed_all (monitored c (is_at_end (offset_of w)) w) (next_round s) (monitored_all c _ check w)
+        (next_round_all s stop round)) (λ _. tt)
 
     -- ---- the tick
 
-    module _ (c : ConfigParts) (s : ScriptParts) (run : (at : ℕ) (who : Owner) → E (Run at who)) (end : (at : ℕ) (who : Owner) → E (End at who)) (call : (at : ℕ) (who : Owner) (call : Call) (result : ℕ) → E (Called at who call result)) where
+    module _ (c : ConfigParts) (s : ScriptParts)
+        (call : (at : ℕ) (who : Owner) (call : Call) (result : ℕ) → E (Called at who call result)) where
       called_all : (r : Runner) (who : Owner) (k : Call) (a : Answer) → Of E (called c r who k a).move.events
-      called_all r who k a = cond_both (is_shutdown k) _ _ (λ (m : Moved). Of E m.events) (λ _. (call _ _ _ _, shuts_down_all c (Some ending.Shutdown) (leaving a.world r a.left))) (λ _. (call _ _ _ _, tt))
+      called_all r who k a = cond_both (is_shutdown k) _ _ (λ (m : Moved). Of E m.events)
+          (λ _. (call _ _ _ _, shuts_down_all c (Some ending.Shutdown) (leaving a.world r a.left)))
+          (λ _. (call _ _ _ _, tt))
 
-      effected_all : (r : Runner) (who : Owner) (effects : List Effect) (left : List Stmt) (w : World) → Of E (effected c s r who effects left w).move.events
+      pub effected_all : (r : Runner) (who : Owner) (effects : List Effect) (left : List Stmt) (w : World)
+          → Of E (effected c s r who effects left w).move.events
       effected_all r who [] left w = tt
       effected_all r who (effect.Out value ∷ rest) left w = (h.out _ _ _, tt)
       effected_all r who (effect.Service k ∷ rest) left w = called_all r who k (service c s r k left w)
 
+    module _ (c : ConfigParts) (s : ScriptParts) (run : (at : ℕ) (who : Owner) → E (Run at who))
+        (end : (at : ℕ) (who : Owner) → E (End at who))
+        (call : (at : ℕ) (who : Owner) (call : Call) (result : ℕ) → E (Called at who call result)) where
       pub step_all : (w : World) → Of E (step c s w).events
       unfolding step
       step_all w =
@@ -174,5 +215,6 @@ module _ (E : Event → Type 0) where
           let who = owner_of c w r in
           let state = state_after c s w (left_of w r) in
           followed_all (preceded (run_line w who) (runner_tick c s r who w).move) _
-          (all_more (run_line w who) (runner_tick c s r who w).move.events (event_if_all _ (Run w.tick who) (run _ _)) (effected_all r who state.effects state.left _))
+          (all_more (run_line w who) (runner_tick c s r who w).move.events (event_if_all _ (Run w.tick who) (run _ _))
+          (effected_all c s call r who state.effects state.left _))
           (λ v. event_if_all _ (End (v.tick + 1) who) (end _ _))

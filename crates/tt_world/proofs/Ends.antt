@@ -41,7 +41,8 @@ module _ (c : ConfigParts) (s : ScriptParts) (t : ℕ) where
   unfolding round_end
   round_end_at w es p =
       cond_both (is_length w.latched (offset_of w)) _ _ (Holds At es)
-      (λ _. followed_leads (Alone At) (Alone At) Anything es (monitored c (is_at_end (offset_of w)) w) (next_round s) (monitored_holds At c _ w es (λ _. p)) next_round_at)
+      (λ _. followed_leads (Alone At) (Alone At) Anything es (monitored c (is_at_end (offset_of w)) w) (next_round s)
+      (monitored_holds At c _ w es (λ _. p)) next_round_at)
       (λ _. p)
 
   activated_at : (entry : Option ℕ) (w : World) (es : List Event) → At w → Holds At es (activated c entry w)
@@ -82,20 +83,26 @@ module _ (c : ConfigParts) (s : ScriptParts) (t : ℕ) where
   pub instant_at_tick : (w : World) (es : List Event) → w.tick ≡ t → Holds (λ v. v.tick ≡ t + 1) es (instant c s w)
   unfolding At
   instant_at_tick w es p =
-      instant_leads c s (λ _. Alone At) Anything opening_at (Alone (λ v. v.tick ≡ t + 1)) (step_holds c s At At (λ v. v.tick ≡ t + 1) step_at) w es p
+      instant_leads c s (λ _. Alone At) Anything opening_at (Alone (λ v. v.tick ≡ t + 1))
+      (step_holds c s At At (λ v. v.tick ≡ t + 1) step_at) w es p
 
 -- an instant that goes on takes one tick
-pub instant_tick : (c : ConfigParts) (s : ScriptParts) (w : World) (es : List Event) → is_over (instant c s w).end ≡ false → (instant c s w).world.tick ≡ w.tick + 1
-instant_tick c s w es e = led_on (Alone (λ v. v.tick ≡ w.tick + 1)) Anything es (instant c s w) e (instant_at_tick c s w.tick w es refl)
+pub instant_tick : (c : ConfigParts) (s : ScriptParts) (w : World) (es : List Event)
+    → is_over (instant c s w).end ≡ false → (instant c s w).world.tick ≡ w.tick + 1
+instant_tick c s w es e = led_on (Alone (λ v. v.tick ≡ w.tick + 1)) Anything es (instant c s w) e
+    (instant_at_tick c s w.tick w es refl)
 
 pub goes_on_less : (c : ConfigParts) (s : ScriptParts) (n : ℕ) → GoesOnBefore c s (suc n) → GoesOnBefore c s n
 goes_on_less c s n g k l = g k (omega arith)
 
-pub goes_on_more : (c : ConfigParts) (s : ScriptParts) (n : ℕ) → GoesOnBefore c s n → ends_at c s n ≡ false → GoesOnBefore c s (n + 1)
-goes_on_more c s n g e k l = ⊎_elim (λ (lt : k < n). g k lt) (λ (ge : n ≤ k). let same : n ≡ k = omega arith in rw same at e) (cases_lt k n)
+pub goes_on_more : (c : ConfigParts) (s : ScriptParts) (n : ℕ) → GoesOnBefore c s n → ends_at c s n ≡ false
+    → GoesOnBefore c s (n + 1)
+goes_on_more c s n g e k l = ⊎_elim (λ (lt : k < n). g k lt)
+    (λ (ge : n ≤ k). let same : n ≡ k = omega arith in rw same at e) (cases_lt k n)
 
 -- the tick of an instant is its number, up to the end
-tick_next : (c : ConfigParts) (s : ScriptParts) (n : ℕ) → (world_at c s n).tick ≡ n → ends_at c s n ≡ false → (world_at c s (suc n)).tick ≡ n + 1
+tick_next : (c : ConfigParts) (s : ScriptParts) (n : ℕ) → (world_at c s n).tick ≡ n → ends_at c s n ≡ false
+    → (world_at c s (suc n)).tick ≡ n + 1
 unfolding world_at instant_at
 tick_next c s n t e = instant_tick c s (world_at c s n) [] e ∙ ap (λ k. k + 1) t
 
@@ -114,21 +121,25 @@ module _ (c : ConfigParts) (s : ScriptParts) (bounded : IsBounded c s) where
   few_ticks n g =
       let t = timed_at c s bounded n g in
       let e : (world_at c s n).tick ≡ n = tick_at c s n g in
-      let m : (world_at c s n).number * (c.round + c.adjust) ≤ s.rounds * (c.round + c.adjust) = mul-le-mul_right (c.round + c.adjust) t.within in
+      let m : (world_at c s n).number * (c.round + c.adjust) ≤ s.rounds * (c.round + c.adjust) =
+      mul-le-mul_right (c.round + c.adjust) t.within in
       let early = t.early in
       let started = t.started in
       let offset = before_end (world_at c s n).latched _ t.stands in
       omega arith
 
-  last_found : (more from : ℕ) → GoesOnBefore c s from → from + more ≡ most_ticks c s → IsLast c s (last_from c s more from)
+  last_found : (more from : ℕ) → GoesOnBefore c s from → from + more ≡ most_ticks c s
+      → IsLast c s (last_from c s more from)
   unfolding last_from
   last_found zero from g e =
       record {
-        ends = ⊎_elim (λ p. p) (λ p. absurd (let few = few_ticks (from + 1) (goes_on_more c s from g p) in omega arith)) (cases_Bool (ends_at c s from));
+        ends = ⊎_elim (λ p. p) (λ p. absurd (let few = few_ticks (from + 1) (goes_on_more c s from g p) in omega arith))
+            (cases_Bool (ends_at c s from));
         first = g;
       }
   last_found (suc more) from g e =
-      let later : ends_at c s from ≡ false → IsLast c s (last_from c s more (from + 1)) = λ p. last_found more (from + 1) (goes_on_more c s from g p) (omega arith) in
+      let later : ends_at c s from ≡ false → IsLast c s (last_from c s more (from + 1)) =
+      λ p. last_found more (from + 1) (goes_on_more c s from g p) (omega arith) in
       cond_both (ends_at c s from) _ _ (IsLast c s) (λ p. record { ends = p; first = g }) later
 
   pub last_is : IsLast c s (last_instant c s)
@@ -161,6 +172,8 @@ are_ahead c s rules script n l e =
     let last = last_is c s bounded in
     let before : GoesOnBefore c s n = λ k m. last.first k (omega arith) in
     let on : is_over (opening c s (world_at c s n)).end ≡ false = ap is_over e in
-    let t = led_on (Alone (Timed Begun c s)) Anything [] (opening c s (world_at c s n)) on (opening_timed c s bounded (world_at c s n) [] (timed_at c s bounded n before)) in
-    let a = led_on (Alone (Ahead c 1)) Anything [] (opening c s (world_at c s n)) on (opening_ahead c s rules (world_at c s n) [] (ahead_at c s rules n before)) in
+    let t = led_on (Alone (Timed Begun c s)) Anything [] (opening c s (world_at c s n)) on
+    (opening_timed c s bounded (world_at c s n) [] (timed_at c s bounded n before)) in
+    let a = led_on (Alone (Ahead c 1)) Anything [] (opening c s (world_at c s n)) on
+    (opening_ahead c s rules (world_at c s n) [] (ahead_at c s rules n before)) in
     points_ahead c s _ a t

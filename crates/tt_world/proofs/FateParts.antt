@@ -63,7 +63,8 @@ module _ (c : ConfigParts) (s : ScriptParts) (w : World) where
   latch_same : Leads S S Never (latch c)
   unfolding latch S
   latch_same v es p =
-      cond_both (eqb (offset_of v) (c.round - c.adjust)) _ _ (LeadsTo S Never es) (λ _. record { start = p.start; mode = p.mode; acts = p.acts }) (λ _. p)
+      cond_both (eqb (offset_of v) (c.round - c.adjust)) _ _ (LeadsTo S Never es)
+      (λ _. record { start = p.start; mode = p.mode; acts = p.acts }) (λ _. p)
 
   enable_same : (row : EnableRow) → Leads S S Never (enable row)
   unfolding enable S
@@ -73,7 +74,8 @@ module _ (c : ConfigParts) (s : ScriptParts) (w : World) where
   unfolding enables
   enables_same v es p = chain_each S Never enable (enables_at (offset_of v) (mode_of c v).enables) enable_same v es p
 
-  arrived_same : (held : Bool) (source : Source) (v : World) (es : List Event) → S v es → LeadsTo S Never es (arrived held source v)
+  arrived_same : (held : Bool) (source : Source) (v : World) (es : List Event) → S v es
+      → LeadsTo S Never es (arrived held source v)
   unfolding S
   arrived_same true source v es p = p
   arrived_same false (IsrSource i) v es p = record { start = p.start; mode = p.mode; acts = p.acts }
@@ -82,7 +84,8 @@ module _ (c : ConfigParts) (s : ScriptParts) (w : World) where
   arrival_same : (source : Source) → Leads S S Never (arrival s source)
   unfolding arrival
   arrival_same source v es p =
-      cond_both (list_any (λ (tick : ℕ). tick == v.tick) (arrivals_of s source)) _ _ (LeadsTo S Never es) (λ _. arrived_same (is_held v source) source v es p) (λ _. still_leads S Never es v p)
+      cond_both (list_any (λ (tick : ℕ). tick == v.tick) (arrivals_of s source)) _ _ (LeadsTo S Never es)
+      (λ _. arrived_same (is_held v source) source v es p) (λ _. still_leads S Never es v p)
 
   arrivals_same : Leads S S Never (arrivals c s)
   unfolding arrivals
@@ -90,8 +93,12 @@ module _ (c : ConfigParts) (s : ScriptParts) (w : World) where
 
   acceptance_same : (source : Source) → Leads S S Never (acceptance c source)
   unfolding acceptance S
-  acceptance_same (IsrSource i) v es p = cond_both (is_accepted v (IsrSource i)) _ _ (LeadsTo S Never es) (λ _. record { start = p.start; mode = p.mode; acts = p.acts }) (λ _. p)
-  acceptance_same (OisrSource i) v es p = cond_both (is_accepted v (OisrSource i)) _ _ (LeadsTo S Never es) (λ _. record { start = p.start; mode = p.mode; acts = p.acts }) (λ _. p)
+  acceptance_same (IsrSource i) v es p =
+      cond_both (is_accepted v (IsrSource i)) _ _ (LeadsTo S Never es)
+      (λ _. record { start = p.start; mode = p.mode; acts = p.acts }) (λ _. p)
+  acceptance_same (OisrSource i) v es p =
+      cond_both (is_accepted v (OisrSource i)) _ _ (LeadsTo S Never es)
+      (λ _. record { start = p.start; mode = p.mode; acts = p.acts }) (λ _. p)
 
   acceptances_same : Leads S S Never (acceptances c)
   unfolding acceptances
@@ -112,10 +119,13 @@ module _ (c : ConfigParts) (s : ScriptParts) (rules : IsConfig c) (bounded : IsB
   Over end w es = Through (OfActivate c (Settled c T es)) first es × EndsAt T es
 
   -- a part that is silent in this
-  quiet_told : (w : World) (es : List Event) (m : Moved) → T0 w es → Early w → Of IsQuiet m.events → LeadsTo (λ v fs. Same w v) Never es m → LeadsTo T0 Over es m
+  quiet_told : (w : World) (es : List Event) (m : Moved) → T0 w es → Early w → Of IsQuiet m.events
+      → LeadsTo (λ v fs. Same w v) Never es m → LeadsTo T0 Over es m
   quiet_told w es m p e q h =
       leads_by T0 Over es m
-      (λ on. let same = led_on (λ v fs. Same w v) Never es m on h in told_forward c first T T w m.world es m.events (omega arith) e (same_forward c w m.world m.events same.start same.mode same.acts) q p)
+      (λ on. let same = led_on (λ v fs. Same w v) Never es m on h in
+      told_forward c first T T w m.world es m.events (omega arith) e
+      (same_forward c w m.world m.events same.start same.mode same.acts) q p)
       (λ over. absurd (led_over (λ v fs. Same w v) Never es m over h))
 
   same_as : (w : World) → Same w w
@@ -123,19 +133,23 @@ module _ (c : ConfigParts) (s : ScriptParts) (rules : IsConfig c) (bounded : IsB
 
   latch_told : (w : World) (es : List Event) → T0 w es → Early w → LeadsTo T0 Over es (latch c w)
   unfolding S
-  latch_told w es p e = quiet_told w es (latch c w) p e (latch_all IsQuiet c (λ _ _. (refl, refl)) w) (latch_same c s w w es (same_as w))
+  latch_told w es p e = quiet_told w es (latch c w) p e (latch_all IsQuiet c (λ _ _. (refl, refl)) w)
+      (latch_same c s w w es (same_as w))
 
   enables_told : (w : World) (es : List Event) → T0 w es → Early w → LeadsTo T0 Over es (enables c w)
   unfolding S
-  enables_told w es p e = quiet_told w es (enables c w) p e (enables_all IsQuiet c (λ _ _. (refl, refl)) w) (enables_same c s w w es (same_as w))
+  enables_told w es p e = quiet_told w es (enables c w) p e (enables_all IsQuiet c (λ _ _. (refl, refl)) w)
+      (enables_same c s w w es (same_as w))
 
   arrivals_told : (w : World) (es : List Event) → T0 w es → Early w → LeadsTo T0 Over es (arrivals c s w)
   unfolding S
-  arrivals_told w es p e = quiet_told w es (arrivals c s w) p e (arrivals_all IsQuiet c s (λ _ _. (refl, refl)) (λ _ _. (refl, refl)) w) (arrivals_same c s w w es (same_as w))
+  arrivals_told w es p e = quiet_told w es (arrivals c s w) p e
+      (arrivals_all IsQuiet c s (λ _ _. (refl, refl)) (λ _ _. (refl, refl)) w) (arrivals_same c s w w es (same_as w))
 
   acceptances_told : (w : World) (es : List Event) → T0 w es → Early w → LeadsTo T0 Over es (acceptances c w)
   unfolding S
-  acceptances_told w es p e = quiet_told w es (acceptances c w) p e (acceptances_all IsQuiet c (λ _ _. (refl, refl)) w) (acceptances_same c s w w es (same_as w))
+  acceptances_told w es p e = quiet_told w es (acceptances c w) p e (acceptances_all IsQuiet c (λ _ _. (refl, refl)) w)
+      (acceptances_same c s w w es (same_as w))
 
   -- checks that are met
   checks_told : (w : World) (es : List Event) → T0 w es → Early w → LeadsTo T0 Over es (checks c w)
@@ -143,9 +157,11 @@ module _ (c : ConfigParts) (s : ScriptParts) (rules : IsConfig c) (bounded : IsB
   checks_told w es p e =
       let all = checked w.tick (mode_of c w) (is_at (offset_of w)) w.jobs in
       after_leads T0 Over c all.events all.missed w es (checks_met c s rules bounded T w e).missed
-      (told_forward c first T T w w es all.events (omega arith) e (same_forward c w w all.events refl refl refl) (checked_all IsQuiet w.tick (mode_of c w) (is_at (offset_of w)) w.jobs (λ _ _ _. (refl, refl))) p)
+      (told_forward c first T T w w es all.events (omega arith) e (same_forward c w w all.events refl refl refl)
+      (checked_all IsQuiet w.tick (mode_of c w) (is_at (offset_of w)) w.jobs (λ _ _ _. (refl, refl))) p)
 
-  head_told : (w : World) (es : List Event) → w.tick ≡ 0 → w.mode ≡ s.start → T0 w es → Early w → LeadsTo T0 Over es (head s w)
+  head_told : (w : World) (es : List Event) → w.tick ≡ 0 → w.mode ≡ s.start → T0 w es → Early w
+      → LeadsTo T0 Over es (head s w)
   unfolding head
   head_told w es z m p e =
       let fs = OsStart w.tick s.start ∷ Round w.tick 1 s.start ∷ [] in
@@ -155,22 +171,37 @@ module _ (c : ConfigParts) (s : ScriptParts) (rules : IsConfig c) (bounded : IsB
       record {
         fates =
             through_more (OfActivate c (Fate c T w (es ++ fs))) first es fs
-            (through_each (OfActivate c (Fate c T w es)) (OfActivate c (Fate c T w (es ++ fs))) (activate_each c (Fate c T w es) (Fate c T w (es ++ fs)) (λ round entry q. fate_forward c first T T w w es fs (omega arith) e (same_forward c w w fs refl refl refl) round entry q)) first es p.fates)
-            (no_activate c (Fate c T w (es ++ fs)) (last_round first es) (OsStart w.tick s.start) refl, (no_activate c (Fate c T w (es ++ fs)) (last_round first es) (Round w.tick 1 s.start) refl, tt));
-        now = last_round_more first es fs ∙ (ap (λ x. record { start = x; mode = s.start }) zero_start ∙ ap (λ n. record { start = w.start; mode = n }) (sym m));
+            (through_each (OfActivate c (Fate c T w es)) (OfActivate c (Fate c T w (es ++ fs)))
+            (activate_each c (Fate c T w es) (Fate c T w (es ++ fs))
+            (λ round entry q. fate_forward c first T T w w es fs (omega arith) e
+            (same_forward c w w fs refl refl refl) round entry q)) first es p.fates) (
+              no_activate c (Fate c T w (es ++ fs)) (last_round first es) (OsStart w.tick s.start) refl,
+              (no_activate c (Fate c T w (es ++ fs)) (last_round first es) (Round w.tick 1 s.start) refl, tt),
+            );
+        now = last_round_more first es fs ∙
+            (ap (λ x. record { start = x; mode = s.start }) zero_start
+            ∙ ap (λ n. record { start = w.start; mode = n }) (sym m));
       }
 
   -- ---- an activation
 
-  row_task : (number entry : ℕ) → entry < length (mode_at c number).activations → is_done (body_of c (row_of (mode_at c number) entry).task) ≡ false
+  row_task : (number entry : ℕ) → entry < length (mode_at c number).activations
+      → is_done (body_of c (row_of (mode_at c number) entry).task) ≡ false
   row_task number entry l =
       let row = row_of (mode_at c number) entry in
-      let h = list_all_get (is_activation c) (mode_at c number).activations entry no_row (mode_rows c number rules).activations l in
-      let within = ltb-true row.task.0 (length c.tasks) (both_left (nat_lt row.task.0 (length c.tasks)) (nat_lt row.offset row.deadline && nat_le row.deadline (c.round - c.adjust)) h) in
-      some_undone (body_of c row.task) (All-get_or (IsTask c) c.tasks row.task.0 no_task within rules.tasks).routine.some
+      let h = list_all_get (is_activation c) (mode_at c number).activations entry no_row
+      (mode_rows c number rules).activations l in
+      let within = ltb-true row.task.0 (length c.tasks)
+      (both_left (nat_lt row.task.0 (length c.tasks))
+      (nat_lt row.offset row.deadline && nat_le row.deadline (c.round - c.adjust)) h) in
+      some_undone (body_of c row.task) (All-get_or
+      (IsTask c) c.tasks row.task.0 no_task within rules.tasks).routine.some
 
-  activated_told : (found : Option ℕ) (w : World) (es : List Event) → entry_at (offset_of w) (mode_of c w).activations ≡ found → T0 w es → Early w → LeadsTo T0 Over es (activated c found w)
-  activated_told None w es f p e = told_forward c first T T w w es [] (omega arith) e (same_forward c w w [] refl refl refl) tt p
+  activated_told : (found : Option ℕ) (w : World) (es : List Event)
+      → entry_at (offset_of w) (mode_of c w).activations ≡ found → T0 w es → Early w
+      → LeadsTo T0 Over es (activated c found w)
+  activated_told None w es f p e = told_forward c first T T w w es [] (omega arith) e
+      (same_forward c w w [] refl refl refl) tt p
   activated_told (Some entry) w es f p e =
       let task = (row_of (mode_of c w) entry).task in
       let y : Job = record { entry = entry; left = body_of c task } in
@@ -185,7 +216,8 @@ module _ (c : ConfigParts) (s : ScriptParts) (rules : IsConfig c) (bounded : IsB
       let grows : Forward c w v fs = record {
         start = refl;
         mode = refl;
-        each = λ place l u. let same = get_or-append w.jobs (y ∷ []) no_job place l in inl (omega arith, (ap (λ (i : Job). is_done i.left) same ∙ u, ap (λ (i : Job). i.entry) same));
+        each = λ place l u. let same = get_or-append w.jobs (y ∷ []) no_job place l in
+            inl (omega arith, (ap (λ (i : Job). is_done i.left) same ∙ u, ap (λ (i : Job). i.entry) same));
       } in
       let new : OfActivate c (Fate c T v (es ++ fs)) (round_in w) (Activate w.tick task) = λ at other g.
       let same_at : w.tick ≡ at = ap stamp_of g in
@@ -207,7 +239,10 @@ module _ (c : ConfigParts) (s : ScriptParts) (rules : IsConfig c) (bounded : IsB
       record {
         fates =
             through_more (OfActivate c (Fate c T v (es ++ fs))) first es fs
-            (through_each (OfActivate c (Fate c T w es)) (OfActivate c (Fate c T v (es ++ fs))) (activate_each c (Fate c T w es) (Fate c T v (es ++ fs)) (λ round entry q. fate_forward c first T T w v es fs (omega arith) e grows round entry q)) first es p.fates)
+            (through_each (OfActivate c (Fate c T w es)) (OfActivate c (Fate c T v (es ++ fs)))
+            (activate_each c (Fate c T w es) (Fate c T v (es ++ fs))
+            (λ round entry q. fate_forward c first T T w v es fs (omega arith) e grows round entry q)) first es
+            p.fates)
             (subst (λ r. OfActivate c (Fate c T v (es ++ fs)) r (Activate w.tick task)) (sym p.now) new, tt);
         now = last_round_more first es fs ∙ p.now;
       }
@@ -222,17 +257,22 @@ module _ (c : ConfigParts) (s : ScriptParts) (rules : IsConfig c) (bounded : IsB
   AllEnded : World → List Event → Type 0
   AllEnded v ds = (v.tick ≡ T) × Through (OfActivate c (HasEnded c ds)) first ds
 
-  ended_now : (w : World) (es fs : List Event) → T0 w es → Early w → Timed Latched c s w → is_length w.latched (offset_of w) ≡ true → Of IsQuiet fs → AllEnded w (es ++ fs)
+  ended_now : (w : World) (es fs : List Event) → T0 w es → Early w → Timed Latched c s w
+      → is_length w.latched (offset_of w) ≡ true → Of IsQuiet fs → AllEnded w (es ++ fs)
   unfolding AllEnded
   ended_now w es fs p e t h q = (
     e.tick,
-    through_more (OfActivate c (HasEnded c (es ++ fs))) first es fs (through_each (OfActivate c (Fate c T w es)) (OfActivate c (HasEnded c (es ++ fs))) (activate_each c (Fate c T w es) (HasEnded c (es ++ fs)) settle) first es p.fates) (quiet_through c (HasEnded c (es ++ fs)) (last_round first es) fs q),
+    through_more (OfActivate c (HasEnded c (es ++ fs))) first es fs
+        (through_each (OfActivate c (Fate c T w es)) (OfActivate c (HasEnded c (es ++ fs)))
+        (activate_each c (Fate c T w es) (HasEnded c (es ++ fs)) settle) first es p.fates)
+        (quiet_through c (HasEnded c (es ++ fs)) (last_round first es) fs q),
   )
     where
       settle : (round : RoundStart) (entry : ℕ) → Fate c T w es round entry → HasEnded c (es ++ fs) round entry
       settle round entry q =
           let row = row_of (mode_at c round.mode.0) entry in
-          ⊎_elim (λ (d : HasEnded c es round entry). has_end_more es fs row.task (round.start + row.offset) (round.start + row.deadline) d)
+          ⊎_elim (λ (d : HasEnded c es round entry). has_end_more es fs row.task (round.start + row.offset)
+          (round.start + row.deadline) d)
           (λ (o : IsOpen c T w round entry).
           let ahead = e.each o.place o.within o.undone in
           let low = deadline_low c (mode_of c w) (job_at w.jobs o.place).entry (mode_rows c w.mode.0 rules) in
@@ -251,7 +291,9 @@ module _ (c : ConfigParts) (s : ScriptParts) (rules : IsConfig c) (bounded : IsB
       (λ _. (
         through_more (OfActivate c (Settled c T (ds ++ stop))) first ds stop
             (through_each (OfActivate c (HasEnded c ds)) (OfActivate c (Settled c T (ds ++ stop)))
-            (activate_each c (HasEnded c ds) (Settled c T (ds ++ stop)) (λ round entry q reached. let row = row_of (mode_at c round.mode.0) entry in has_end_more ds stop row.task (round.start + row.offset) (round.start + row.deadline) q)) first ds p.1)
+            (activate_each c (HasEnded c ds) (Settled c T (ds ++ stop))
+            (λ round entry q reached. let row = row_of (mode_at c round.mode.0) entry in
+            has_end_more ds stop row.task (round.start + row.offset) (round.start + row.deadline) q)) first ds p.1)
             (no_activate c (Settled c T (ds ++ stop)) (last_round first ds) (Stop v.tick) refl, tt),
         (ds, Stop v.tick, refl, tick),
       ))
@@ -262,12 +304,19 @@ module _ (c : ConfigParts) (s : ScriptParts) (rules : IsConfig c) (bounded : IsB
         fates =
             through_more (OfActivate c (Fate c T u (ds ++ begin))) first ds begin
             (through_each (OfActivate c (HasEnded c ds)) (OfActivate c (Fate c T u (ds ++ begin)))
-            (activate_each c (HasEnded c ds) (Fate c T u (ds ++ begin)) (λ round entry q. let row = row_of (mode_at c round.mode.0) entry in inl (has_end_more ds begin row.task (round.start + row.offset) (round.start + row.deadline) q))) first ds p.1)
-            (no_activate c (Fate c T u (ds ++ begin)) (last_round first ds) (Round v.tick (v.number + 1) v.wanted) refl, tt);
+            (activate_each c (HasEnded c ds) (Fate c T u (ds ++ begin))
+            (λ round entry q. let row = row_of (mode_at c round.mode.0) entry in
+            inl (has_end_more ds begin row.task (round.start + row.offset) (round.start + row.deadline) q))) first
+            ds p.1) (
+              no_activate c (Fate c T u (ds ++ begin)) (last_round first ds)
+                  (Round v.tick (v.number + 1) v.wanted) refl,
+              tt,
+            );
         now = last_round_more first ds begin;
       })
 
-  round_end_told : (w : World) (es : List Event) → T0 w es → Early w → Timed Latched c s w → LeadsTo T0 Over es (round_end c s w)
+  round_end_told : (w : World) (es : List Event) → T0 w es → Early w → Timed Latched c s w
+      → LeadsTo T0 Over es (round_end c s w)
   unfolding round_end
   round_end_told w es p e t =
       let all = checked w.tick (mode_of c w) (is_at_end (offset_of w)) w.jobs in
@@ -275,24 +324,35 @@ module _ (c : ConfigParts) (s : ScriptParts) (rules : IsConfig c) (bounded : IsB
       (λ h.
       followed_leads AllEnded T0 Over es (monitored c (is_at_end (offset_of w)) w) (next_round s)
       (after_leads AllEnded Over c all.events all.missed w es (end_met c s rules bounded T w e t h).missed
-      (ended_now w es all.events p e t h (checked_all IsQuiet w.tick (mode_of c w) (is_at_end (offset_of w)) w.jobs (λ _ _ _. (refl, refl)))))
+      (ended_now w es all.events p e t h
+      (checked_all IsQuiet w.tick (mode_of c w) (is_at_end (offset_of w)) w.jobs (λ _ _ _. (refl, refl)))))
       next_told)
       (λ _. told_forward c first T T w w es [] (omega arith) e (same_forward c w w [] refl refl refl) tt p)
 
   -- ---- the tick
 
   hooks : OfHooks IsQuiet
-  hooks = record { error = λ _ _. (refl, refl); out = λ _ _ _. (refl, refl); hook = λ _. (refl, refl); shutdown = λ _. (refl, refl) }
+  hooks = record {
+    error = λ _ _. (refl, refl);
+    out = λ _ _ _. (refl, refl);
+    hook = λ _. (refl, refl);
+    shutdown =
+        λ _. (refl, refl);
+  }
 
-  step_told : (w : World) (es : List Event) → T0 w es → Early w → LeadsTo (λ v fs. Told c first (T + 1) v fs) Over es (step c s w)
+  step_told : (w : World) (es : List Event) → T0 w es → Early w
+      → LeadsTo (λ v fs. Told c first (T + 1) v fs) Over es (step c s w)
   step_told w es p e =
       let m = step c s w in
       let quiet = step_all IsQuiet hooks c s (λ _ _. (refl, refl)) (λ _ _. (refl, refl)) (λ _ _ _ _. (refl, refl)) w in
       leads_by (λ v fs. Told c first (T + 1) v fs) Over es m
-      (λ on. told_forward c first T (T + 1) w m.world es m.events (omega arith) e (led_on (λ v fs. Forward c w v fs) (λ end v fs. EndsAt w.tick fs) [] m on (step_forward c s w)) quiet p)
+      (λ on. told_forward c first T (T + 1) w m.world es m.events (omega arith) e
+      (led_on (λ v fs. Forward c w v fs) (λ end v fs. EndsAt w.tick fs) [] m on (step_forward c s w)) quiet p)
       (λ over. (
         settled_over c first T w es m.events e quiet p,
-        subst (λ (t : ℕ). EndsAt t (es ++ m.events)) e.tick (ends_after w.tick es m.events (led_over (λ v fs. Forward c w v fs) (λ end v fs. EndsAt w.tick fs) [] m over (step_forward c s w))),
+        subst (λ (t : ℕ). EndsAt t (es ++ m.events)) e.tick
+            (ends_after w.tick es m.events (led_over (λ v fs. Forward c w v fs) (λ end v fs. EndsAt w.tick fs) [] m over
+            (step_forward c s w))),
       ))
 
   -- ---- the whole instant
@@ -302,10 +362,12 @@ module _ (c : ConfigParts) (s : ScriptParts) (rules : IsConfig c) (bounded : IsB
   ToldAt Latched w es = (Early w × Timed Latched c s w) × T0 w es
   ToldAt phase w es = (Early w × Timed Begun c s w) × T0 w es
 
-  joined : (A B : World → Type 0) (es : List Event) (m : Moved) → LeadsTo T0 Over es m → Holds A es m → Holds B es m → LeadsTo (λ v fs. (A v × B v) × T0 v fs) Over es m
+  joined : (A B : World → Type 0) (es : List Event) (m : Moved) → LeadsTo T0 Over es m → Holds A es m → Holds B es m
+      → LeadsTo (λ v fs. (A v × B v) × T0 v fs) Over es m
   joined A B es m h a b =
       leads_by (λ v fs. (A v × B v) × T0 v fs) Over es m
-      (λ e. ((led_on (Alone A) Anything es m e a, led_on (Alone B) Anything es m e b), led_on T0 Over es m e h)) (λ e. led_over T0 Over es m e h)
+      (λ e. ((led_on (Alone A) Anything es m e a, led_on (Alone B) Anything es m e b), led_on T0 Over es m e h))
+      (λ e. led_over T0 Over es m e h)
 
   abbrev on : World → Type 0
   on = Timed Begun c s
@@ -315,18 +377,28 @@ module _ (c : ConfigParts) (s : ScriptParts) (rules : IsConfig c) (bounded : IsB
       let a = early c s rules bounded T in
       let t = timed c s rules bounded T in
       record {
-        head_is = λ w es z p. joined Early on es (head s w) (head_told w es z (p.1.1 z) p.1.0 p.0.0) (a.head_is w es z p.0.0) (t.head_is w es z p.0.1);
-        latch_is = λ w es p. joined Early (Timed Latched c s) es (latch c w) (latch_told w es p.1.0 p.0.0) (a.latch_is w es p.0.0) (t.latch_is w es p.0.1);
-        round_end_is = λ w es p. joined Early on es (round_end c s w) (round_end_told w es p.1 p.0.0 p.0.1) (a.round_end_is w es p.0.0) (t.round_end_is w es p.0.1);
-        checks_are = λ w es p. joined Early on es (checks c w) (checks_told w es p.1 p.0.0) (a.checks_are w es p.0.0) (t.checks_are w es p.0.1);
-        enables_are = λ w es p. joined Early on es (enables c w) (enables_told w es p.1 p.0.0) (a.enables_are w es p.0.0) (t.enables_are w es p.0.1);
-        arrivals_are = λ w es p. joined Early on es (arrivals c s w) (arrivals_told w es p.1 p.0.0) (a.arrivals_are w es p.0.0) (t.arrivals_are w es p.0.1);
-        acceptances_are = λ w es p. joined Early on es (acceptances c w) (acceptances_told w es p.1 p.0.0) (a.acceptances_are w es p.0.0) (t.acceptances_are w es p.0.1);
-        activation_is = λ w es p. joined Early on es (activation c w) (activation_told w es p.1 p.0.0) (a.activation_is w es p.0.0) (t.activation_is w es p.0.1);
+        head_is = λ w es z p. joined Early on es (head s w) (head_told w es z (p.1.1 z) p.1.0 p.0.0)
+            (a.head_is w es z p.0.0) (t.head_is w es z p.0.1);
+        latch_is = λ w es p. joined Early (Timed Latched c s) es (latch c w) (latch_told w es p.1.0 p.0.0)
+            (a.latch_is w es p.0.0) (t.latch_is w es p.0.1);
+        round_end_is = λ w es p. joined Early on es (round_end c s w) (round_end_told w es p.1 p.0.0 p.0.1)
+            (a.round_end_is w es p.0.0) (t.round_end_is w es p.0.1);
+        checks_are = λ w es p. joined Early on es (checks c w) (checks_told w es p.1 p.0.0) (a.checks_are w es p.0.0)
+            (t.checks_are w es p.0.1);
+        enables_are = λ w es p. joined Early on es (enables c w) (enables_told w es p.1 p.0.0)
+            (a.enables_are w es p.0.0) (t.enables_are w es p.0.1);
+        arrivals_are = λ w es p. joined Early on es (arrivals c s w) (arrivals_told w es p.1 p.0.0)
+            (a.arrivals_are w es p.0.0) (t.arrivals_are w es p.0.1);
+        acceptances_are = λ w es p. joined Early on es (acceptances c w) (acceptances_told w es p.1 p.0.0)
+            (a.acceptances_are w es p.0.0) (t.acceptances_are w es p.0.1);
+        activation_is = λ w es p. joined Early on es (activation c w) (activation_told w es p.1 p.0.0)
+            (a.activation_is w es p.0.0) (t.activation_is w es p.0.1);
       }
 
   -- what becomes of each activation is kept by an instant
-  pub instant_told : (w : World) (es : List Event) → Each c (IsEarly c T) T w → Timed Before c s w → (w.tick ≡ 0 → w.mode ≡ s.start) → Told c (record { start = 0; mode = s.start }) T w es
+  pub instant_told : (w : World) (es : List Event) → Each c (IsEarly c T) T w → Timed Before c s w
+      → (w.tick ≡ 0 → w.mode ≡ s.start) → Told c (record { start = 0; mode = s.start }) T w es
       → LeadsTo (λ v fs. Told c (record { start = 0; mode = s.start }) (T + 1) v fs) Over es (instant c s w)
   instant_told w es e t m p =
-      instant_leads c s ToldAt Over opening_told (λ v fs. Told c first (T + 1) v fs) (λ v ds q. step_told v ds q.1 q.0.0) w es ((e, t), (p, m))
+      instant_leads c s ToldAt Over opening_told (λ v fs. Told c first (T + 1) v fs)
+      (λ v ds q. step_told v ds q.1 q.0.0) w es ((e, t), (p, m))

@@ -35,13 +35,16 @@ use Rattle.tt_world.proofs.Keeps.{IsOsek, IsLeftAfter}
 some_same : (a b : ℕ) → Some a ≡ Some b → a ≡ b
 some_same a b g = cc
 
-higher_passes : (levels : List ℕ) (test : ℕ → Bool) (x : ℕ) (o : Option ℕ) → test x ≡ true → ((n : ℕ) → o ≡ Some n → test n ≡ true) → test (higher levels x o) ≡ true
+higher_passes : (levels : List ℕ) (test : ℕ → Bool) (x : ℕ) (o : Option ℕ) → test x ≡ true
+    → ((n : ℕ) → o ≡ Some n → test n ≡ true) → test (higher levels x o) ≡ true
 higher_passes levels test x None h k = h
 higher_passes levels test x (Some other) h k =
-    cond_both (nat_lt (slice_index_or levels x 0) (slice_index_or levels other 0)) other x (λ (y : ℕ). test y ≡ true) (λ _. k other refl) (λ _. h)
+    cond_both (nat_lt (slice_index_or levels x 0) (slice_index_or levels other 0)) other x (λ (y : ℕ). test y ≡ true)
+    (λ _. k other refl) (λ _. h)
 
 -- the highest of some numbers that all pass a test passes it
-pub passes : (levels numbers : List ℕ) (test : ℕ → Bool) → list_all test numbers ≡ true → (number : ℕ) → highest levels numbers ≡ Some number → test number ≡ true
+pub passes : (levels numbers : List ℕ) (test : ℕ → Bool) → list_all test numbers ≡ true → (number : ℕ)
+    → highest levels numbers ≡ Some number → test number ≡ true
 unfolding highest
 passes levels [] test h number e = cc
 passes levels (x ∷ xs) test h number e =
@@ -63,22 +66,31 @@ not_done true e = cc
 not_done false e = refl
 
 -- the highest that is unfinished has statements left
-pub highest_undone : (levels : List ℕ) (lefts : List (List Stmt)) (number : ℕ) → highest levels (unfinished lefts) ≡ Some number → is_done (slice_index_or lefts number []) ≡ false
+pub highest_undone : (levels : List ℕ) (lefts : List (List Stmt)) (number : ℕ)
+    → highest levels (unfinished lefts) ≡ Some number → is_done (slice_index_or lefts number []) ≡ false
 highest_undone levels lefts number e =
-    not_done _ (passes levels (unfinished lefts) (λ (n : ℕ). not (is_done (slice_index_or lefts n []))) (filtered _ (range_with_len 0 (length lefts))) number e)
+    not_done _ (passes levels (unfinished lefts) (λ (n : ℕ). not (is_done (slice_index_or lefts n [])))
+    (filtered _ (range_with_len 0 (length lefts))) number e)
 
 -- where a time-triggered routine runs, it is the unfinished one of the highest level
-isr_first : (o : Option ℕ) (others : List (Option Runner)) (isr : IsrNo) → ((r : Runner) → first_runner others ≡ r → (j : IsrNo) → r ≡ runner.Isr j → ⊥) → first_runner (option_map (λ (number : ℕ). runner.Isr (record { 0 = number })) o ∷ others) ≡ runner.Isr isr → o ≡ Some isr.0
+isr_first : (o : Option ℕ) (others : List (Option Runner)) (isr : IsrNo)
+    → ((r : Runner) → first_runner others ≡ r → (j : IsrNo) → r ≡ runner.Isr j → ⊥)
+    → first_runner (option_map (λ (number : ℕ). runner.Isr (record { 0 = number })) o ∷ others) ≡ runner.Isr isr
+    → o ≡ Some isr.0
 isr_first None others isr none e = absurd (none _ e isr refl)
 isr_first (Some number) others isr none e = cc
 
-none_isr : (o p q : Option ℕ) (r : Runner) → first_runner (option_map (λ (place : ℕ). runner.Job place) o ∷ option_map (λ (number : ℕ). runner.Oisr (record { 0 = number })) p ∷ option_map (λ (number : ℕ). runner.Osek (record { 0 = number })) q ∷ []) ≡ r → (j : IsrNo) → r ≡ runner.Isr j → ⊥
+none_isr : (o p q : Option ℕ) (r : Runner)
+    → first_runner (option_map (λ (place : ℕ). runner.Job place) o ∷ option_map
+    (λ (number : ℕ). runner.Oisr (record { 0 = number })) p ∷ option_map
+    (λ (number : ℕ). runner.Osek (record { 0 = number })) q ∷ []) ≡ r → (j : IsrNo) → r ≡ runner.Isr j → ⊥
 none_isr (Some place) p q r e j f = cc
 none_isr None (Some n) q r e j f = cc
 none_isr None None (Some n) r e j f = cc
 none_isr None None None r e j f = cc
 
-pub isr_runs : (c : ConfigParts) (w : World) (isr : IsrNo) → runner_of c w ≡ runner.Isr isr → highest (isr_levels c) (unfinished w.isrs) ≡ Some isr.0
+pub isr_runs : (c : ConfigParts) (w : World) (isr : IsrNo) → runner_of c w ≡ runner.Isr isr
+    → highest (isr_levels c) (unfinished w.isrs) ≡ Some isr.0
 unfolding runner_of
 isr_runs c w isr e = isr_first _ _ isr (none_isr _ _ _) e
 
@@ -105,8 +117,10 @@ pub record Account (c : ConfigParts) (isr t e a : ℕ) (enabled held : List Bool
   pub has : isr < length isrs
   pub numbers : AreNumbersInRange (get_or isrs isr [])
   pub small : worst_in c.demands (get_or isrs isr []) ≤ (isr_of c isr).budget
-  pub by_enables : t + (worst_in c.demands (get_or isrs isr []) + cond (get_or enabled isr false) (isr_of c isr).budget 0) ≤ (isr_of c isr).budget * (2 + e)
-  pub by_arrivals : t + (worst_in c.demands (get_or isrs isr []) + cond (get_or held isr false) (isr_of c isr).budget 0) ≤ (isr_of c isr).budget * (2 + a)
+  pub by_enables : t + (worst_in c.demands (get_or isrs isr []) + cond (get_or enabled isr false)
+      (isr_of c isr).budget 0) ≤ (isr_of c isr).budget * (2 + e)
+  pub by_arrivals : t + (worst_in c.demands (get_or isrs isr []) + cond (get_or held isr false) (isr_of c isr).budget 0)
+      ≤ (isr_of c isr).budget * (2 + a)
 
 once_more : (b n : ℕ) → b * (2 + (n + 1)) ≡ b * (2 + n) + b
 once_more b n = let h = mul-add b (2 + n) 1 in let z : 2 + (n + 1) ≡ (2 + n) + 1 = omega arith in rw z (omega arith)
@@ -120,16 +134,27 @@ cond_within false n = omega arith
 
 module _ (c : ConfigParts) (isr : ℕ) where
   -- more enables and arrivals
-  pub account_more : (t e a d b : ℕ) (enabled held : List Bool) (isrs : List (List Stmt)) → e ≤ d → a ≤ b → Account c isr t e a enabled held isrs → Account c isr t d b enabled held isrs
+  pub account_more : (t e a d b : ℕ) (enabled held : List Bool) (isrs : List (List Stmt)) → e ≤ d → a ≤ b
+      → Account c isr t e a enabled held isrs → Account c isr t d b enabled held isrs
   account_more t e a d b enabled held isrs l m k =
       let x = more_times (isr_of c isr).budget e d l in
       let y = more_times (isr_of c isr).budget a b m in
       let p = k.by_enables in
       let q = k.by_arrivals in
-      record { gate = k.gate; hold = k.hold; has = k.has; numbers = k.numbers; small = k.small; by_enables = omega arith; by_arrivals = omega arith }
+      record {
+        gate = k.gate;
+        hold = k.hold;
+        has = k.has;
+        numbers = k.numbers;
+        small = k.small;
+        by_enables =
+            omega arith;
+        by_arrivals = omega arith;
+      }
 
   -- an enable of this source
-  pub account_enabled : (t e a : ℕ) (enabled held : List Bool) (isrs : List (List Stmt)) → Account c isr t e a enabled held isrs → Account c isr t (e + 1) a (set enabled isr true) held isrs
+  pub account_enabled : (t e a : ℕ) (enabled held : List Bool) (isrs : List (List Stmt))
+      → Account c isr t e a enabled held isrs → Account c isr t (e + 1) a (set enabled isr true) held isrs
   account_enabled t e a enabled held isrs k =
       let x = once_more (isr_of c isr).budget e in
       let p = k.by_enables in
@@ -145,7 +170,8 @@ module _ (c : ConfigParts) (isr : ℕ) where
       }
 
   -- an arrival at this source, where none is held
-  pub account_arrived : (t e a : ℕ) (enabled held : List Bool) (isrs : List (List Stmt)) → Account c isr t e a enabled held isrs → Account c isr t e (a + 1) enabled (set held isr true) isrs
+  pub account_arrived : (t e a : ℕ) (enabled held : List Bool) (isrs : List (List Stmt))
+      → Account c isr t e a enabled held isrs → Account c isr t e (a + 1) enabled (set held isr true) isrs
   account_arrived t e a enabled held isrs k =
       let x = once_more (isr_of c isr).budget a in
       let p = k.by_arrivals in
@@ -160,7 +186,8 @@ module _ (c : ConfigParts) (isr : ℕ) where
       }
 
   -- a mark of another source
-  pub account_other : (t e a j : ℕ) (x y : Bool) (enabled held : List Bool) (isrs : List (List Stmt)) → isr ≢ j → Account c isr t e a enabled held isrs → Account c isr t e a (set enabled j x) (set held j y) isrs
+  pub account_other : (t e a j : ℕ) (x y : Bool) (enabled held : List Bool) (isrs : List (List Stmt)) → isr ≢ j
+      → Account c isr t e a enabled held isrs → Account c isr t e a (set enabled j x) (set held j y) isrs
   account_other t e a j x y enabled held isrs ne k =
       record {
         gate = let n = length-set enabled j x in let g = k.gate in omega arith;
@@ -172,7 +199,9 @@ module _ (c : ConfigParts) (isr : ℕ) where
         by_arrivals = rw (get_or-set_other held j isr y false ne) k.by_arrivals;
       }
 
-pub account_enabled_other : (c : ConfigParts) (isr t e a j : ℕ) (x : Bool) (enabled held : List Bool) (isrs : List (List Stmt)) → isr ≢ j → Account c isr t e a enabled held isrs → Account c isr t e a (set enabled j x) held isrs
+pub account_enabled_other : (c : ConfigParts) (isr t e a j : ℕ) (x : Bool) (enabled held : List Bool)
+    (isrs : List (List Stmt)) → isr ≢ j → Account c isr t e a enabled held isrs
+    → Account c isr t e a (set enabled j x) held isrs
 account_enabled_other c isr t e a j x enabled held isrs ne k =
     record {
       gate = let n = length-set enabled j x in let g = k.gate in omega arith;
@@ -184,7 +213,9 @@ account_enabled_other c isr t e a j x enabled held isrs ne k =
       by_arrivals = k.by_arrivals;
     }
 
-pub account_held_other : (c : ConfigParts) (isr t e a j : ℕ) (y : Bool) (enabled held : List Bool) (isrs : List (List Stmt)) → isr ≢ j → Account c isr t e a enabled held isrs → Account c isr t e a enabled (set held j y) isrs
+pub account_held_other : (c : ConfigParts) (isr t e a j : ℕ) (y : Bool) (enabled held : List Bool)
+    (isrs : List (List Stmt)) → isr ≢ j → Account c isr t e a enabled held isrs
+    → Account c isr t e a enabled (set held j y) isrs
 account_held_other c isr t e a j y enabled held isrs ne k =
     record {
       gate = k.gate;
@@ -203,7 +234,8 @@ none_left c (x ∷ xs) e = cc
 some_left : (left : List Stmt) → is_done left ≡ false → left ≢ []
 some_left left e f = false≢true (sym e ∙ ap is_done f)
 
-module _ (c : ConfigParts) (s : ScriptParts) (rules : IsConfig c) (bounds : KeepsBounds c s) (isr : ℕ) (within : isr < length c.isrs) where
+module _ (c : ConfigParts) (s : ScriptParts) (rules : IsConfig c) (bounds : KeepsBounds c s) (isr : ℕ)
+    (within : isr < length c.isrs) where
   routine : IsIsr c (isr_of c isr)
   routine = All-get_or (IsIsr c) c.isrs isr no_isr within rules.isrs
 
@@ -211,12 +243,16 @@ module _ (c : ConfigParts) (s : ScriptParts) (rules : IsConfig c) (bounds : Keep
   keeps = keeps_most (supply_of c.demands s.values) rules.usuals bounds.values
 
   -- an acceptance
-  pub account_accepted : (t e a : ℕ) (enabled held : List Bool) (isrs : List (List Stmt)) → get_or held isr false ≡ true → get_or enabled isr false ≡ true → is_done (get_or isrs isr []) ≡ true → Account c isr t e a enabled held isrs → Account c isr t e a (set enabled isr false) (set held isr false) (set isrs isr (isr_of c isr).body)
+  pub account_accepted : (t e a : ℕ) (enabled held : List Bool) (isrs : List (List Stmt)) → get_or held isr false ≡ true
+      → get_or enabled isr false ≡ true → is_done (get_or isrs isr []) ≡ true → Account c isr t e a enabled held isrs
+      → Account c isr t e a (set enabled isr false) (set held isr false) (set isrs isr (isr_of c isr).body)
   account_accepted t e a enabled held isrs h g d k =
       let none = none_left c (get_or isrs isr []) d in
       let worst = routine.routine.worst in
-      let gate : cond (get_or enabled isr false) (isr_of c isr).budget 0 ≡ (isr_of c isr).budget = ap (λ b. cond b (isr_of c isr).budget 0) g in
-      let hold : cond (get_or held isr false) (isr_of c isr).budget 0 ≡ (isr_of c isr).budget = ap (λ b. cond b (isr_of c isr).budget 0) h in
+      let gate : cond (get_or enabled isr false) (isr_of c isr).budget 0 ≡ (isr_of c isr).budget =
+      ap (λ b. cond b (isr_of c isr).budget 0) g in
+      let hold : cond (get_or held isr false) (isr_of c isr).budget 0 ≡ (isr_of c isr).budget =
+      ap (λ b. cond b (isr_of c isr).budget 0) h in
       let p = k.by_enables in
       let q = k.by_arrivals in
       record {
@@ -225,12 +261,17 @@ module _ (c : ConfigParts) (s : ScriptParts) (rules : IsConfig c) (bounds : Keep
         has = let n = length-set isrs isr (isr_of c isr).body in let l = k.has in omega arith;
         numbers = rw (get_or-set_same isrs isr (isr_of c isr).body [] k.has) routine.routine.is_body.numbers;
         small = rw (get_or-set_same isrs isr (isr_of c isr).body [] k.has) (omega arith);
-        by_enables = rw (get_or-set_same isrs isr (isr_of c isr).body [] k.has, get_or-set_same enabled isr false false k.gate) (omega arith);
-        by_arrivals = rw (get_or-set_same isrs isr (isr_of c isr).body [] k.has, get_or-set_same held isr false false k.hold) (omega arith);
+        by_enables =
+            rw (get_or-set_same isrs isr (isr_of c isr).body [] k.has, get_or-set_same enabled isr false false k.gate)
+            (omega arith);
+        by_arrivals =
+            rw (get_or-set_same isrs isr (isr_of c isr).body [] k.has, get_or-set_same held isr false false k.hold)
+            (omega arith);
       }
 
   -- what is left of another routine
-  pub account_left_other : (t e a j : ℕ) (left : List Stmt) (enabled held : List Bool) (isrs : List (List Stmt)) → isr ≢ j → Account c isr t e a enabled held isrs → Account c isr t e a enabled held (set isrs j left)
+  pub account_left_other : (t e a j : ℕ) (left : List Stmt) (enabled held : List Bool) (isrs : List (List Stmt))
+      → isr ≢ j → Account c isr t e a enabled held isrs → Account c isr t e a enabled held (set isrs j left)
   account_left_other t e a j left enabled held isrs ne k =
       record {
         gate = k.gate;
@@ -243,7 +284,9 @@ module _ (c : ConfigParts) (s : ScriptParts) (rules : IsConfig c) (bounds : Keep
       }
 
   -- a tick of the routine
-  pub account_tick : (t e a : ℕ) (left : List Stmt) (enabled held : List Bool) (isrs : List (List Stmt)) → AreNumbersInRange left → worst_in c.demands left + 1 ≤ worst_in c.demands (get_or isrs isr []) → Account c isr t e a enabled held isrs → Account c isr (t + 1) e a enabled held (set isrs isr left)
+  pub account_tick : (t e a : ℕ) (left : List Stmt) (enabled held : List Bool) (isrs : List (List Stmt))
+      → AreNumbersInRange left → worst_in c.demands left + 1 ≤ worst_in c.demands (get_or isrs isr [])
+      → Account c isr t e a enabled held isrs → Account c isr (t + 1) e a enabled held (set isrs isr left)
   account_tick t e a left enabled held isrs numbers less k =
       let p = k.by_enables in
       let q = k.by_arrivals in
@@ -258,7 +301,10 @@ module _ (c : ConfigParts) (s : ScriptParts) (rules : IsConfig c) (bounds : Keep
       }
 
   -- what a tick leaves of the routine
-  pub left_less : (w : World) (number : IsrNo) (after : List Stmt) → number.0 ≡ isr → is_done (get_or w.isrs isr []) ≡ false → AreNumbersInRange (get_or w.isrs isr []) → IsLeftAfter c s w (runner.Isr number) after → AreNumbersInRange after × (worst_in c.demands after + 1 ≤ worst_in c.demands (get_or w.isrs isr []))
+  pub left_less : (w : World) (number : IsrNo) (after : List Stmt) → number.0 ≡ isr
+      → is_done (get_or w.isrs isr []) ≡ false → AreNumbersInRange (get_or w.isrs isr [])
+      → IsLeftAfter c s w (runner.Isr number) after
+      → AreNumbersInRange after × (worst_in c.demands after + 1 ≤ worst_in c.demands (get_or w.isrs isr []))
   left_less w number after same u numbers l =
       let old = get_or w.isrs isr [] in
       let at : get_or w.isrs number.0 [] ≡ old = ap (λ n. get_or w.isrs n []) same in
@@ -268,10 +314,17 @@ module _ (c : ConfigParts) (s : ScriptParts) (rules : IsConfig c) (bounds : Keep
       let range = keeps_numbers supply state keeps rules.mosts numbers in
       ⊎_elim
       (λ (e : after ≡ (state_after c s w (get_or w.isrs number.0 [])).left).
-      let f : after ≡ (state_after c s w old).left = e ∙ ap (λ left. (state_after c s w left).left) at in
-      (subst AreNumbersInRange (sym f) range, subst (λ (x : List Stmt). worst_in c.demands x + 1 ≤ worst_in c.demands old) (sym f) lower))
+      let f : after ≡ (state_after c s w old).left = e ∙ ap (λ left. (state_after c s w left).left) at in (
+        subst AreNumbersInRange (sym f) range,
+        subst
+            (λ (x : List Stmt). worst_in c.demands x + 1 ≤ worst_in c.demands old) (sym f) lower,
+      ))
       (λ (o : (after ≡ []) ⊎ IsOsek (runner.Isr number)).
       ⊎_elim
-      (λ (e : after ≡ []). (subst AreNumbersInRange (sym e) refl, subst (λ (x : List Stmt). worst_in c.demands x + 1 ≤ worst_in c.demands old) (sym e) (omega arith)))
+      (λ (e : after ≡ []). (
+        subst AreNumbersInRange (sym e) refl,
+        subst
+            (λ (x : List Stmt). worst_in c.demands x + 1 ≤ worst_in c.demands old) (sym e) (omega arith),
+      ))
       (λ (o : IsOsek (runner.Isr number)). absurd o) o)
       l

@@ -25,7 +25,8 @@ use Rattle.tt_world.proofs.Spacing.{arrivals_in, are_few, by_times, count_later,
 use Rattle.tt_world.proofs.IsrAccounts.{Account, enables_of, count_more, cond_within, more_times}
 use Rattle.tt_world.proofs.IsrParts.{Acc, adds, adds_within, opening_acc, instant_acc}
 
-module _ (c : ConfigParts) (s : ScriptParts) (rules : IsConfig c) (script : IsScript c s) (bounds : KeepsBounds c s) (isr : ℕ) (within : isr < length c.isrs) where
+module _ (c : ConfigParts) (s : ScriptParts) (rules : IsConfig c) (script : IsScript c s) (bounds : KeepsBounds c s)
+    (isr : ℕ) (within : isr < length c.isrs) where
   -- the ticks at which the source has arrivals
   abbrev comes : List ℕ
   comes = slice_index_or s.arrivals.isrs isr []
@@ -45,19 +46,25 @@ module _ (c : ConfigParts) (s : ScriptParts) (rules : IsConfig c) (script : IsSc
   unfolding ticks ticks_of now
   ticks_next m k = ap (λ (j : ℕ). ticks_of (is_isr isr) c s m j) (sym (add-one k))
 
-  ran : (m k : ℕ) → is_over (opening c s (world_at c s (m + k))).end ≡ false → adds c s rules bounds isr within (runner_of c (opening c s (world_at c s (m + k))).world) ≡ now m k
+  ran : (m k : ℕ) → is_over (opening c s (world_at c s (m + k))).end ≡ false
+      → adds c s rules bounds isr within (runner_of c (opening c s (world_at c s (m + k))).world) ≡ now m k
   unfolding now runner_at
-  ran m k e = ap (λ (b : Bool). adds c s rules bounds isr within (runner_if b (runner_of c (opening c s (world_at c s (m + k))).world))) (sym e)
+  ran m k e =
+      ap (λ (b : Bool). adds c s rules bounds isr within
+      (runner_if b (runner_of c (opening c s (world_at c s (m + k))).world))) (sym e)
 
   idle : (m k : ℕ) → is_over (opening c s (world_at c s (m + k))).end ≡ true → now m k ≡ 0
   unfolding now runner_at
-  idle m k e = ap (λ (b : Bool). adds c s rules bounds isr within (runner_if b (runner_of c (opening c s (world_at c s (m + k))).world))) e
+  idle m k e =
+      ap (λ (b : Bool). adds c s rules bounds isr within
+      (runner_if b (runner_of c (opening c s (world_at c s (m + k))).world))) e
 
   opening_on : (w : World) → is_over (instant c s w).end ≡ false → is_over (opening c s w).end ≡ false
   unfolding instant
   opening_on w e = followed_on (opening c s w) (step c s) e
 
-  each : (m k : ℕ) → After m k (world_at c s (m + k)) (events_between c s m k) → LeadsTo (After m (k + 1)) Anything (events_between c s m k) (instant c s (world_at c s (m + k)))
+  each : (m k : ℕ) → After m k (world_at c s (m + k)) (events_between c s m k)
+      → LeadsTo (After m (k + 1)) Anything (events_between c s m k) (instant c s (world_at c s (m + k)))
   unfolding After
   each m k p =
       let w = world_at c s (m + k) in
@@ -65,17 +72,22 @@ module _ (c : ConfigParts) (s : ScriptParts) (rules : IsConfig c) (script : IsSc
       let a = arrivals_in m (m + k) comes in
       let b = arrivals_in m ((m + k) + 1) comes in
       let r = adds c s rules bounds isr within (runner_of c (opening c s w).world) in
-      leads_by (Acc c s rules bounds isr within (ticks m (k + 1)) (arrivals_in m (m + (k + 1)) comes) (m + (k + 1))) Anything es (instant c s w)
+      leads_by (Acc c s rules bounds isr within (ticks m (k + 1)) (arrivals_in m (m + (k + 1)) comes) (m + (k + 1)))
+      Anything es (instant c s w)
       (λ e.
       let led = led_on (Acc c s rules bounds isr within (ticks m k + r) b ((m + k) + 1)) Anything es (instant c s w) e
-      (instant_acc c s rules bounds isr within (ticks m k) a b (m + k) (count_later m (m + k) comes) (λ e. count_found m (m + k) comes (omega arith) e) w es p) in
+      (instant_acc c s rules bounds isr within (ticks m k) a b (m + k) (count_later m (m + k) comes)
+      (λ e. count_found m (m + k) comes (omega arith) e) w es p) in
       let z : (m + k) + 1 ≡ m + (k + 1) = omega arith in
       let t : ticks m k + r ≡ ticks m (k + 1) = ap (λ n. ticks m k + n) (ran m k (opening_on w e)) ∙ ticks_next m k in
-      subst (λ (t : ℕ). Acc c s rules bounds isr within t (arrivals_in m (m + (k + 1)) comes) (m + (k + 1)) (instant c s w).world (es ++ (instant c s w).events)) t
-      (subst (λ (n : ℕ). Acc c s rules bounds isr within (ticks m k + r) (arrivals_in m n comes) n (instant c s w).world (es ++ (instant c s w).events)) z led))
+      subst (λ (t : ℕ). Acc c s rules bounds isr within t (arrivals_in m (m + (k + 1)) comes) (m + (k + 1))
+      (instant c s w).world (es ++ (instant c s w).events)) t
+      (subst (λ (n : ℕ). Acc c s rules bounds isr within (ticks m k + r) (arrivals_in m n comes) n (instant c s w).world
+      (es ++ (instant c s w).events)) z led))
       (λ _. tt)
 
-  after_from : (m : ℕ) → After m 0 (world_at c s m) [] → (k : ℕ) → GoesOnBefore c s (m + k) → After m k (world_at c s (m + k)) (events_between c s m k)
+  after_from : (m : ℕ) → After m 0 (world_at c s m) [] → (k : ℕ) → GoesOnBefore c s (m + k)
+      → After m k (world_at c s (m + k)) (events_between c s m k)
   after_from m first k g = kept_from c s (After m) Anything m (λ k _ p. each m k p) first k g
 
   routine : IsIsr c (isr_of c isr)
@@ -101,14 +113,25 @@ module _ (c : ConfigParts) (s : ScriptParts) (rules : IsConfig c) (script : IsSc
       )
 
   -- from any instant on
-  again : (t e a : ℕ) (m : ℕ) → Account c isr t e a (world_at c s m).isrs_enabled (world_at c s m).isrs_held (world_at c s m).isrs → (world_at c s m).tick ≡ m → After m 0 (world_at c s m) []
+  again : (t e a : ℕ) (m : ℕ) → Account c isr t e a (world_at c s m).isrs_enabled (world_at c s m).isrs_held
+      (world_at c s m).isrs → (world_at c s m).tick ≡ m → After m 0 (world_at c s m) []
   unfolding After ticks ticks_of
   again t e a m k n =
       let x = cond_within (get_or (world_at c s m).isrs_enabled isr false) (isr_of c isr).budget in
       let y = cond_within (get_or (world_at c s m).isrs_held isr false) (isr_of c isr).budget in
       let small = k.small in
-      let twice = more_times (isr_of c isr).budget 0 (arrivals_in m (m + 0) comes) (omega arith) in
-      (n ∙ add-none m, record { gate = k.gate; hold = k.hold; has = k.has; numbers = k.numbers; small = k.small; by_enables = omega arith; by_arrivals = omega arith })
+      let twice = more_times (isr_of c isr).budget 0 (arrivals_in m (m + 0) comes) (omega arith) in (
+        n ∙ add-none m,
+        record {
+          gate = k.gate;
+          hold = k.hold;
+          has = k.has;
+          numbers = k.numbers;
+          small = k.small;
+          by_enables = omega arith;
+          by_arrivals = omega arith;
+        },
+      )
     where
       add-none : (m : ℕ) → m ≡ m + 0
       add-none m = omega arith
@@ -118,23 +141,31 @@ module _ (c : ConfigParts) (s : ScriptParts) (rules : IsConfig c) (script : IsSc
   after m k g =
       let z : 0 + m ≡ m = omega arith in
       let start = after_from 0 first m (λ j l. g j (omega arith)) in
-      let p = subst (λ (n : ℕ). Account c isr (ticks 0 m) (enables_of isr (events_between c s 0 m)) (arrivals_in 0 (0 + m) comes) (world_at c s n).isrs_enabled (world_at c s n).isrs_held (world_at c s n).isrs) z start.1 in
+      let p =
+      subst (λ (n : ℕ). Account c isr (ticks 0 m) (enables_of isr (events_between c s 0 m))
+      (arrivals_in 0 (0 + m) comes) (world_at c s n).isrs_enabled (world_at c s n).isrs_held (world_at c s n).isrs)
+      z start.1 in
       after_from m (again _ _ _ m p (tick_at c s m (λ j l. g j (omega arith)))) k g
 
   grows : (es fs : List Event) → enables_of isr es ≤ enables_of isr (es ++ fs)
   grows es fs = let n = count_more (is_enable isr) es fs in omega arith
 
-  instant_grows : (w : World) (es : List Event) → is_over (opening c s w).end ≡ false → enables_of isr (es ++ (opening c s w).events) ≤ enables_of isr (es ++ (instant c s w).events)
+  instant_grows : (w : World) (es : List Event) → is_over (opening c s w).end ≡ false
+      → enables_of isr (es ++ (opening c s w).events) ≤ enables_of isr (es ++ (instant c s w).events)
   unfolding instant
   instant_grows w es e =
       let f = followed_events (opening c s w) (step c s) e in
       let o = (opening c s w).events in
       let t = (step c s (opening c s w).world).events in
-      let g : es ++ (followed (opening c s w) (step c s)).events ≡ (es ++ o) ++ t = ap (λ x. es ++ x) f ∙ sym (append_assoc es o t) in
+      let g : es ++ (followed (opening c s w) (step c s)).events ≡ (es ++ o) ++ t = ap (λ x. es ++ x) f
+      ∙ sym (append_assoc es o t) in
       subst (λ (x : List Event). enables_of isr (es ++ o) ≤ enables_of isr x) (sym g) (grows (es ++ o) t)
 
   -- the ticks of k + 1 instants of which only the last may end the run
-  within_next : (m k : ℕ) → GoesOnBefore c s (m + k) → (ticks m (k + 1) ≤ (isr_of c isr).budget * (2 + enables_of isr (events_between c s m k ++ (instant c s (world_at c s (m + k))).events))) × (ticks m (k + 1) ≤ (isr_of c isr).budget * (2 + arrivals_in m ((m + k) + 1) comes))
+  within_next : (m k : ℕ) → GoesOnBefore c s (m + k)
+      → (ticks m (k + 1) ≤ (isr_of c isr).budget *
+      (2 + enables_of isr (events_between c s m k ++ (instant c s (world_at c s (m + k))).events)))
+      × (ticks m (k + 1) ≤ (isr_of c isr).budget * (2 + arrivals_in m ((m + k) + 1) comes))
   unfolding After
   within_next m k g =
       let w = world_at c s (m + k) in
@@ -152,33 +183,42 @@ module _ (c : ConfigParts) (s : ScriptParts) (rules : IsConfig c) (script : IsSc
       (omega arith, omega arith))
       (λ (on : is_over (opening c s w).end ≡ false).
       let q = led_on (Acc c s rules bounds isr within (ticks m k) b (m + k)) Anything es (opening c s w) on
-      (opening_acc c s rules bounds isr within (ticks m k) (arrivals_in m (m + k) comes) b (m + k) (count_later m (m + k) comes) (λ e. count_found m (m + k) comes (omega arith) e) w es p) in
+      (opening_acc c s rules bounds isr within (ticks m k) (arrivals_in m (m + k) comes) b (m + k)
+      (count_later m (m + k) comes) (λ e. count_found m (m + k) comes (omega arith) e) w es p) in
       let x = q.1.by_enables in
       let y = q.1.by_arrivals in
       let r = ran m k on in
-      let n = adds_within c s rules bounds isr within (opening c s w).world (runner_of c (opening c s w).world) refl q.1.numbers in
+      let n = adds_within c s rules bounds isr within (opening c s w).world
+      (runner_of c (opening c s w).world) refl q.1.numbers in
       let e = more_times (isr_of c isr).budget _ _ (instant_grows w es on) in
       (omega arith, omega arith))
       (cases_Bool (is_over (opening c s w).end))
 
-  bounded_next : (m k : ℕ) → GoesOnBefore c s (m + k) → ticks_of (is_isr isr) c s m (k + 1) ≤ isr_demand (isr_of c isr) (count_by (is_enable isr) (events_between c s m (k + 1))) (k + 1)
+  bounded_next : (m k : ℕ) → GoesOnBefore c s (m + k)
+      → ticks_of (is_isr isr) c s m (k + 1) ≤ isr_demand (isr_of c isr)
+      (count_by (is_enable isr) (events_between c s m (k + 1))) (k + 1)
   unfolding events_between instant_at ticks
   bounded_next m k g =
       let p = within_next m k g in
       let few = are_few (isr_of c isr).distance m ((m + k) + 1) comes routine.distance (bounds.distances isr within) in
       let z : ((m + k) + 1) - m ≡ k + 1 = omega arith in
       let y : suc k ≡ k + 1 = omega arith in
-      let q : ticks_of (is_isr isr) c s m (k + 1) ≤ (isr_of c isr).budget * (2 + enables_of isr (events_between c s m (suc k))) = p.0 in
-      by_times (isr_of c isr).distance (isr_of c isr).budget (ticks_of (is_isr isr) c s m (k + 1)) _ (arrivals_in m ((m + k) + 1) comes) (k + 1)
-      (subst (λ (j : ℕ). ticks_of (is_isr isr) c s m (k + 1) ≤ (isr_of c isr).budget * (2 + enables_of isr (events_between c s m j))) y q) p.1 (rw z at few)
+      let q : ticks_of (is_isr isr) c s m (k + 1) ≤ (isr_of c isr).budget *
+      (2 + enables_of isr (events_between c s m (suc k))) = p.0 in
+      by_times (isr_of c isr).distance (isr_of c isr).budget (ticks_of (is_isr isr) c s m (k + 1)) _
+      (arrivals_in m ((m + k) + 1) comes) (k + 1)
+      (subst (λ (j : ℕ). ticks_of (is_isr isr) c s m (k + 1) ≤ (isr_of c isr).budget *
+      (2 + enables_of isr (events_between c s m j))) y q) p.1 (rw z at few)
 
-  bounded : (m k : ℕ) → m + k ≤ suc (last_instant c s) → ticks_of (is_isr isr) c s m k ≤ isr_demand (isr_of c isr) (count_by (is_enable isr) (events_between c s m k)) k
+  bounded : (m k : ℕ) → m + k ≤ suc (last_instant c s)
+      → ticks_of (is_isr isr) c s m k ≤ isr_demand (isr_of c isr) (count_by (is_enable isr) (events_between c s m k)) k
   unfolding ticks_of
   bounded m zero l = omega arith
   bounded m (suc k) l =
       let last = last_is c s (are_bounded c s rules script) in
       let y : k + 1 ≡ suc k = omega arith in
-      subst (λ (j : ℕ). ticks_of (is_isr isr) c s m j ≤ isr_demand (isr_of c isr) (count_by (is_enable isr) (events_between c s m j)) j) y
+      subst (λ (j : ℕ). ticks_of (is_isr isr) c s m j ≤ isr_demand (isr_of c isr)
+      (count_by (is_enable isr) (events_between c s m j)) j) y
       (bounded_next m k (λ j n. last.first j (omega arith)))
 
 pub isr_bounded : IsrIsBounded

@@ -49,14 +49,16 @@ module _ (c : ConfigParts) (s : ScriptParts) where
   unfolding round_end
   round_end_sized w es p =
       cond_both (is_length w.latched (offset_of w)) _ _ (Holds Sized es)
-      (λ _. followed_leads (Alone Sized) (Alone Sized) Anything es (monitored c (is_at_end (offset_of w)) w) (next_round s) (monitored_holds Sized c _ w es (λ _. p)) next_round_sized)
+      (λ _. followed_leads (Alone Sized) (Alone Sized) Anything es (monitored c (is_at_end (offset_of w)) w)
+      (next_round s) (monitored_holds Sized c _ w es (λ _. p)) next_round_sized)
       (λ _. p)
 
   enable_sized : (row : EnableRow) → Leads (Alone Sized) (Alone Sized) Anything (enable row)
   unfolding enable Sized
   enable_sized row w es p = p
 
-  arrived_sized : (held : Bool) (source : Source) (w : World) (es : List Event) → Sized w → Holds Sized es (arrived held source w)
+  arrived_sized : (held : Bool) (source : Source) (w : World) (es : List Event) → Sized w
+      → Holds Sized es (arrived held source w)
   unfolding Sized
   arrived_sized true source w es p = p
   arrived_sized false (IsrSource isr) w es p = p
@@ -65,13 +67,16 @@ module _ (c : ConfigParts) (s : ScriptParts) where
   arrival_sized : (source : Source) → Leads (Alone Sized) (Alone Sized) Anything (arrival s source)
   unfolding arrival
   arrival_sized source w es p =
-      cond_both (list_any (λ (tick : ℕ). tick == w.tick) (arrivals_of s source)) _ _ (Holds Sized es) (λ _. arrived_sized (is_held w source) source w es p) (λ _. p)
+      cond_both (list_any (λ (tick : ℕ). tick == w.tick) (arrivals_of s source)) _ _ (Holds Sized es)
+      (λ _. arrived_sized (is_held w source) source w es p) (λ _. p)
 
   acceptance_sized : (source : Source) → Leads (Alone Sized) (Alone Sized) Anything (acceptance c source)
   unfolding acceptance Sized
   acceptance_sized (IsrSource isr) w es p =
-      cond_both (is_accepted w (IsrSource isr)) _ _ (Holds Sized es) (λ _. length-set w.isrs isr.0 (routine_of c (IsrSource isr)) ∙ p) (λ _. p)
-  acceptance_sized (OisrSource oisr) w es p = cond_both (is_accepted w (OisrSource oisr)) _ _ (Holds Sized es) (λ _. p) (λ _. p)
+      cond_both (is_accepted w (IsrSource isr)) _ _ (Holds Sized es)
+      (λ _. length-set w.isrs isr.0 (routine_of c (IsrSource isr)) ∙ p) (λ _. p)
+  acceptance_sized (OisrSource oisr) w es p =
+      cond_both (is_accepted w (OisrSource oisr)) _ _ (Holds Sized es) (λ _. p) (λ _. p)
 
   activated_sized : (entry : Option ℕ) (w : World) (es : List Event) → Sized w → Holds Sized es (activated c entry w)
   unfolding Sized
@@ -85,7 +90,8 @@ module _ (c : ConfigParts) (s : ScriptParts) where
     latch_is = latch_sized;
     round_end_is = round_end_sized;
     checks_are = λ w es p. monitored_holds Sized c (is_at (offset_of w)) w es (λ _. p);
-    enables_are = λ w es p. chain_each (Alone Sized) Anything enable (enables_at (offset_of w) (mode_of c w).enables) enable_sized w es p;
+    enables_are = λ w es p. chain_each (Alone Sized) Anything enable
+        (enables_at (offset_of w) (mode_of c w).enables) enable_sized w es p;
     arrivals_are = chain_each (Alone Sized) Anything (arrival s) (sources c) arrival_sized;
     acceptances_are = chain_each (Alone Sized) Anything (acceptance c) (sources c) acceptance_sized;
     activation_is = λ w es p. activated_sized (entry_at (offset_of w) (mode_of c w).activations) w es p;
@@ -113,7 +119,9 @@ module _ (c : ConfigParts) (s : ScriptParts) where
   first_sized = length-replicate {A = List Stmt} (length c.isrs) []
 
   sized_at : (n : ℕ) → GoesOnBefore c s n → Sized (world_at c s n)
-  sized_at = kept_at c s Sized first_sized (λ w es p. instant_leads c s (λ _. Alone Sized) Anything opening_sized (Alone Sized) (step_holds c s Sized Sized Sized step_sized) w es p)
+  sized_at = kept_at c s Sized first_sized
+      (λ w es p. instant_leads c s (λ _. Alone Sized) Anything opening_sized (Alone Sized)
+      (step_holds c s Sized Sized Sized step_sized) w es p)
 
   -- a routine that runs is one of the configuration's
   runs_within : (w : World) → Sized w → (j : IsrNo) → runner_of c w ≡ runner.Isr j → j.0 < length c.isrs
@@ -124,15 +132,19 @@ module _ (c : ConfigParts) (s : ScriptParts) where
       (λ (g : length w.isrs ≤ j.0). absurd (false≢true (sym undone ∙ ap is_done (get_or_past w.isrs j.0 [] g))))
       (cases_lt j.0 (length w.isrs))
 
-  runner_cases : (over : Bool) (r : Runner) (j : IsrNo) → ((k : IsrNo) → r ≡ runner.Isr k → k.0 < length c.isrs) → runner_if over r ≡ runner.Isr j → j.0 < length c.isrs
+  runner_cases : (over : Bool) (r : Runner) (j : IsrNo) → ((k : IsrNo) → r ≡ runner.Isr k → k.0 < length c.isrs)
+      → runner_if over r ≡ runner.Isr j → j.0 < length c.isrs
   runner_cases true r j h e = cc
   runner_cases false r j h e = h j e
 
-  opening_within : (n : ℕ) → GoesOnBefore c s n → (over : Bool) → is_over (opening c s (world_at c s n)).end ≡ over → (j : IsrNo) → runner_if over (runner_of c (opening c s (world_at c s n)).world) ≡ runner.Isr j → j.0 < length c.isrs
+  opening_within : (n : ℕ) → GoesOnBefore c s n → (over : Bool) → is_over (opening c s (world_at c s n)).end ≡ over
+      → (j : IsrNo) → runner_if over (runner_of c (opening c s (world_at c s n)).world) ≡ runner.Isr j
+      → j.0 < length c.isrs
   opening_within n g true o j e = cc
   opening_within n g false o j e =
       runs_within (opening c s (world_at c s n)).world
-      (led_on (Alone Sized) Anything [] (opening c s (world_at c s n)) o (opening_leads c s (λ _. Alone Sized) Anything opening_sized (world_at c s n) [] (sized_at n g))) j e
+      (led_on (Alone Sized) Anything [] (opening c s (world_at c s n)) o
+      (opening_leads c s (λ _. Alone Sized) Anything opening_sized (world_at c s n) [] (sized_at n g))) j e
 
   runner_within : (n : ℕ) → GoesOnBefore c s n → (j : IsrNo) → runner_at c s n ≡ runner.Isr j → j.0 < length c.isrs
   unfolding runner_at
@@ -144,25 +156,32 @@ module _ (c : ConfigParts) (s : ScriptParts) where
   sum_none f n = let l = sum_by-le-sum_by f (λ (x : ℕ). f x + 0) (range_with_len 0 n) (λ x. omega arith) in omega arith
 
   one_number : (f : ℕ → ℕ) (n : ℕ) (r : Runner) → ((j : IsrNo) → r ≡ runner.Isr j → j.0 < n)
-      → sum_by f (range_with_len 0 n) + (if is_any_isr r then 1 else 0) ≤ sum_by (λ (x : ℕ). f x + (if is_isr x r then 1 else 0)) (range_with_len 0 n)
+      → sum_by f (range_with_len 0 n) + (if is_any_isr r then 1 else 0) ≤ sum_by
+      (λ (x : ℕ). f x + (if is_isr x r then 1 else 0)) (range_with_len 0 n)
   one_number f n (runner.Isr j) h =
       let l = h j refl in
       let m = length-range_with_len 0 n in
       let z : 0 + j.0 ≡ j.0 = omega arith in
       let k : get_or (range_with_len 0 n) j.0 0 ≡ j.0 = get_or-range_with_len 0 n j.0 0 l ∙ z in
-      let b : j.0 == get_or (range_with_len 0 n) j.0 0 ≡ true = eq-eqb j.0 (get_or (range_with_len 0 n) j.0 0) (sym k) in
-      let one : cond {A = ℕ} (j.0 == get_or (range_with_len 0 n) j.0 0) 1 0 ≡ 1 = ap (λ (x : Bool). cond {A = ℕ} x 1 0) b in
-      sum_by-le_at f (λ (x : ℕ). f x + (if is_isr x (runner.Isr j) then 1 else 0)) (range_with_len 0 n) j.0 1 0 (omega arith) (λ (x : ℕ). omega arith) (omega arith)
+      let b : j.0 == get_or (range_with_len 0 n) j.0 0 ≡ true =
+      eq-eqb j.0 (get_or (range_with_len 0 n) j.0 0) (sym k) in
+      let one : cond {A = ℕ} (j.0 == get_or (range_with_len 0 n) j.0 0) 1 0 ≡ 1 =
+      ap (λ (x : Bool). cond {A = ℕ} x 1 0) b in
+      sum_by-le_at f (λ (x : ℕ). f x + (if is_isr x (runner.Isr j) then 1 else 0)) (range_with_len 0 n) j.0 1 0
+      (omega arith) (λ (x : ℕ). omega arith) (omega arith)
   one_number f n (runner.Job p) h = sum_none f n
   one_number f n (runner.Oisr p) h = sum_none f n
   one_number f n (runner.Osek p) h = sum_none f n
   one_number f n runner.Nobody h = sum_none f n
 
   -- the ticks of time-triggered routines are those of each number
-  pub ticks_by_number : (m k : ℕ) → GoesOnBefore c s (m + k) → ticks_of is_any_isr c s m k ≤ sum_by (λ (isr : ℕ). ticks_of (is_isr isr) c s m k) (range_with_len 0 (length c.isrs))
+  pub ticks_by_number : (m k : ℕ) → GoesOnBefore c s (m + k)
+      → ticks_of is_any_isr c s m k ≤ sum_by (λ (isr : ℕ). ticks_of (is_isr isr) c s m k)
+      (range_with_len 0 (length c.isrs))
   unfolding ticks_of
   ticks_by_number m zero g = omega arith
   ticks_by_number m (suc k) g =
       let before = ticks_by_number m k (λ j l. g j (omega arith)) in
-      let one = one_number (λ (isr : ℕ). ticks_of (is_isr isr) c s m k) (length c.isrs) (runner_at c s (m + k)) (λ j e. runner_within (m + k) (λ i l. g i (omega arith)) j e) in
+      let one = one_number (λ (isr : ℕ). ticks_of (is_isr isr) c s m k) (length c.isrs) (runner_at c s (m + k))
+      (λ j e. runner_within (m + k) (λ i l. g i (omega arith)) j e) in
       omega arith

@@ -20,7 +20,8 @@ IsOldPlace xs y place = (place < length xs) × (job_at (xs ++ y ∷ []) place �
 abbrev pub IsNewPlace : List Job → Job → ℕ → Type 0
 IsNewPlace xs y place = (place ≡ length xs) × (job_at (xs ++ y ∷ []) place ≡ y)
 
-pub place_of_more : (xs : List Job) (y : Job) (place : ℕ) → place < length (xs ++ y ∷ []) → IsOldPlace xs y place ⊎ IsNewPlace xs y place
+pub place_of_more : (xs : List Job) (y : Job) (place : ℕ) → place < length (xs ++ y ∷ [])
+    → IsOldPlace xs y place ⊎ IsNewPlace xs y place
 place_of_more xs y place l =
     ⊎_elim (λ (lt : place < length xs). inl (lt, get_or-append xs (y ∷ []) no_job place lt))
     (λ (ge : length xs ≤ place).
@@ -29,37 +30,46 @@ place_of_more xs y place l =
     (cases_lt place (length xs))
 
 -- a place of a list in which what is left at one place was changed
-pub place_of_set : (xs : List Job) (q : ℕ) (left : List Stmt) (place : ℕ) → place < length (with_left xs q left) → place < length xs
+pub place_of_set : (xs : List Job) (q : ℕ) (left : List Stmt) (place : ℕ) → place < length (with_left xs q left)
+    → place < length xs
 place_of_set xs q left place l = omega (arith, length-set xs q (record { entry = (job_at xs q).entry; left = left }))
 
-pub at_set : (xs : List Job) (q : ℕ) (left : List Stmt) → q < length xs → job_at (with_left xs q left) q ≡ record { entry = (job_at xs q).entry; left = left }
+pub at_set : (xs : List Job) (q : ℕ) (left : List Stmt) → q < length xs
+    → job_at (with_left xs q left) q ≡ record { entry = (job_at xs q).entry; left = left }
 at_set xs q left l = get_or-set_same xs q _ no_job l
 
-pub at_other : (xs : List Job) (q place : ℕ) (left : List Stmt) → place ≢ q → job_at (with_left xs q left) place ≡ job_at xs place
+pub at_other : (xs : List Job) (q place : ℕ) (left : List Stmt) → place ≢ q
+    → job_at (with_left xs q left) place ≡ job_at xs place
 at_other xs q place left e = get_or-set_other xs q place _ no_job e
 
 -- the entries stay
-pub entry_of_set : (xs : List Job) (q : ℕ) (left : List Stmt) (place : ℕ) → place < length (with_left xs q left) → (job_at (with_left xs q left) place).entry ≡ (job_at xs place).entry
+pub entry_of_set : (xs : List Job) (q : ℕ) (left : List Stmt) (place : ℕ) → place < length (with_left xs q left)
+    → (job_at (with_left xs q left) place).entry ≡ (job_at xs place).entry
 entry_of_set xs q left place l =
     let within : place < length xs = place_of_set xs q left place l in
-    ⊎_elim (λ (e : place ≡ q). let here : q < length xs = omega arith in rw e (ap (λ x. x.entry) (at_set xs q left here)))
+    ⊎_elim (λ (e : place ≡ q). let here : q < length xs = omega arith in
+    rw e (ap (λ x. x.entry) (at_set xs q left here)))
     (λ (e : place ≢ q). ap (λ x. x.entry) (at_other xs q place left e))
     (cases_eq place q)
 
 -- a tick of nothing leaves nothing
-pub tick_undone : (c : ConfigParts) (s : ScriptParts) (w : World) (left : List Stmt) → is_done (state_after c s w left).left ≡ false → is_done left ≡ false
+pub tick_undone : (c : ConfigParts) (s : ScriptParts) (w : World) (left : List Stmt)
+    → is_done (state_after c s w left).left ≡ false → is_done left ≡ false
 unfolding tick
 tick_undone c s w [] e = e
 tick_undone c s w (front ∷ rest) e = refl
 
 -- what has statements left where what is left at one place was changed had some before
-pub undone_before : (xs : List Job) (q place : ℕ) (left : List Stmt) → (is_done left ≡ false → is_done (job_at xs q).left ≡ false) → place < length (with_left xs q left) → is_done (job_at (with_left xs q left) place).left ≡ false → is_done (job_at xs place).left ≡ false
+pub undone_before : (xs : List Job) (q place : ℕ) (left : List Stmt)
+    → (is_done left ≡ false → is_done (job_at xs q).left ≡ false) → place < length (with_left xs q left)
+    → is_done (job_at (with_left xs q left) place).left ≡ false → is_done (job_at xs place).left ≡ false
 undone_before xs q place left before l u =
     let within : place < length xs = place_of_set xs q left place l in
     ⊎_elim
     (λ (e : place ≡ q).
     let here : q < length xs = omega arith in
-    let same : job_at (with_left xs q left) place ≡ record { entry = (job_at xs q).entry; left = left } = rw e (at_set xs q left here) in
+    let same : job_at (with_left xs q left) place ≡ record { entry = (job_at xs q).entry; left = left } =
+    rw e (at_set xs q left here) in
     let undone : is_done left ≡ false = sym (ap (λ x. is_done x.left) same) ∙ u in
     rw e (before undone))
     (λ (e : place ≢ q). sym (ap (λ x. is_done x.left) (at_other xs q place left e)) ∙ u)

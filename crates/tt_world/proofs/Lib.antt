@@ -26,6 +26,7 @@ pub mod Through
 pub mod Fates
 pub mod FateParts
 pub mod NoMiss
+pub mod SameRounds
 pub mod RoundActs
 pub mod Calm
 pub mod Activates
@@ -38,6 +39,17 @@ pub mod Unended
 pub mod OpenTicks
 pub mod TheOwner
 pub mod OwnerLaws
+pub mod Closing
 pub mod EndsSeen
 pub mod SeenTicks
 pub mod SeenRuns
+pub mod RoundFolds
+pub mod RoundRuns
+pub mod CheckEnds
+pub mod RoundChecks
+pub mod MonitorLaw
+pub mod SourceEvents
+pub mod SourceParts
+pub mod SourceTicks
+pub mod SourceEnds
+pub mod InterruptLaws

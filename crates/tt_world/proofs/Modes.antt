@@ -46,7 +46,8 @@ use Rattle.tt_world.proofs.Keeps.{Holds, monitored_holds}
 use Rattle.tt_world.proofs.JobLists.{at_set, at_other, IsOldPlace, IsNewPlace, place_of_more}
 
 -- what one runner has left where another's was changed
-set_cases : (xs : List (List Stmt)) (i j : ℕ) (left : List Stmt) → (get_or (set xs i left) j [] ≡ left) ⊎ (get_or (set xs i left) j [] ≡ get_or xs j [])
+set_cases : (xs : List (List Stmt)) (i j : ℕ) (left : List Stmt)
+    → (get_or (set xs i left) j [] ≡ left) ⊎ (get_or (set xs i left) j [] ≡ get_or xs j [])
 set_cases xs i j left =
     ⊎_elim
     (λ (e : j ≡ i).
@@ -55,7 +56,8 @@ set_cases xs i j left =
     (λ (ne : j ≢ i). inr (get_or-set_other xs i j left [] ne))
     (cases_eq j i)
 
-place_cases : (xs : List Job) (i j : ℕ) (left : List Stmt) → ((job_at (with_left xs i left) j).left ≡ left) ⊎ ((job_at (with_left xs i left) j).left ≡ (job_at xs j).left)
+place_cases : (xs : List Job) (i j : ℕ) (left : List Stmt) → ((job_at (with_left xs i left) j).left ≡ left)
+    ⊎ ((job_at (with_left xs i left) j).left ≡ (job_at xs j).left)
 place_cases xs i j left =
     ⊎_elim
     (λ (e : j ≡ i).
@@ -64,7 +66,8 @@ place_cases xs i j left =
     (λ (ne : j ≢ i). inr (ap (λ x. x.left) (at_other xs i j left ne)))
     (cases_eq j i)
 
-pub leaving_cases : (w : World) (r q : Runner) (left : List Stmt) → (left_of (leaving w r left) q ≡ left) ⊎ (left_of (leaving w r left) q ≡ left_of w q)
+pub leaving_cases : (w : World) (r q : Runner) (left : List Stmt) → (left_of (leaving w r left) q ≡ left)
+    ⊎ (left_of (leaving w r left) q ≡ left_of w q)
 leaving_cases w (runner.Isr i) (runner.Isr j) left = set_cases w.isrs i.0 j.0 left
 leaving_cases w (runner.Job i) (runner.Job j) left = place_cases w.jobs i j left
 leaving_cases w (runner.Oisr i) (runner.Oisr j) left = set_cases w.oisrs i.0 j.0 left
@@ -75,9 +78,11 @@ leaving_cases w r q left = inr refl
 abbrev pub EachLeft : (List Stmt → Type 0) → World → Type 0
 EachLeft Test w = (r : Runner) → Test (left_of w r)
 
-pub each_leaving : (Test : List Stmt → Type 0) (w : World) (r : Runner) (left : List Stmt) → Test left → EachLeft Test w → EachLeft Test (leaving w r left)
+pub each_leaving : (Test : List Stmt → Type 0) (w : World) (r : Runner) (left : List Stmt) → Test left → EachLeft Test w
+    → EachLeft Test (leaving w r left)
 each_leaving Test w r left t e q =
-    ⊎_elim (λ (f : left_of (leaving w r left) q ≡ left). subst Test (sym f) t) (λ (f : left_of (leaving w r left) q ≡ left_of w q). subst Test (sym f) (e q)) (leaving_cases w r q left)
+    ⊎_elim (λ (f : left_of (leaving w r left) q ≡ left). subst Test (sym f) t)
+    (λ (f : left_of (leaving w r left) q ≡ left_of w q). subst Test (sym f) (e q)) (leaving_cases w r q left)
 
 -- ---- names
 
@@ -92,31 +97,44 @@ pub record Named (c : ConfigParts) (w : World) : Type 0 where
 pub has_mode : (c : ConfigParts) (w : World) → Named c w → HasMode c w
 has_mode c w n = record { mode = n.mode; wanted = n.wanted }
 
-leaving_named : (c : ConfigParts) (w : World) (r : Runner) (left : List Stmt) → Callees c left → Named c w → Named c (leaving w r left)
-leaving_named c w (runner.Isr i) left t n = record { mode = n.mode; wanted = n.wanted; lefts = each_leaving (Callees c) w (runner.Isr i) left t n.lefts }
-leaving_named c w (runner.Job i) left t n = record { mode = n.mode; wanted = n.wanted; lefts = each_leaving (Callees c) w (runner.Job i) left t n.lefts }
-leaving_named c w (runner.Oisr i) left t n = record { mode = n.mode; wanted = n.wanted; lefts = each_leaving (Callees c) w (runner.Oisr i) left t n.lefts }
-leaving_named c w (runner.Osek i) left t n = record { mode = n.mode; wanted = n.wanted; lefts = each_leaving (Callees c) w (runner.Osek i) left t n.lefts }
+leaving_named : (c : ConfigParts) (w : World) (r : Runner) (left : List Stmt) → Callees c left → Named c w
+    → Named c (leaving w r left)
+leaving_named c w (runner.Isr i) left t n =
+    record { mode = n.mode; wanted = n.wanted; lefts = each_leaving (Callees c) w (runner.Isr i) left t n.lefts }
+leaving_named c w (runner.Job i) left t n =
+    record { mode = n.mode; wanted = n.wanted; lefts = each_leaving (Callees c) w (runner.Job i) left t n.lefts }
+leaving_named c w (runner.Oisr i) left t n =
+    record { mode = n.mode; wanted = n.wanted; lefts = each_leaving (Callees c) w (runner.Oisr i) left t n.lefts }
+leaving_named c w (runner.Osek i) left t n =
+    record { mode = n.mode; wanted = n.wanted; lefts = each_leaving (Callees c) w (runner.Osek i) left t n.lefts }
 leaving_named c w runner.Nobody left t n = n
 
 module _ (c : ConfigParts) (s : ScriptParts) (rules : IsConfig c) where
   body_named : (task : _) → Callees c (body_of c task)
   body_named task =
-      ⊎_elim (λ (l : task.0 < length c.tasks). (All-get_or (IsTask c) c.tasks task.0 no_task l rules.tasks).routine.is_body.callees)
-      (λ (g : length c.tasks ≤ task.0). subst (λ x. Callees c x.body) (sym (get_or_past c.tasks task.0 no_task g)) refl) (cases_lt task.0 (length c.tasks))
+      ⊎_elim (λ (l : task.0 < length c.tasks).
+      (All-get_or (IsTask c) c.tasks task.0 no_task l rules.tasks).routine.is_body.callees)
+      (λ (g : length c.tasks ≤ task.0). subst (λ x. Callees c x.body) (sym (get_or_past c.tasks task.0 no_task g)) refl)
+      (cases_lt task.0 (length c.tasks))
 
   osek_named : (task : OsekNo) → Callees c (osek_body c task)
   osek_named task =
-      ⊎_elim (λ (l : task.0 < length c.oseks). (All-get_or (IsOsek c) c.oseks task.0 no_osek l rules.oseks).routine.is_body.callees)
-      (λ (g : length c.oseks ≤ task.0). subst (λ x. Callees c x.body) (sym (get_or_past c.oseks task.0 no_osek g)) refl) (cases_lt task.0 (length c.oseks))
+      ⊎_elim (λ (l : task.0 < length c.oseks).
+      (All-get_or (IsOsek c) c.oseks task.0 no_osek l rules.oseks).routine.is_body.callees)
+      (λ (g : length c.oseks ≤ task.0). subst (λ x. Callees c x.body) (sym (get_or_past c.oseks task.0 no_osek g)) refl)
+      (cases_lt task.0 (length c.oseks))
 
   routine_named : (source : Source) → Callees c (routine_of c source)
   routine_named (IsrSource i) =
-      ⊎_elim (λ (l : i.0 < length c.isrs). (All-get_or (IsIsr c) c.isrs i.0 no_isr l rules.isrs).routine.is_body.callees)
-      (λ (g : length c.isrs ≤ i.0). subst (λ x. Callees c x.body) (sym (get_or_past c.isrs i.0 no_isr g)) refl) (cases_lt i.0 (length c.isrs))
+      ⊎_elim (λ (l : i.0 < length c.isrs).
+      (All-get_or (IsIsr c) c.isrs i.0 no_isr l rules.isrs).routine.is_body.callees)
+      (λ (g : length c.isrs ≤ i.0). subst (λ x. Callees c x.body) (sym (get_or_past c.isrs i.0 no_isr g)) refl)
+      (cases_lt i.0 (length c.isrs))
   routine_named (OisrSource i) =
-      ⊎_elim (λ (l : i.0 < length c.oisrs). (All-get_or (IsOisr c) c.oisrs i.0 no_oisr l rules.oisrs).routine.is_body.callees)
-      (λ (g : length c.oisrs ≤ i.0). subst (λ x. Callees c x.body) (sym (get_or_past c.oisrs i.0 no_oisr g)) refl) (cases_lt i.0 (length c.oisrs))
+      ⊎_elim (λ (l : i.0 < length c.oisrs).
+      (All-get_or (IsOisr c) c.oisrs i.0 no_oisr l rules.oisrs).routine.is_body.callees)
+      (λ (g : length c.oisrs ≤ i.0). subst (λ x. Callees c x.body) (sym (get_or_past c.oisrs i.0 no_oisr g)) refl)
+      (cases_lt i.0 (length c.oisrs))
 
   -- ---- services
 
@@ -124,23 +142,30 @@ module _ (c : ConfigParts) (s : ScriptParts) (rules : IsConfig c) where
     world : Named c a.world
     left : Callees c a.left
 
-  synced_named : (global : Option ℕ) (left : List Stmt) (w : World) → Named c w → Callees c left → NamedAnswer (synced c global w left)
+  synced_named : (global : Option ℕ) (left : List Stmt) (w : World) → Named c w → Callees c left
+      → NamedAnswer (synced c global w left)
   synced_named None left w n t = record { world = n; left = t }
-  synced_named (Some global) left w n t = record { world = record { mode = n.mode; wanted = n.wanted; lefts = n.lefts }; left = t }
+  synced_named (Some global) left w n t =
+      record { world = record { mode = n.mode; wanted = n.wanted; lefts = n.lefts }; left = t }
 
-  service_named : (r : Runner) (k : Call) (left : List Stmt) (w : World) → names_below (length c.modes) (length c.oseks) k ≡ true → Named c w → Callees c left → NamedAnswer (service c s r k left w)
+  service_named : (r : Runner) (k : Call) (left : List Stmt) (w : World)
+      → names_below (length c.modes) (length c.oseks) k ≡ true → Named c w → Callees c left
+      → NamedAnswer (service c s r k left w)
   unfolding service
-  service_named r (call.Switch mode) left w b n t = record { world = record { mode = n.mode; wanted = ltb-true _ _ b; lefts = n.lefts }; left = t }
+  service_named r (call.Switch mode) left w b n t =
+      record { world = record { mode = n.mode; wanted = ltb-true _ _ b; lefts = n.lefts }; left = t }
   service_named r call.Sync left w b n t = synced_named _ left w n t
   service_named r call.Shutdown left w b n t = record { world = n; left = t }
   service_named r (call.Activate task) left w b n t =
       cond_both (is_suspended w task) _ _ NamedAnswer
-      (λ _. record { world = leaving_named c w (runner.Osek task) (osek_body c task) (osek_named task) n; left = t }) (λ _. record { world = n; left = t })
+      (λ _. record { world = leaving_named c w (runner.Osek task) (osek_body c task) (osek_named task) n; left = t })
+      (λ _. record { world = n; left = t })
   service_named r (call.Chain task) left w b n t =
       cond_both (is_caller r task) _ _ NamedAnswer
       (λ _. record { world = n; left = osek_named task })
       (λ _. cond_both (is_suspended w task) _ _ NamedAnswer
-      (λ _. record { world = leaving_named c w (runner.Osek task) (osek_body c task) (osek_named task) n; left = refl }) (λ _. record { world = n; left = t }))
+      (λ _. record { world = leaving_named c w (runner.Osek task) (osek_body c task) (osek_named task) n; left = refl })
+      (λ _. record { world = n; left = t }))
   service_named r call.Terminate left w b n t = record { world = n; left = refl }
 
   -- ---- a tick
@@ -150,7 +175,9 @@ module _ (c : ConfigParts) (s : ScriptParts) (rules : IsConfig c) where
   EffectsNamed (effect.Out value ∷ rest) = EffectsNamed rest
   EffectsNamed (effect.Service k ∷ rest) = (names_below (length c.modes) (length c.oseks) k ≡ true) × EffectsNamed rest
 
-  tick_named : (left : List Stmt) (w : World) (front : Stmt-F Stmt) (rest : List Stmt) → has_callee (length c.modes) (length c.oseks) (map-Stmt Stmt Bool (each_of (has_callee (length c.modes) (length c.oseks))) front) ≡ true
+  tick_named : (left : List Stmt) (w : World) (front : Stmt-F Stmt) (rest : List Stmt)
+      → has_callee (length c.modes) (length c.oseks)
+      (map-Stmt Stmt Bool (each_of (has_callee (length c.modes) (length c.oseks))) front) ≡ true
       → EffectsNamed (tick_by (supply_of c.demands s.values) (state_of left w.vars w.cursors []) front rest).effects
   tick_named left w (Stmt-F.Service k) rest h = (h, tt)
   tick_named left w (Stmt-F.Out expr) rest h = tt
@@ -165,8 +192,10 @@ module _ (c : ConfigParts) (s : ScriptParts) (rules : IsConfig c) where
   effects_named w [] t = tt
   effects_named w (front ∷ rest) t =
       let test = has_callee {A = Bool} (length c.modes) (length c.oseks) in
-      let here = sym (fold_out-Stmt Bool (λ y. test y && inner_pass y) front) ∙ (and_parts (each_of test front) _ t).0 in
-      tick_named (front ∷ rest) w (out-Stmt front) rest (and_parts (test (map-Stmt Stmt Bool (each_of test) (out-Stmt front))) _ here).0
+      let here = sym (fold_out-Stmt Bool (λ y. test y && inner_pass y) front)
+      ∙ (and_parts (each_of test front) _ t).0 in
+      tick_named (front ∷ rest) w (out-Stmt front) rest
+      (and_parts (test (map-Stmt Stmt Bool (each_of test) (out-Stmt front))) _ here).0
 
   callees_last : LastsThroughTicks (supply_of c.demands s.values) (has_callee (length c.modes) (length c.oseks))
   callees_last = record { work = λ n e. refl; repeat = λ n body e. refl; take = λ demand used n is e. refl }
@@ -174,12 +203,14 @@ module _ (c : ConfigParts) (s : ScriptParts) (rules : IsConfig c) where
   ticked_named : (w : World) (left : List Stmt) → Callees c left → Callees c (state_after c s w left).left
   ticked_named w left t = keeps_each (supply_of c.demands s.values) (state_of left w.vars w.cursors []) _ callees_last t
 
-  effected_named : (r : Runner) (effects : List Effect) (who : Owner) (left : List Stmt) (w : World) (es : List Event) → EffectsNamed effects → Named c w → Callees c left → Holds (Named c) es (effected c s r who effects left w).move
+  effected_named : (r : Runner) (effects : List Effect) (who : Owner) (left : List Stmt) (w : World) (es : List Event)
+      → EffectsNamed effects → Named c w → Callees c left → Holds (Named c) es (effected c s r who effects left w).move
   effected_named r [] who left w es f n t = leaving_named c w r left t n
   effected_named r (effect.Out value ∷ rest) who left w es f n t = leaving_named c w r left t n
   effected_named r (effect.Service k ∷ rest) who left w es f n t =
       let a = service_named r k left w f.0 n t in
-      cond_both (is_shutdown k) _ _ (Holds (Named c) es) (λ _. tt) (λ _. leaving_named c (service c s r k left w).world r (service c s r k left w).left a.left a.world)
+      cond_both (is_shutdown k) _ _ (Holds (Named c) es) (λ _. tt)
+      (λ _. leaving_named c (service c s r k left w).world r (service c s r k left w).left a.left a.world)
 
   pub step_named : Leads (Alone (Named c)) (Alone (Named c)) Anything (step c s)
   unfolding step
@@ -187,19 +218,24 @@ module _ (c : ConfigParts) (s : ScriptParts) (rules : IsConfig c) where
       let r = runner_of c w in
       let who = owner_of c w r in
       let state = state_after c s w (left_of w r) in
-      followed_leads (Alone (Named c)) (Alone (Named c)) Anything es (preceded (run_line w who) (runner_tick c s r who w).move) _
-      (effected_named r state.effects who state.left _ es (effects_named w (left_of w r) (n.lefts r)) (record { mode = n.mode; wanted = n.wanted; lefts = n.lefts }) (ticked_named w (left_of w r) (n.lefts r)))
+      followed_leads (Alone (Named c)) (Alone (Named c)) Anything es
+      (preceded (run_line w who) (runner_tick c s r who w).move) _
+      (effected_named r state.effects who state.left _ es (effects_named w (left_of w r) (n.lefts r))
+      (record { mode = n.mode; wanted = n.wanted; lefts = n.lefts }) (ticked_named w (left_of w r) (n.lefts r)))
       (λ v ds p. record { mode = p.mode; wanted = p.wanted; lefts = p.lefts })
 
   -- ---- the opening
 
   latch_named : Leads (Alone (Named c)) (Alone (Named c)) Anything (latch c)
   unfolding latch
-  latch_named w es n = cond_both (eqb (offset_of w) (c.round - c.adjust)) _ _ (Holds (Named c) es) (λ _. record { mode = n.mode; wanted = n.wanted; lefts = n.lefts }) (λ _. n)
+  latch_named w es n = cond_both (eqb (offset_of w) (c.round - c.adjust)) _ _ (Holds (Named c) es)
+      (λ _. record { mode = n.mode; wanted = n.wanted; lefts = n.lefts }) (λ _. n)
 
   -- the next round has the wanted mode, and no activation
-  none_left : (w : World) → EachLeft (Callees c) w → (number : ℕ) (mode : _) → EachLeft (Callees c) (record w { start = w.tick; number = number; mode = mode; latched = None; jobs = [] })
-  none_left w e number mode (runner.Job place) = subst (λ (x : Job). Callees c x.left) (sym (get_or_past [] place no_job (omega arith))) refl
+  none_left : (w : World) → EachLeft (Callees c) w → (number : ℕ) (mode : _)
+      → EachLeft (Callees c) (record w { start = w.tick; number = number; mode = mode; latched = None; jobs = [] })
+  none_left w e number mode (runner.Job place) =
+      subst (λ (x : Job). Callees c x.left) (sym (get_or_past [] place no_job (omega arith))) refl
   none_left w e number mode (runner.Isr i) = e (runner.Isr i)
   none_left w e number mode (runner.Oisr i) = e (runner.Oisr i)
   none_left w e number mode (runner.Osek i) = e (runner.Osek i)
@@ -215,19 +251,25 @@ module _ (c : ConfigParts) (s : ScriptParts) (rules : IsConfig c) where
   unfolding round_end
   round_end_named w es n =
       cond_both (is_length w.latched (offset_of w)) _ _ (Holds (Named c) es)
-      (λ _. followed_leads (Alone (Named c)) (Alone (Named c)) Anything es (monitored c (is_at_end (offset_of w)) w) (next_round s) (monitored_holds (Named c) c _ w es (λ _. n)) next_round_named)
+      (λ _. followed_leads (Alone (Named c)) (Alone (Named c)) Anything es (monitored c (is_at_end (offset_of w)) w)
+      (next_round s) (monitored_holds (Named c) c _ w es (λ _. n)) next_round_named)
       (λ _. n)
 
   acceptance_named : (source : Source) → Leads (Alone (Named c)) (Alone (Named c)) Anything (acceptance c source)
   unfolding acceptance
   acceptance_named (IsrSource i) w es n =
       cond_both (is_accepted w (IsrSource i)) _ _ (Holds (Named c) es)
-      (λ _. leaving_named c (disabling (holding w (IsrSource i) false) (IsrSource i)) (runner.Isr i) (routine_of c (IsrSource i)) (routine_named (IsrSource i)) (record { mode = n.mode; wanted = n.wanted; lefts = n.lefts })) (λ _. n)
+      (λ _. leaving_named c (disabling (holding w (IsrSource i) false) (IsrSource i)) (runner.Isr i)
+      (routine_of c (IsrSource i)) (routine_named (IsrSource i))
+      (record { mode = n.mode; wanted = n.wanted; lefts = n.lefts })) (λ _. n)
   acceptance_named (OisrSource i) w es n =
       cond_both (is_accepted w (OisrSource i)) _ _ (Holds (Named c) es)
-      (λ _. leaving_named c (disabling (holding w (OisrSource i) false) (OisrSource i)) (runner.Oisr i) (routine_of c (OisrSource i)) (routine_named (OisrSource i)) (record { mode = n.mode; wanted = n.wanted; lefts = n.lefts })) (λ _. n)
+      (λ _. leaving_named c (disabling (holding w (OisrSource i) false) (OisrSource i)) (runner.Oisr i)
+      (routine_of c (OisrSource i)) (routine_named (OisrSource i))
+      (record { mode = n.mode; wanted = n.wanted; lefts = n.lefts })) (λ _. n)
 
-  arrived_named : (held : Bool) (source : Source) (w : World) (es : List Event) → Named c w → Holds (Named c) es (arrived held source w)
+  arrived_named : (held : Bool) (source : Source) (w : World) (es : List Event) → Named c w
+      → Holds (Named c) es (arrived held source w)
   arrived_named true source w es n = n
   arrived_named false (IsrSource i) w es n = record { mode = n.mode; wanted = n.wanted; lefts = n.lefts }
   arrived_named false (OisrSource i) w es n = record { mode = n.mode; wanted = n.wanted; lefts = n.lefts }
@@ -235,26 +277,32 @@ module _ (c : ConfigParts) (s : ScriptParts) (rules : IsConfig c) where
   arrival_named : (source : Source) → Leads (Alone (Named c)) (Alone (Named c)) Anything (arrival s source)
   unfolding arrival
   arrival_named source w es n =
-      cond_both (list_any (λ (tick : ℕ). tick == w.tick) (arrivals_of s source)) _ _ (Holds (Named c) es) (λ _. arrived_named (is_held w source) source w es n) (λ _. n)
+      cond_both (list_any (λ (tick : ℕ). tick == w.tick) (arrivals_of s source)) _ _ (Holds (Named c) es)
+      (λ _. arrived_named (is_held w source) source w es n) (λ _. n)
 
   -- a new activation
-  more_left : (w : World) (entry : ℕ) (left : List Stmt) → Callees c left → EachLeft (Callees c) w → EachLeft (Callees c) (record w { jobs = w.jobs ++ record { entry = entry; left = left } ∷ [] })
+  more_left : (w : World) (entry : ℕ) (left : List Stmt) → Callees c left → EachLeft (Callees c) w
+      → EachLeft (Callees c) (record w { jobs = w.jobs ++ record { entry = entry; left = left } ∷ [] })
   more_left w entry left t e (runner.Job place) =
       let y : Job = record { entry = entry; left = left } in
       ⊎_elim
       (λ (l : place < length (w.jobs ++ y ∷ [])).
       ⊎_elim (λ (old : IsOldPlace w.jobs y place). subst (λ x. Callees c x.left) (sym old.1) (e (runner.Job place)))
-      (λ (new : IsNewPlace w.jobs y place). subst (λ x. Callees c x.left) (sym new.1) t) (place_of_more w.jobs y place l))
-      (λ (g : length (w.jobs ++ y ∷ []) ≤ place). subst (λ (x : Job). Callees c x.left) (sym (get_or_past (w.jobs ++ y ∷ []) place no_job g)) refl)
+      (λ (new : IsNewPlace w.jobs y place). subst (λ x. Callees c x.left) (sym new.1) t)
+      (place_of_more w.jobs y place l))
+      (λ (g : length (w.jobs ++ y ∷ []) ≤ place). subst (λ (x : Job). Callees c x.left)
+      (sym (get_or_past (w.jobs ++ y ∷ []) place no_job g)) refl)
       (cases_lt place (length (w.jobs ++ y ∷ [])))
   more_left w entry left t e (runner.Isr i) = e (runner.Isr i)
   more_left w entry left t e (runner.Oisr i) = e (runner.Oisr i)
   more_left w entry left t e (runner.Osek i) = e (runner.Osek i)
   more_left w entry left t e runner.Nobody = refl
 
-  activated_named : (entry : Option ℕ) (w : World) (es : List Event) → Named c w → Holds (Named c) es (activated c entry w)
+  activated_named : (entry : Option ℕ) (w : World) (es : List Event) → Named c w
+      → Holds (Named c) es (activated c entry w)
   activated_named None w es n = n
-  activated_named (Some entry) w es n = record { mode = n.mode; wanted = n.wanted; lefts = more_left w entry _ (body_named _) n.lefts }
+  activated_named (Some entry) w es n =
+      record { mode = n.mode; wanted = n.wanted; lefts = more_left w entry _ (body_named _) n.lefts }
 
   opening_keeps : OpeningKeeps c s (λ _. Alone (Named c)) Anything
   unfolding head checks enables enable arrivals acceptances activation
@@ -263,14 +311,17 @@ module _ (c : ConfigParts) (s : ScriptParts) (rules : IsConfig c) where
     latch_is = latch_named;
     round_end_is = round_end_named;
     checks_are = λ w es n. monitored_holds (Named c) c (is_at (offset_of w)) w es (λ _. n);
-    enables_are = λ w es n. chain_each (Alone (Named c)) Anything enable (enables_at (offset_of w) (mode_of c w).enables) (λ row v ds m. record { mode = m.mode; wanted = m.wanted; lefts = m.lefts }) w es n;
+    enables_are = λ w es n. chain_each (Alone (Named c)) Anything enable
+        (enables_at (offset_of w) (mode_of c w).enables)
+        (λ row v ds m. record { mode = m.mode; wanted = m.wanted; lefts = m.lefts }) w es n;
     arrivals_are = chain_each (Alone (Named c)) Anything (arrival s) (sources c) arrival_named;
     acceptances_are = chain_each (Alone (Named c)) Anything (acceptance c) (sources c) acceptance_named;
     activation_is = λ w es n. activated_named (entry_at (offset_of w) (mode_of c w).activations) w es n;
   }
 
   pub instant_named : (w : World) (es : List Event) → Named c w → Holds (Named c) es (instant c s w)
-  instant_named w es n = instant_leads c s (λ _. Alone (Named c)) Anything opening_keeps (Alone (Named c)) step_named w es n
+  instant_named w es n = instant_leads c s (λ _. Alone (Named c)) Anything opening_keeps
+      (Alone (Named c)) step_named w es n
 
   pub opening_named : (w : World) (es : List Event) → Named c w → Holds (Named c) es (opening c s w)
   opening_named w es n = opening_leads c s (λ _. Alone (Named c)) Anything opening_keeps w es n
@@ -282,20 +333,25 @@ module _ (c : ConfigParts) (s : ScriptParts) (rules : IsConfig c) where
   auto_named : (task : OsekDef) → IsOsek c task → Callees c (if task.auto then task.body else [])
   auto_named task h = cond_both task.auto task.body [] (Callees c) (λ _. h.routine.is_body.callees) (λ _. refl)
 
-  oseks_named : (i : ℕ) → Callees c (get_or (map (λ (task : OsekDef). if task.auto then task.body else []) c.oseks) i [])
+  oseks_named : (i : ℕ)
+      → Callees c (get_or (map (λ (task : OsekDef). if task.auto then task.body else []) c.oseks) i [])
   oseks_named i =
       subst (Callees c) (sym (get_or-map (λ (task : OsekDef). if task.auto then task.body else []) c.oseks i no_osek))
       (⊎_elim (λ (l : i < length c.oseks). auto_named _ (All-get_or (IsOsek c) c.oseks i no_osek l rules.oseks))
-      (λ (g : length c.oseks ≤ i). subst (λ (x : OsekDef). Callees c (if x.auto then x.body else [])) (sym (get_or_past c.oseks i no_osek g)) refl) (cases_lt i (length c.oseks)))
+      (λ (g : length c.oseks ≤ i). subst (λ (x : OsekDef). Callees c (if x.auto then x.body else []))
+      (sym (get_or_past c.oseks i no_osek g)) refl) (cases_lt i (length c.oseks)))
 
   none_of : (n i : ℕ) → Callees c (get_or (replicate {A = List Stmt} n []) i [])
   none_of n i =
       ⊎_elim (λ (l : i < n). subst (Callees c) (sym (get_or-replicate {A = List Stmt} n i [] [] l)) refl)
-      (λ (g : n ≤ i). subst (Callees c) (sym (get_or_past (replicate {A = List Stmt} n []) i [] (let e = length-replicate {A = List Stmt} n [] in omega arith))) refl) (cases_lt i n)
+      (λ (g : n ≤ i). subst (Callees c) (sym
+      (get_or_past (replicate {A = List Stmt} n []) i []
+      (let e = length-replicate {A = List Stmt} n [] in omega arith))) refl) (cases_lt i n)
 
   first_lefts : EachLeft (Callees c) (first_world c s)
   first_lefts (runner.Isr i) = none_of (length c.isrs) i.0
-  first_lefts (runner.Job place) = subst (λ (x : Job). Callees c x.left) (sym (get_or_past [] place no_job (omega arith))) refl
+  first_lefts (runner.Job place) = subst (λ (x : Job). Callees c x.left)
+      (sym (get_or_past [] place no_job (omega arith))) refl
   first_lefts (runner.Oisr i) = none_of (length c.oisrs) i.0
   first_lefts (runner.Osek i) = oseks_named i.0
   first_lefts runner.Nobody = refl
@@ -303,4 +359,5 @@ module _ (c : ConfigParts) (s : ScriptParts) (rules : IsConfig c) where
   -- the present and the wanted mode exist at each instant of a run
   pub mode_at : IsScript c s → (n : ℕ) → GoesOnBefore c s n → HasMode c (world_at c s n)
   unfolding world_at
-  mode_at script n g = has_mode c (world_at c s n) (named_at (record { mode = script.start; wanted = script.start; lefts = first_lefts }) n g)
+  mode_at script n g = has_mode c (world_at c s n)
+      (named_at (record { mode = script.start; wanted = script.start; lefts = first_lefts }) n g)

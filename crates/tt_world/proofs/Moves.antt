@@ -21,7 +21,8 @@ pub gives_none : (a : List Event) (w : World) → Gives a a w None (goes_on w []
 gives_none a w = record { world_is = refl; events_are = sym (append-nil a); end_is = refl }
 
 -- where the code of a part goes on and the code of the next part follows, both together are one after the other
-pub gives_next : (a b d : List Event) (v w : World) (end : Outcome) (m : Moved) (next : World → Moved) → Gives a b v None m → Gives b d w end (next v) → Gives a d w end (followed m next)
+pub gives_next : (a b d : List Event) (v w : World) (end : Outcome) (m : Moved) (next : World → Moved)
+    → Gives a b v None m → Gives b d w end (next v) → Gives a d w end (followed m next)
 unfolding followed
 gives_next a b d v w end m next g h =
     let on : is_over m.end ≡ false = ap is_over (sym g.end_is) in
@@ -29,12 +30,14 @@ gives_next a b d v w end m next g h =
     let n : next v ≡ next m.world = ap next g.world_is in
     record {
       world_is = h.world_is ∙ ap (λ x. x.world) n ∙ sym (ap (λ x. x.world) e);
-      events_are = h.events_are ∙ ap (λ x. x ++ (next v).events) g.events_are ∙ append_assoc a m.events (next v).events ∙ ap (λ x. a ++ (m.events ++ x.events)) n ∙ sym (ap (λ x. a ++ x.events) e);
+      events_are = h.events_are ∙ ap (λ x. x ++ (next v).events) g.events_are ∙ append_assoc a m.events (next v).events
+          ∙ ap (λ x. a ++ (m.events ++ x.events)) n ∙ sym (ap (λ x. a ++ x.events) e);
       end_is = h.end_is ∙ ap (λ x. x.end) n ∙ sym (ap (λ x. x.end) e);
     }
 
 -- where the code of a part ends the run, no part follows
-pub gives_stop : (a b : List Event) (w : World) (end : Outcome) (m : Moved) (next : World → Moved) → is_over end ≡ true → Gives a b w end m → Gives a b w end (followed m next)
+pub gives_stop : (a b : List Event) (w : World) (end : Outcome) (m : Moved) (next : World → Moved) → is_over end ≡ true
+    → Gives a b w end m → Gives a b w end (followed m next)
 unfolding followed
 gives_stop a b w end m next o g =
     let p : is_over m.end ≡ true = sym (ap is_over g.end_is) ∙ o in
@@ -46,35 +49,47 @@ gives_stop a b w end m next o g =
     }
 
 -- a chain of parts: the first, and then the others; and for a loop, a part after those that were done
-pub gives_first : (a b d : List Event) (v w : World) (end : Outcome) (part : World → Moved) (parts : List (World → Moved)) (u : World) → Gives a b v None (part u) → Gives b d w end (chain parts v) → Gives a d w end (chain (part ∷ parts) u)
+pub gives_first : (a b d : List Event) (v w : World) (end : Outcome) (part : World → Moved)
+    (parts : List (World → Moved)) (u : World) → Gives a b v None (part u) → Gives b d w end (chain parts v)
+    → Gives a d w end (chain (part ∷ parts) u)
 unfolding chain
 gives_first a b d v w end part parts u g h = gives_next a b d v w end (part u) (chain parts) g h
 
-pub gives_over : (a b : List Event) (w : World) (end : Outcome) (part : World → Moved) (parts : List (World → Moved)) (u : World) → is_over end ≡ true → Gives a b w end (part u) → Gives a b w end (chain (part ∷ parts) u)
+pub gives_over : (a b : List Event) (w : World) (end : Outcome) (part : World → Moved) (parts : List (World → Moved))
+    (u : World) → is_over end ≡ true → Gives a b w end (part u) → Gives a b w end (chain (part ∷ parts) u)
 unfolding chain
 gives_over a b w end part parts u o g = gives_stop a b w end (part u) (chain parts) o g
 
 -- a chain of two pieces
-both_same : (over : Bool) (m : Moved) (parts more : List (World → Moved)) → is_over m.end ≡ over → ((v : World) → chain (parts ++ more) v ≡ followed (chain parts v) (chain more)) → continued over m (chain (parts ++ more)) ≡ followed (continued over m (chain parts)) (chain more)
+both_same : (over : Bool) (m : Moved) (parts more : List (World → Moved)) → is_over m.end ≡ over
+    → ((v : World) → chain (parts ++ more) v ≡ followed (chain parts v) (chain more))
+    → continued over m (chain (parts ++ more)) ≡ followed (continued over m (chain parts)) (chain more)
 unfolding followed
 both_same true m parts more e h = ap (λ b. continued b m (chain more)) (sym e)
-both_same false m parts more e h = ap (preceded m.events) (h m.world) ∙ pieces (is_over (chain parts m.world).end) (chain parts m.world)
+both_same false m parts more e h = ap (preceded m.events) (h m.world)
+    ∙ pieces (is_over (chain parts m.world).end) (chain parts m.world)
   where
-    pieces : (b : Bool) (n : Moved) → preceded m.events (continued b n (chain more)) ≡ continued b (preceded m.events n) (chain more)
+    pieces : (b : Bool) (n : Moved) → preceded m.events (continued b n (chain more)) ≡ continued b (preceded m.events n)
+        (chain more)
     pieces true n = refl
-    pieces false n = ap (λ es. record { world = (chain more n.world).world; events = es; end = (chain more n.world).end }) (sym (append_assoc m.events n.events (chain more n.world).events))
+    pieces false n =
+        ap (λ es. record { world = (chain more n.world).world; events = es; end = (chain more n.world).end })
+        (sym (append_assoc m.events n.events (chain more n.world).events))
 
-pub chain_both : (parts more : List (World → Moved)) (w : World) → chain (parts ++ more) w ≡ followed (chain parts w) (chain more)
+pub chain_both : (parts more : List (World → Moved)) (w : World)
+    → chain (parts ++ more) w ≡ followed (chain parts w) (chain more)
 unfolding chain followed
 chain_both [] more w = refl
 chain_both (part ∷ parts) more w = both_same (is_over (part w).end) (part w) parts more refl (chain_both parts more)
 
 -- for a loop: none of the parts was done yet, and one more is done
-pub gives_begin : {X : Type 0} (part : X → World → Moved) (xs : List X) (a : List Event) (w : World) → Gives a a w None (chain (map part (take 0 xs)) w)
+pub gives_begin : {X : Type 0} (part : X → World → Moved) (xs : List X) (a : List Event) (w : World)
+    → Gives a a w None (chain (map part (take 0 xs)) w)
 unfolding chain
 gives_begin part xs a w = gives_none a w
 
-one_part : (part : World → Moved) (a b : List Event) (u w : World) → Gives a b w None (part u) → Gives a b w None (chain (part ∷ []) u)
+one_part : (part : World → Moved) (a b : List Event) (u w : World) → Gives a b w None (part u)
+    → Gives a b w None (chain (part ∷ []) u)
 unfolding chain
 one_part part a b u w g = gives_next a b b w w None (part u) (chain []) g (gives_none b w)
 
@@ -82,12 +97,17 @@ pub gives_done : (a : List Event) (w : World) → Gives a a w None (chain [] w)
 unfolding chain
 gives_done a w = gives_none a w
 
-pub gives_more : {X : Type 0} (part : X → World → Moved) (xs : List X) (i : ℕ) (x : X) (a b d : List Event) (u v w : World) → i < length xs → get_or xs i x ≡ x → Gives a b v None (chain (map part (take i xs)) u) → Gives b d w None (part x v) → Gives a d w None (chain (map part (take (i + 1) xs)) u)
+pub gives_more : {X : Type 0} (part : X → World → Moved) (xs : List X) (i : ℕ) (x : X) (a b d : List Event)
+    (u v w : World) → i < length xs → get_or xs i x ≡ x → Gives a b v None (chain (map part (take i xs)) u)
+    → Gives b d w None (part x v) → Gives a d w None (chain (map part (take (i + 1) xs)) u)
 gives_more part xs i x a b d u v w l here g h =
     let e : take (i + 1) xs ≡ take i xs ++ x ∷ [] = take_more xs i x l ∙ ap (λ y. take i xs ++ y ∷ []) here in
-    let f : map part (take (i + 1) xs) ≡ map part (take i xs) ++ part x ∷ [] = ap (map part) e ∙ map-append part (take i xs) (x ∷ []) in
-    let k = gives_next a b d v w None (chain (map part (take i xs)) u) (chain (part x ∷ [])) g (one_part (part x) b d v w h) in
+    let f : map part (take (i + 1) xs) ≡ map part (take i xs) ++ part x ∷ [] = ap (map part) e
+    ∙ map-append part (take i xs) (x ∷ []) in
+    let k = gives_next a b d v w None (chain (map part (take i xs)) u) (chain (part x ∷ [])) g
+    (one_part (part x) b d v w h) in
     subst (Gives a d w None) (sym (ap (λ ps. chain ps u) f ∙ chain_both (map part (take i xs)) (part x ∷ []) u)) k
 
-pub gives_all : {X : Type 0} (part : X → World → Moved) (xs : List X) (i : ℕ) (a b : List Event) (u w : World) → length xs ≤ i → Gives a b w None (chain (map part (take i xs)) u) → Gives a b w None (chain (map part xs) u)
+pub gives_all : {X : Type 0} (part : X → World → Moved) (xs : List X) (i : ℕ) (a b : List Event) (u w : World)
+    → length xs ≤ i → Gives a b w None (chain (map part (take i xs)) u) → Gives a b w None (chain (map part xs) u)
 gives_all part xs i a b u w l g = subst (λ ys. Gives a b w None (chain (map part ys) u)) (take_all i xs l) g

@@ -44,7 +44,8 @@ use Rattle.tt_world.proofs.Response.{IsEarly, early_at, early_new}
 abbrev pub IsNoMiss : Event → Type 0
 IsNoMiss e = is_missed e ≡ false
 
-head_met : (e : Event) (rest : List Event) (task : TaskNo) (tick : ℕ) → is_missed e ≡ false → (status_of rest ≡ Missed task tick → ⊥) → status_of (e ∷ rest) ≡ Missed task tick → ⊥
+head_met : (e : Event) (rest : List Event) (task : TaskNo) (tick : ℕ) → is_missed e ≡ false
+    → (status_of rest ≡ Missed task tick → ⊥) → status_of (e ∷ rest) ≡ Missed task tick → ⊥
 head_met (Check at other false) rest task tick n h e = cc
 head_met (Shutdown at) rest task tick n h e = cc
 head_met event rest task tick n h e = h e
@@ -60,47 +61,58 @@ pub record AreMet (all : Checked) : Type 0 where
   pub clean : Of IsNoMiss all.events
   pub missed : all.missed ≡ None
 
-then_met : (at : ℕ) (task : TaskNo) (met : Bool) (others : Checked) → met ≡ true → AreMet others → AreMet (check_then at task met others)
+then_met : (at : ℕ) (task : TaskNo) (met : Bool) (others : Checked) → met ≡ true → AreMet others
+    → AreMet (check_then at task met others)
 then_met at task true others e h = record { clean = (refl, h.clean); missed = h.missed }
 then_met at task false others e h = cc
 
-if_met : (due : Bool) (check others : Checked) → (due ≡ true → AreMet check) → AreMet others → AreMet (check_if due check others)
+if_met : (due : Bool) (check others : Checked) → (due ≡ true → AreMet check) → AreMet others
+    → AreMet (check_if due check others)
 if_met true check others a b = a refl
 if_met false check others a b = b
 
 pub checked_met : (at : ℕ) (mode : ModeDef) (is_due : Point → Bool) (xs : List Job)
-    → ((place : ℕ) → place < length xs → is_due (point_of mode (row_of mode (job_at xs place).entry)) ≡ true → is_done (job_at xs place).left ≡ true) → AreMet (checked at mode is_due xs)
+    → ((place : ℕ) → place < length xs → is_due (point_of mode (row_of mode (job_at xs place).entry)) ≡ true
+    → is_done (job_at xs place).left ≡ true) → AreMet (checked at mode is_due xs)
 unfolding checked
 checked_met at mode is_due [] h = record { clean = tt; missed = refl }
 checked_met at mode is_due (x ∷ xs) h =
     let rest = checked_met at mode is_due xs (λ place l d. h (suc place) (omega arith) d) in
-    if_met (is_due (point_of mode (row_of mode x.entry))) _ (checked at mode is_due xs) (λ d. then_met at _ (is_done x.left) _ (h 0 (omega arith) d) rest) rest
+    if_met (is_due (point_of mode (row_of mode x.entry))) _ (checked at mode is_due xs)
+    (λ d. then_met at _ (is_done x.left) _ (h 0 (omega arith) d) rest) rest
 
-after_clean : (c : ConfigParts) (fs : List Event) (missed : Option TaskNo) (w : World) → missed ≡ None → Of IsNoMiss fs → Of IsNoMiss (after_checks c fs missed w).events
+after_clean : (c : ConfigParts) (fs : List Event) (missed : Option TaskNo) (w : World) → missed ≡ None → Of IsNoMiss fs
+    → Of IsNoMiss (after_checks c fs missed w).events
 after_clean c fs None w e p = p
 after_clean c fs (Some task) w e p = cc
 
-pub after_leads : (P : OfRun) (Q : OfEnd) (c : ConfigParts) (fs : List Event) (missed : Option TaskNo) (w : World) (es : List Event) → missed ≡ None → P w (es ++ fs) → LeadsTo P Q es (after_checks c fs missed w)
+pub after_leads : (P : OfRun) (Q : OfEnd) (c : ConfigParts) (fs : List Event) (missed : Option TaskNo) (w : World)
+    (es : List Event) → missed ≡ None → P w (es ++ fs) → LeadsTo P Q es (after_checks c fs missed w)
 after_leads P Q c fs None w es e p = p
 after_leads P Q c fs (Some task) w es e p = cc
 
 -- deadlines are not after the latch
-pub deadline_low : (c : ConfigParts) (mode : ModeDef) (entry : ℕ) → AreRows c mode → (row_of mode entry).deadline ≤ c.round - c.adjust
+pub deadline_low : (c : ConfigParts) (mode : ModeDef) (entry : ℕ) → AreRows c mode
+    → (row_of mode entry).deadline ≤ c.round - c.adjust
 deadline_low c mode entry rows =
     ⊎_elim
     (λ (l : entry < length mode.activations).
     let row = row_of mode entry in
     let h = list_all_get (is_activation c) mode.activations entry no_row rows.activations l in
-    let later = both_right (nat_lt row.task.0 (length c.tasks)) (nat_lt row.offset row.deadline && nat_le row.deadline (c.round - c.adjust)) h in
-    leb-true row.deadline (c.round - c.adjust) (both_right (nat_lt row.offset row.deadline) (nat_le row.deadline (c.round - c.adjust)) later))
-    (λ (g : length mode.activations ≤ entry). let z = ap (λ (row : Activation). row.deadline) (get_or_past mode.activations entry no_row g) in omega arith)
+    let later = both_right (nat_lt row.task.0 (length c.tasks))
+    (nat_lt row.offset row.deadline && nat_le row.deadline (c.round - c.adjust)) h in
+    leb-true row.deadline (c.round - c.adjust)
+    (both_right (nat_lt row.offset row.deadline) (nat_le row.deadline (c.round - c.adjust)) later))
+    (λ (g : length mode.activations ≤ entry). let z =
+    ap (λ (row : Activation). row.deadline) (get_or_past mode.activations entry no_row g) in omega arith)
     (cases_lt entry (length mode.activations))
 
 at_offset : (deadline offset : ℕ) (p : Point) → IsFrom deadline p → is_at offset p ≡ true → deadline ≤ offset
 at_offset deadline offset (point.At place) f e = let z = eqb-true place offset e in omega arith
 at_offset deadline offset point.RoundEnd f e = cc
 
-pub at_length : (c : ConfigParts) (latched : Option ℕ) (offset : ℕ) → is_length latched offset ≡ true → Stands Latched c latched offset → c.round - c.adjust ≤ offset
+pub at_length : (c : ConfigParts) (latched : Option ℕ) (offset : ℕ) → is_length latched offset ≡ true
+    → Stands Latched c latched offset → c.round - c.adjust ≤ offset
 at_length c None offset e h = cc
 at_length c (Some length) offset e h = let z = eqb-true _ _ e in let l = h.0.0 in omega arith
 
@@ -119,10 +131,12 @@ module _ (c : ConfigParts) (s : ScriptParts) (rules : IsConfig c) (bounded : IsB
   SafeAt Latched w es = (Early w × Timed Latched c s w) × Of IsNoMiss es
   SafeAt phase w es = (Early w × Timed Begun c s w) × Of IsNoMiss es
 
-  safe_leads : (A B : World → Type 0) (es : List Event) (m : Moved) → Of IsNoMiss es → Of IsNoMiss m.events → Holds A es m → Holds B es m → LeadsTo (λ v fs. (A v × B v) × Of IsNoMiss fs) Clean es m
+  safe_leads : (A B : World → Type 0) (es : List Event) (m : Moved) → Of IsNoMiss es → Of IsNoMiss m.events
+      → Holds A es m → Holds B es m → LeadsTo (λ v fs. (A v × B v) × Of IsNoMiss fs) Clean es m
   safe_leads A B es m p q a b =
       leads_by (λ v fs. (A v × B v) × Of IsNoMiss fs) Clean es m
-      (λ e. ((led_on (Alone A) Anything es m e a, led_on (Alone B) Anything es m e b), all_more IsNoMiss es m.events p q))
+      (λ e.
+      ((led_on (Alone A) Anything es m e a, led_on (Alone B) Anything es m e b), all_more IsNoMiss es m.events p q))
       (λ e. all_more IsNoMiss es m.events p q)
 
   pub early : OpeningKeeps c s (λ _. Alone Early) Anything
@@ -149,7 +163,8 @@ module _ (c : ConfigParts) (s : ScriptParts) (rules : IsConfig c) (bounded : IsB
       absurd (omega arith))
       (cases_Bool (is_done (job_at w.jobs place).left)))
 
-  pub end_met : (w : World) → Early w → Timed Latched c s w → is_length w.latched (offset_of w) ≡ true → AreMet (checked w.tick (mode_of c w) (is_at_end (offset_of w)) w.jobs)
+  pub end_met : (w : World) → Early w → Timed Latched c s w → is_length w.latched (offset_of w) ≡ true
+      → AreMet (checked w.tick (mode_of c w) (is_at_end (offset_of w)) w.jobs)
   end_met w p q e =
       checked_met w.tick (mode_of c w) (is_at_end (offset_of w)) w.jobs
       (λ place l d.
@@ -169,13 +184,16 @@ module _ (c : ConfigParts) (s : ScriptParts) (rules : IsConfig c) (bounded : IsB
       cond_both (is_length w.latched (offset_of w)) _ _ (λ (m : Moved). Of IsNoMiss m.events)
       (λ e.
       let met = end_met w p q e in
-      followed_all IsNoMiss (monitored c (is_at_end (offset_of w)) w) (next_round s) (after_clean c _ (checked w.tick (mode_of c w) (is_at_end (offset_of w)) w.jobs).missed w met.missed met.clean)
+      followed_all IsNoMiss (monitored c (is_at_end (offset_of w)) w) (next_round s)
+      (after_clean c _ (checked w.tick (mode_of c w) (is_at_end (offset_of w)) w.jobs).missed w met.missed
+      met.clean)
       (next_round_all IsNoMiss s (λ _. refl) (λ _ _ _. refl)))
       (λ _. tt)
 
   checks_clean : (w : World) → Early w → Of IsNoMiss (checks c w).events
   unfolding checks
-  checks_clean w p = let met = checks_met w p in after_clean c _ (checked w.tick (mode_of c w) (is_at (offset_of w)) w.jobs).missed w met.missed met.clean
+  checks_clean w p = let met = checks_met w p in
+      after_clean c _ (checked w.tick (mode_of c w) (is_at (offset_of w)) w.jobs).missed w met.missed met.clean
 
   activation_clean : (w : World) → Of IsNoMiss (activation c w).events
   unfolding activation
@@ -190,29 +208,42 @@ module _ (c : ConfigParts) (s : ScriptParts) (rules : IsConfig c) (bounded : IsB
 
   opening_clean : OpeningKeeps c s SafeAt Clean
   opening_clean = record {
-    head_is = λ w es z p. safe_leads Early on es (head s w) p.1 (head_clean w) (early.head_is w es z p.0.0) (timed.head_is w es z p.0.1);
-    latch_is = λ w es p. safe_leads Early (Timed Latched c s) es (latch c w) p.1 (latch_all IsNoMiss c (λ _ _. refl) w) (early.latch_is w es p.0.0) (timed.latch_is w es p.0.1);
-    round_end_is = λ w es p. safe_leads Early on es (round_end c s w) p.1 (round_end_clean w p.0.0 p.0.1) (early.round_end_is w es p.0.0) (timed.round_end_is w es p.0.1);
-    checks_are = λ w es p. safe_leads Early on es (checks c w) p.1 (checks_clean w p.0.0) (early.checks_are w es p.0.0) (timed.checks_are w es p.0.1);
-    enables_are = λ w es p. safe_leads Early on es (enables c w) p.1 (enables_all IsNoMiss c (λ _ _. refl) w) (early.enables_are w es p.0.0) (timed.enables_are w es p.0.1);
-    arrivals_are = λ w es p. safe_leads Early on es (arrivals c s w) p.1 (arrivals_all IsNoMiss c s (λ _ _. refl) (λ _ _. refl) w) (early.arrivals_are w es p.0.0) (timed.arrivals_are w es p.0.1);
-    acceptances_are = λ w es p. safe_leads Early on es (acceptances c w) p.1 (acceptances_all IsNoMiss c (λ _ _. refl) w) (early.acceptances_are w es p.0.0) (timed.acceptances_are w es p.0.1);
-    activation_is = λ w es p. safe_leads Early on es (activation c w) p.1 (activation_clean w) (early.activation_is w es p.0.0) (timed.activation_is w es p.0.1);
+    head_is = λ w es z p. safe_leads Early on es (head s w) p.1 (head_clean w) (early.head_is w es z p.0.0)
+        (timed.head_is w es z p.0.1);
+    latch_is = λ w es p. safe_leads Early (Timed Latched c s) es (latch c w) p.1 (latch_all IsNoMiss c (λ _ _. refl) w)
+        (early.latch_is w es p.0.0) (timed.latch_is w es p.0.1);
+    round_end_is = λ w es p. safe_leads Early on es (round_end c s w) p.1 (round_end_clean w p.0.0 p.0.1)
+        (early.round_end_is w es p.0.0) (timed.round_end_is w es p.0.1);
+    checks_are = λ w es p. safe_leads Early on es (checks c w) p.1 (checks_clean w p.0.0) (early.checks_are w es p.0.0)
+        (timed.checks_are w es p.0.1);
+    enables_are = λ w es p. safe_leads Early on es (enables c w) p.1 (enables_all IsNoMiss c (λ _ _. refl) w)
+        (early.enables_are w es p.0.0) (timed.enables_are w es p.0.1);
+    arrivals_are = λ w es p. safe_leads Early on es (arrivals c s w) p.1
+        (arrivals_all IsNoMiss c s (λ _ _. refl) (λ _ _. refl) w) (early.arrivals_are w es p.0.0)
+        (timed.arrivals_are w es p.0.1);
+    acceptances_are = λ w es p. safe_leads Early on es (acceptances c w) p.1
+        (acceptances_all IsNoMiss c (λ _ _. refl) w) (early.acceptances_are w es p.0.0)
+        (timed.acceptances_are w es p.0.1);
+    activation_is = λ w es p. safe_leads Early on es (activation c w) p.1 (activation_clean w)
+        (early.activation_is w es p.0.0) (timed.activation_is w es p.0.1);
   }
 
   step_clean : Leads (SafeAt Activated) (λ v fs. Of IsNoMiss fs) Clean (step c s)
   step_clean w es p =
-      let now = all_more IsNoMiss es (step c s w).events p.1 (step_all IsNoMiss hooks c s (λ _ _. refl) (λ _ _. refl) (λ _ _ _ _. refl) w) in
+      let now = all_more IsNoMiss es (step c s w).events p.1
+      (step_all IsNoMiss hooks c s (λ _ _. refl) (λ _ _. refl) (λ _ _ _ _. refl) w) in
       leads_by (λ v fs. Of IsNoMiss fs) Clean es (step c s w) (λ _. now) (λ _. now)
 
   pub instant_clean : (w : World) → Each c (IsEarly c T) T w → Timed Before c s w → Of IsNoMiss (instant c s w).events
   instant_clean w p q =
       let led = instant_leads c s SafeAt Clean opening_clean (λ v fs. Of IsNoMiss fs) step_clean w [] ((p, q), tt) in
-      ⊎_elim (λ (e : is_over (instant c s w).end ≡ true). led_over (λ v fs. Of IsNoMiss fs) Clean [] (instant c s w) e led)
+      ⊎_elim (λ (e : is_over (instant c s w).end ≡ true). led_over (λ v fs. Of IsNoMiss fs) Clean []
+      (instant c s w) e led)
       (λ (e : is_over (instant c s w).end ≡ false). led_on (λ v fs. Of IsNoMiss fs) Clean [] (instant c s w) e led)
       (cases_Bool (is_over (instant c s w).end))
 
-module _ (c : ConfigParts) (s : ScriptParts) (rules : IsConfig c) (script : IsScript c s) (responds : EachResponds c) (bounds : KeepsBounds c s) where
+module _ (c : ConfigParts) (s : ScriptParts) (rules : IsConfig c) (script : IsScript c s) (responds : EachResponds c)
+    (bounds : KeepsBounds c s) where
   -- no check of a run is missed
   pub clean_before : (n : ℕ) → n ≤ suc (last_instant c s) → Of IsNoMiss (events_before c s n)
   unfolding events_before instant_at
@@ -221,8 +252,10 @@ module _ (c : ConfigParts) (s : ScriptParts) (rules : IsConfig c) (script : IsSc
       let bounded = are_bounded c s rules script in
       let g : GoesOnBefore c s n = λ k j. (last_is c s bounded).first k (omega arith) in
       all_more IsNoMiss (events_before c s n) (instant c s (world_at c s n)).events (clean_before n (omega arith))
-      (instant_clean c s rules bounded n (world_at c s n) (early_at c s rules script bounds responds n g) (timed_at c s bounded n g))
+      (instant_clean c s rules bounded n (world_at c s n) (early_at c s rules script bounds responds n g)
+      (timed_at c s bounded n g))
 
   pub none_is_missed : (task : TaskNo) (tick : ℕ) → status_of (schedule c s) ≡ Missed task tick → ⊥
   unfolding schedule
-  none_is_missed task tick e = none_missed (events_before c s (suc (last_instant c s))) task tick (clean_before (suc (last_instant c s)) (omega arith)) e
+  none_is_missed task tick e = none_missed (events_before c s (suc (last_instant c s))) task tick
+      (clean_before (suc (last_instant c s)) (omega arith)) e

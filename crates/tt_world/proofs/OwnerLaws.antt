@@ -20,7 +20,7 @@ use Rattle.tt_world.specs.Step.{runner_tick, step, run_line}
 use Rattle.tt_world.specs.Schedule.{IsBounded, instant, instant_at, world_at, events_before, last_instant, schedule}
 use Rattle.tt_world.specs.Status.{stamp_of, stamp_after, last_stamp, status_of, Shut}
 use Rattle.tt_world.specs.Readings.{after_round, seen_at, last_owner, owner_after, present_round, task_if, isr_if}
-use Rattle.tt_world.specs.EventLaws.{IsOwner, OwnersRun}
+use Rattle.tt_world.specs.EventLaws.{IsTaken, IsOwner, OwnersRun}
 use Rattle.tt_world.specs.RunLaws.{OwnersLaw}
 use Rattle.tt_world.proofs.Parts.{OfRun, Alone, Anything, LeadsTo, GoesOnBefore, leads_by, led_on, led_over, followed_leads, followed_on, followed_events}
 use Rattle.tt_world.proofs.Points.{Ahead, ahead_at, opening_ahead}
@@ -40,7 +40,8 @@ still_after e n before = refl
 still_silent : (t : ℕ) (es : List Event) → Of (StillAt t) es → (before : Option Owner) → last_owner before es ≡ before
 unfolding last_owner
 still_silent t [] p before = refl
-still_silent t (e ∷ es) p before = ap (λ (o : Option Owner). last_owner o es) (still_after e p.0.1 before) ∙ still_silent t es p.1 before
+still_silent t (e ∷ es) p before = ap (λ (o : Option Owner). last_owner o es) (still_after e p.0.1 before)
+    ∙ still_silent t es p.1 before
 
 -- what an instant's events say of its tick
 record Said (T : ℕ) (m : Moved) : Type 0 where
@@ -64,8 +65,16 @@ module _ (c : ConfigParts) (s : ScriptParts) (T : ℕ) (w : World) (t : w.tick �
   goes : is_over begun.end ≡ false → (begun.world.tick ≡ T) × Of (MuteAt T) begun.events
   goes e = led_on (AtTick c s T) (EndsAtTick c s T) [] begun e at_opening
 
-  reads : is_over begun.end ≡ false → Reads T (step c s begun.world) (run_line begun.world (owner_of c begun.world (runner_of c begun.world)) ++ (runner_tick c s (runner_of c begun.world) (owner_of c begun.world (runner_of c begun.world)) begun.world).move.events)
-  reads e = subst (λ (k : ℕ). Reads k (step c s begun.world) (run_line begun.world (owner_of c begun.world (runner_of c begun.world)) ++ (runner_tick c s (runner_of c begun.world) (owner_of c begun.world (runner_of c begun.world)) begun.world).move.events)) (goes e).0 (step_reads c s begun.world)
+  reads : is_over begun.end ≡ false → Reads T (step c s begun.world)
+      (run_line begun.world (owner_of c begun.world (runner_of c begun.world))
+      ++ (runner_tick c s (runner_of c begun.world)
+      (owner_of c begun.world (runner_of c begun.world)) begun.world).move.events)
+  reads e =
+      subst (λ (k : ℕ). Reads k (step c s begun.world)
+      (run_line begun.world (owner_of c begun.world (runner_of c begun.world))
+      ++ (runner_tick c s (runner_of c begun.world)
+      (owner_of c begun.world (runner_of c begun.world)) begun.world).move.events)) (goes e).0
+      (step_reads c s begun.world)
 
   said : Said T (instant c s w)
   unfolding instant
@@ -74,16 +83,23 @@ module _ (c : ConfigParts) (s : ScriptParts) (T : ℕ) (w : World) (t : w.tick �
       (λ (over : is_over begun.end ≡ true).
       let at = (led_over (AtTick c s T) (EndsAtTick c s T) [] begun over at_opening).0 in
       subst (Said T) (sym (followed_over begun (step c s) over))
-      (record { low = each_of (IsAt T) (λ e. T ≤ stamp_of e) (λ e q. omega arith) begun.events at; on = λ on. absurd (false≢true (sym on ∙ over)); over = λ _. at }))
+      (record {
+        low = each_of (IsAt T) (λ e. T ≤ stamp_of e) (λ e q. omega arith) begun.events at;
+        on =
+            λ on. absurd (false≢true (sym on ∙ over));
+        over = λ _. at;
+      }))
       (λ (on : is_over begun.end ≡ false).
       let g = (goes on).1 in
       let r = reads on in
       let more = (step c s begun.world).events in
       subst (Said T) (sym (followed_go begun (step c s) on))
       (record {
-        low = all_more (λ e. T ≤ stamp_of e) begun.events more (each_of (MuteAt T) (λ e. T ≤ stamp_of e) (λ e q. let z = q.0 in omega arith) begun.events g) r.low;
+        low = all_more (λ e. T ≤ stamp_of e) begun.events more
+            (each_of (MuteAt T) (λ e. T ≤ stamp_of e) (λ e q. let z = q.0 in omega arith) begun.events g) r.low;
         on = λ e. all_more Mute begun.events more (each_of (MuteAt T) Mute (λ e q. q.1) begun.events g) (r.on e);
-        over = λ e. all_more (IsAt T) begun.events more (each_of (MuteAt T) (IsAt T) (λ e q. q.0) begun.events g) (r.over e);
+        over = λ e. all_more (IsAt T) begun.events more (each_of (MuteAt T) (IsAt T) (λ e q. q.0) begun.events g)
+            (r.over e);
       }))
       (cases_Bool (is_over begun.end))
 
@@ -92,32 +108,42 @@ module _ (c : ConfigParts) (s : ScriptParts) (T : ℕ) (w : World) (t : w.tick �
   unfolding instant
   shut_on u h =
       ⊎_elim
-      (λ (over : is_over begun.end ≡ true). absurd ((led_over (AtTick c s T) (EndsAtTick c s T) [] begun over at_opening).1 u (sym (ap (λ (m : Moved). status_of m.events) (followed_over begun (step c s) over)) ∙ h)))
+      (λ (over : is_over begun.end ≡ true). absurd
+      ((led_over (AtTick c s T) (EndsAtTick c s T) [] begun over at_opening).1 u
+      (sym (ap (λ (m : Moved). status_of m.events) (followed_over begun (step c s) over)) ∙ h)))
       (λ (on : is_over begun.end ≡ false). on) (cases_Bool (is_over begun.end))
 
 all_done : (k i : ℕ) → is_done (get_or (replicate k []) i []) ≡ true
 all_done k i =
     ⊎_elim (λ (l : i < k). ap is_done (get_or-replicate k i [] [] l))
-    (λ (g : k ≤ i). ap is_done (get_or_past (replicate k []) i [] (let n = length-replicate {A = List Stmt} k [] in omega arith))) (cases_lt i k)
+    (λ (g : k ≤ i). ap is_done (get_or_past (replicate k []) i []
+    (let n = length-replicate {A = List Stmt} k [] in omega arith))) (cases_lt i k)
 
 -- ---- a run
 
 module _ (c : ConfigParts) (s : ScriptParts) (rules : IsConfig c) (script : IsScript c s) where
-  abbrev State : ℕ → OfRun
+  abbrev pub State : ℕ → OfRun
   State n v es = FactsOf c n n v es × (Ran v.last es × Of Mute es)
 
   -- after an opening that goes on
-  opened : (n : ℕ) (w : World) (es : List Event) → FactsOf c n n w es → Ahead c 0 w → LeadsTo (λ v fs. FactsOf c n (n + 1) v fs × Ahead c 1 v) Anything es (opening c s w)
+  opened : (n : ℕ) (w : World) (es : List Event) → FactsOf c n n w es → Ahead c 0 w
+      → LeadsTo (λ v fs. FactsOf c n (n + 1) v fs × Ahead c 1 v) Anything es (opening c s w)
   opened n w es f a =
       leads_by (λ v fs. FactsOf c n (n + 1) v fs × Ahead c 1 v) Anything es (opening c s w)
-      (λ e. (led_on (FactsOf c n (n + 1)) Anything es (opening c s w) e (opening_facts c s rules n w es f), led_on (Alone (Ahead c 1)) Anything es (opening c s w) e (opening_ahead c s rules w es a))) (λ _. tt)
+      (λ e. (
+        led_on (FactsOf c n (n + 1)) Anything es (opening c s w) e (opening_facts c s rules n w es f),
+        led_on
+            (Alone (Ahead c 1)) Anything es (opening c s w) e (opening_ahead c s rules w es a),
+      )) (λ _. tt)
 
-  facts_next : (n : ℕ) (w : World) (es : List Event) → FactsOf c n n w es → Ahead c 0 w → LeadsTo (FactsOf c (n + 1) (n + 1)) Anything es (instant c s w)
+  facts_next : (n : ℕ) (w : World) (es : List Event) → FactsOf c n n w es → Ahead c 0 w
+      → LeadsTo (FactsOf c (n + 1) (n + 1)) Anything es (instant c s w)
   unfolding instant
   facts_next n w es f a =
-      followed_leads (λ v fs. FactsOf c n (n + 1) v fs × Ahead c 1 v) (FactsOf c (n + 1) (n + 1)) Anything es (opening c s w) (step c s) (opened n w es f a) (λ v ds p. step_facts c s rules n v ds p.0 p.1)
+      followed_leads (λ v fs. FactsOf c n (n + 1) v fs × Ahead c 1 v) (FactsOf c (n + 1) (n + 1)) Anything es
+      (opening c s w) (step c s) (opened n w es f a) (λ v ds p. step_facts c s rules n v ds p.0 p.1)
 
-  state_at : (n : ℕ) → GoesOnBefore c s n → State n (world_at c s n) (events_before c s n)
+  pub state_at : (n : ℕ) → GoesOnBefore c s n → State n (world_at c s n) (events_before c s n)
   unfolding world_at events_before instant_at last_owner after_round
   state_at zero g = (
     (
@@ -142,9 +168,14 @@ module _ (c : ConfigParts) (s : ScriptParts) (rules : IsConfig c) (script : IsSc
       let es = events_before c s n in
       let on = g n (omega arith) in
       let p = state_at n h in
-      let f = led_on (FactsOf c (n + 1) (n + 1)) Anything es (instant c s w) on (facts_next n w es p.0 (ahead_at c s rules n h)) in (
+      let f = led_on (FactsOf c (n + 1) (n + 1)) Anything es (instant c s w) on
+      (facts_next n w es p.0 (ahead_at c s rules n h)) in (
         subst (λ (j : ℕ). FactsOf c j j (world_at c s (suc n)) (events_before c s (suc n))) z f,
-        (led_on LastRan Anything es (instant c s w) on (instant_ran c s w es p.1.0), all_more Mute es (instant c s w).events p.1.1 ((said c s n w p.0.0).on on)),
+        (
+          led_on LastRan Anything es (instant c s w) on (instant_ran c s w es p.1.0),
+          all_more Mute es
+              (instant c s w).events p.1.1 ((said c s n w p.0.0).on on),
+        ),
       )
 
   abbrev n : ℕ
@@ -153,7 +184,7 @@ module _ (c : ConfigParts) (s : ScriptParts) (rules : IsConfig c) (script : IsSc
   bounded : IsBounded c s
   bounded = are_bounded c s rules script
 
-  before : (k : ℕ) → k ≤ n → GoesOnBefore c s k
+  pub before : (k : ℕ) → k ≤ n → GoesOnBefore c s k
   before k l j m = (last_is c s bounded).first j (omega arith)
 
   said_at : (k : ℕ) → k ≤ n → Said k (instant_at c s k)
@@ -161,22 +192,28 @@ module _ (c : ConfigParts) (s : ScriptParts) (rules : IsConfig c) (script : IsSc
   said_at k l = said c s k (world_at c s k) (state_at k (before k l)).0.0
 
   -- later instants are not seen
-  later_unseen : (u j : ℕ) → u + 1 ≤ j → j ≤ n + 1 → seen_at u (events_before c s j) ≡ seen_at u (events_before c s (suc u))
+  pub later_unseen : (u j : ℕ) → u + 1 ≤ j → j ≤ n + 1
+      → seen_at u (events_before c s j) ≡ seen_at u (events_before c s (suc u))
   unfolding events_before
   later_unseen u zero l m = absurd (omega arith)
   later_unseen u (suc j) l m =
       ⊎_elim
       (λ (lt : u < j).
       let fs = (instant_at c s j).events in
-      let none = none_seen u fs (each_of (λ e. j ≤ stamp_of e) (λ e. u + 1 ≤ stamp_of e) (λ e q. omega arith) fs (said_at j (omega arith)).low) in
-      filter-append (λ (event : Event). nat_le (stamp_of event) u) (events_before c s j) fs ∙ ap (λ (xs : List Event). seen_at u (events_before c s j) ++ xs) none ∙ append-nil (seen_at u (events_before c s j))
+      let none =
+      none_seen u fs (each_of (λ e. j ≤ stamp_of e) (λ e. u + 1 ≤ stamp_of e) (λ e q. omega arith) fs
+      (said_at j (omega arith)).low) in
+      filter-append (λ (event : Event). nat_le (stamp_of event) u) (events_before c s j) fs
+      ∙ ap (λ (xs : List Event). seen_at u (events_before c s j) ++ xs) none
+      ∙ append-nil (seen_at u (events_before c s j))
       ∙ later_unseen u j (omega arith) (omega arith))
       (λ (ge : j ≤ u). let same : j ≡ u = omega arith in ap (λ (k : ℕ). seen_at u (events_before c s (suc k))) same)
       (cases_lt u j)
 
   -- the owner that the events seen tell
   abbrev OwnerBy : List Event → Type 0
-  OwnerBy seen = IsOwner c (last_owner None seen) (flat_map (task_if seen) (present_round seen)) (flat_map (isr_if seen) seen)
+  OwnerBy seen = IsOwner c (last_owner None seen) (flat_map (task_if seen) (present_round seen))
+      (flat_map (isr_if seen) seen)
 
   module _ (u : ℕ) (l : u ≤ n) (on : is_over (opening c s (world_at c s u)).end ≡ false) where
     abbrev first : World
@@ -200,7 +237,8 @@ module _ (c : ConfigParts) (s : ScriptParts) (rules : IsConfig c) (script : IsSc
     abbrev state : State u first es
     state = state_at u (before u l)
 
-    seen_now : seen_at u (schedule c s) ≡ (es ++ o.events) ++ (line ++ now)
+    -- the events of a tick that the run takes: those before its instant, its opening, and its tick without the end
+    pub seen_now : seen_at u (schedule c s) ≡ (es ++ o.events) ++ (line ++ now)
     unfolding schedule events_before instant_at instant
     seen_now =
         let test = λ (event : Event). nat_le (stamp_of event) u in
@@ -211,28 +249,37 @@ module _ (c : ConfigParts) (s : ScriptParts) (rules : IsConfig c) (script : IsSc
         let split : fs ≡ o.events ++ (step c s o.world).events = followed_events o (step c s) on in
         let part : filter test fs ≡ o.events ++ (line ++ now) =
         ap (filter test) split ∙ filter-append test o.events (step c s o.world).events
-        ∙ ap (λ (xs : List Event). xs ++ filter test (step c s o.world).events) (all_seen u o.events (each_of (MuteAt u) (λ e. stamp_of e ≤ u) (λ e q. let z = q.0 in omega arith) o.events g))
+        ∙ ap (λ (xs : List Event). xs ++ filter test (step c s o.world).events)
+        (all_seen u o.events (each_of (MuteAt u) (λ e. stamp_of e ≤ u)
+        (λ e q. let z = q.0 in omega arith) o.events g))
         ∙ ap (λ (xs : List Event). o.events ++ xs) r.seen in
         later_unseen u (suc n) (omega arith) (omega arith)
-        ∙ filter-append test es fs ∙ ap (λ (xs : List Event). xs ++ filter test fs) (all_seen u es st.1.stamps) ∙ ap (λ (xs : List Event). es ++ xs) part
+        ∙ filter-append test es fs ∙ ap (λ (xs : List Event). xs ++ filter test fs) (all_seen u es st.1.stamps)
+        ∙ ap (λ (xs : List Event). es ++ xs) part
         ∙ sym (append_assoc es o.events (line ++ now))
 
     opened_now : FactsOf c u (u + 1) o.world (es ++ o.events)
-    opened_now = (led_on (λ v fs. FactsOf c u (u + 1) v fs × Ahead c 1 v) Anything es o on (opened u first es state.0 (ahead_at c s rules u (before u l)))).0
+    opened_now =
+        (led_on (λ v fs. FactsOf c u (u + 1) v fs × Ahead c 1 v) Anything es o on
+        (opened u first es state.0 (ahead_at c s rules u (before u l)))).0
 
     ran_now : last_owner None ((es ++ o.events) ++ (line ++ now)) ≡ Some who
     ran_now =
         let r = led_on LastRan Anything es o on (opening_ran c s first es state.1.0) in
-        ap (last_owner None) (sym (append_assoc (es ++ o.events) line now)) ∙ owner-append None ((es ++ o.events) ++ line) now
-        ∙ still_silent o.world.tick now (served_still c s o.world (runner_of c o.world) who) _ ∙ run_now c s o.world who (es ++ o.events) r
+        ap (last_owner None) (sym (append_assoc (es ++ o.events) line now))
+        ∙ owner-append None ((es ++ o.events) ++ line) now
+        ∙ still_silent o.world.tick now (served_still c s o.world (runner_of c o.world) who) _
+        ∙ run_now c s o.world who (es ++ o.events) r
 
     owner_now : OwnerBy (seen_at u (schedule c s))
     owner_now =
         let all = (es ++ o.events) ++ (line ++ now) in
         let is = is_owner c rules u (u + 1) o.world all (now_facts c s rules u o.world (es ++ o.events) opened_now) in
         subst OwnerBy (sym seen_now)
-        (subst (λ who. IsOwner c who (flat_map (task_if all) (present_round all)) (flat_map (isr_if all) all)) (sym ran_now)
-        (subst (λ tasks. IsOwner c (Some who) tasks (flat_map (isr_if all) all)) (sym (tasks_are all)) (subst (λ isrs. IsOwner c (Some who) (tasks_of all) isrs) (sym (isrs_are all)) is)))
+        (subst (λ who. IsOwner c who (flat_map (task_if all) (present_round all)) (flat_map (isr_if all) all))
+        (sym ran_now)
+        (subst (λ tasks. IsOwner c (Some who) tasks (flat_map (isr_if all) all)) (sym (tasks_are all))
+        (subst (λ isrs. IsOwner c (Some who) (tasks_of all) isrs) (sym (isrs_are all)) is)))
 
   -- no stamp is later than the last instant
   last_low : last_stamp (schedule c s) ≤ n
@@ -241,27 +288,36 @@ module _ (c : ConfigParts) (s : ScriptParts) (rules : IsConfig c) (script : IsSc
       let st = state_at n (before n (omega arith)) in
       let last = (said_at n (omega arith)).over (last_is c s bounded).ends in
       let fs = (instant_at c s n).events in
-      stamps_low n 0 (events_before c s n ++ fs) (omega arith) (all_more (λ e. stamp_of e ≤ n) (events_before c s n) fs st.0.1.stamps (each_of (IsAt n) (λ e. stamp_of e ≤ n) (λ e q. omega arith) fs last))
+      stamps_low n 0 (events_before c s n ++ fs) (omega arith)
+      (all_more (λ e. stamp_of e ≤ n) (events_before c s n) fs st.0.1.stamps
+      (each_of (IsAt n) (λ e. stamp_of e ≤ n) (λ e q. omega arith) fs last))
 
   goes_on : (u : ℕ) → u < n → is_over (opening c s (world_at c s u)).end ≡ false
   unfolding instant_at instant
   goes_on u l = followed_on (opening c s (world_at c s u)) (step c s) ((last_is c s bounded).first u l)
 
-  taken : (u : ℕ) → u < last_stamp (schedule c s) → OwnerBy (seen_at u (schedule c s))
-  taken u l =
-      let m = last_low in
-      owner_now u (omega arith) (goes_on u (omega arith))
-
-  shut : (u : ℕ) → status_of (schedule c s) ≡ Shut u → OwnerBy (seen_at u (schedule c s))
+  -- the opening of a tick that the run takes goes on
+  pub taken : (u : ℕ) → IsTaken (schedule c s) u
+      → (u ≤ n) × (is_over (opening c s (world_at c s u)).end ≡ false)
   unfolding schedule events_before instant_at
-  shut u h =
+  taken u t =
+      ⊎_elim
+      (λ (l : u < last_stamp (schedule c s)).
+      let m = last_low in
+      let early : u < n = omega arith in (omega arith, goes_on u early))
+      (λ (h : status_of (schedule c s) ≡ Shut u).
       let st = state_at n (before n (omega arith)) in
       let tells = sym (status_after (events_before c s n) (instant_at c s n).events st.1.1) ∙ h in
-      let same : u ≡ n = shut_at (instant_at c s n).events n u ((said_at n (omega arith)).over (last_is c s bounded).ends) tells in
-      subst (λ (k : ℕ). OwnerBy (seen_at k (schedule c s))) (sym same) (owner_now n (omega arith) (shut_on c s n (world_at c s n) st.0.0 u tells))
+      let same : u ≡ n = shut_at (instant_at c s n).events n u
+      ((said_at n (omega arith)).over (last_is c s bounded).ends) tells in (
+        omega arith,
+        subst (λ (k : ℕ). is_over (opening c s (world_at c s k)).end ≡ false) (sym same)
+            (shut_on c s n (world_at c s n) st.0.0 u tells),
+      ))
+      t
 
   owners_run : OwnersRun c (schedule c s)
-  owners_run u t = ⊎_elim (λ l. taken u l) (λ h. shut u h) t
+  owners_run u t = let h = taken u t in owner_now u h.0 h.1
 
 -- each tick has the owner that the events before it tell
 pub owners_are_right : OwnersLaw

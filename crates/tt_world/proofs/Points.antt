@@ -32,29 +32,37 @@ use Rattle.tt_world.proofs.Deadlines.{IsFrom, point_is_from}
 
 -- ---- checks that let the run go on
 
-then_met : (at : ℕ) (task : TaskNo) (met : Bool) (others : Checked) → (check_then at task met others).missed ≡ None → (met ≡ true) × (others.missed ≡ None)
+then_met : (at : ℕ) (task : TaskNo) (met : Bool) (others : Checked) → (check_then at task met others).missed ≡ None
+    → (met ≡ true) × (others.missed ≡ None)
 then_met at task true others e = (refl, e)
 then_met at task false others e = cc
 
-if_met : (due : Bool) (at : ℕ) (task : TaskNo) (met : Bool) (others : Checked) → (check_if due (check_then at task met others) others).missed ≡ None → (due ≡ true → met ≡ true) × (others.missed ≡ None)
+if_met : (due : Bool) (at : ℕ) (task : TaskNo) (met : Bool) (others : Checked)
+    → (check_if due (check_then at task met others) others).missed ≡ None
+    → (due ≡ true → met ≡ true) × (others.missed ≡ None)
 if_met true at task met others e = let p = then_met at task met others e in (λ _. p.0, p.1)
 if_met false at task met others e = (λ d. cc, e)
 
 -- where no check is missed, nothing is left of each activation whose point is due
-pub checked_done : (at : ℕ) (mode : ModeDef) (is_due : Point → Bool) (xs : List Job) → (checked at mode is_due xs).missed ≡ None → (place : ℕ) → place < length xs → is_due (point_of mode (row_of mode (job_at xs place).entry)) ≡ true → is_done (job_at xs place).left ≡ true
+pub checked_done : (at : ℕ) (mode : ModeDef) (is_due : Point → Bool) (xs : List Job)
+    → (checked at mode is_due xs).missed ≡ None → (place : ℕ) → place < length xs
+    → is_due (point_of mode (row_of mode (job_at xs place).entry)) ≡ true → is_done (job_at xs place).left ≡ true
 unfolding checked
 checked_done at mode is_due [] e place l d = absurd (omega arith)
 checked_done at mode is_due (x ∷ xs) e zero l d =
-    (if_met (is_due (point_of mode (row_of mode x.entry))) at (row_of mode x.entry).task (is_done x.left) (checked at mode is_due xs) e).0 d
+    (if_met (is_due (point_of mode (row_of mode x.entry))) at (row_of mode x.entry).task (is_done x.left)
+    (checked at mode is_due xs) e).0 d
 checked_done at mode is_due (x ∷ xs) e (suc place) l d =
-    checked_done at mode is_due xs (if_met (is_due (point_of mode (row_of mode x.entry))) at (row_of mode x.entry).task (is_done x.left) (checked at mode is_due xs) e).1 place (omega arith) d
+    checked_done at mode is_due xs (if_met (is_due (point_of mode (row_of mode x.entry))) at (row_of mode x.entry).task
+    (is_done x.left) (checked at mode is_due xs) e).1 place (omega arith) d
 
 -- ---- points that are still to come
 
 abbrev pub point_at : ConfigParts → World → ℕ → Point
 point_at c w place = point_of (mode_of c w) (row_of (mode_of c w) (job_at w.jobs place).entry)
 
--- the point of each activation with statements left is still to come: k is 0 before the checks of an instant, and 1 after them
+-- the point of each activation with statements left is still to come: k is 0 before the checks of an instant, and 1
+-- after them
 pub record Ahead (c : ConfigParts) (k : ℕ) (w : World) : Type 0 where
   pub started : w.start ≤ w.tick
   pub ahead : (place : ℕ) → place < length w.jobs → is_done (job_at w.jobs place).left ≡ false
@@ -75,17 +83,21 @@ later_point a b (point.At place) l h = omega arith
 later_point a b point.RoundEnd l h = tt
 
 -- the round is not over
-round_on : (c : ConfigParts) (latched : Option ℕ) (offset : ℕ) → Stands Begun c latched offset → IsRoundOn c latched offset
+round_on : (c : ConfigParts) (latched : Option ℕ) (offset : ℕ) → Stands Begun c latched offset
+    → IsRoundOn c latched offset
 round_on c None offset h = h
 round_on c (Some length) offset h = h.1
 
-after_point : (c : ConfigParts) (latched : Option ℕ) (offset : ℕ) (p : Point) → IsFrom (offset + 1) p → IsRoundOn c latched offset → IsAfter c latched offset p
+after_point : (c : ConfigParts) (latched : Option ℕ) (offset : ℕ) (p : Point) → IsFrom (offset + 1) p
+    → IsRoundOn c latched offset → IsAfter c latched offset p
 after_point c latched offset (point.At place) h r = omega arith
 after_point c latched offset point.RoundEnd h r = r
 
-pub points_ahead : (c : ConfigParts) (s : ScriptParts) (w : World) → Ahead c 1 w → Timed Begun c s w → ArePointsAhead c w
+pub points_ahead : (c : ConfigParts) (s : ScriptParts) (w : World) → Ahead c 1 w → Timed Begun c s w
+    → ArePointsAhead c w
 points_ahead c s w a t place u =
-    after_point c w.latched (offset_of w) (point_at c w place) (a.ahead place u.within u.undone) (round_on c w.latched (offset_of w) t.stands)
+    after_point c w.latched (offset_of w) (point_at c w place) (a.ahead place u.within u.undone)
+    (round_on c w.latched (offset_of w) t.stands)
 
 module _ (c : ConfigParts) (s : ScriptParts) (rules : IsConfig c) where
   head_ahead : (w : World) (es : List Event) → w.tick ≡ 0 → Ahead c 0 w → Holds (Ahead c 0) es (head s w)
@@ -95,7 +107,8 @@ module _ (c : ConfigParts) (s : ScriptParts) (rules : IsConfig c) where
   latch_ahead : Leads (Alone (Ahead c 0)) (Alone (Ahead c 0)) Anything (latch c)
   unfolding latch
   latch_ahead w es a =
-      cond_both (eqb (offset_of w) (c.round - c.adjust)) _ _ (Holds (Ahead c 0) es) (λ _. record { started = a.started; ahead = a.ahead }) (λ _. a)
+      cond_both (eqb (offset_of w) (c.round - c.adjust)) _ _ (Holds (Ahead c 0) es)
+      (λ _. record { started = a.started; ahead = a.ahead }) (λ _. a)
 
   next_round_ahead : (w : World) (es : List Event) → Ahead c 0 w → Holds (Ahead c 0) es (next_round s w)
   unfolding next_round
@@ -107,7 +120,8 @@ module _ (c : ConfigParts) (s : ScriptParts) (rules : IsConfig c) where
   unfolding round_end
   round_end_ahead w es a =
       cond_both (is_length w.latched (offset_of w)) _ _ (Holds (Ahead c 0) es)
-      (λ _. followed_leads (Alone (Ahead c 0)) (Alone (Ahead c 0)) Anything es (monitored c (is_at_end (offset_of w)) w) (next_round s)
+      (λ _. followed_leads (Alone (Ahead c 0)) (Alone (Ahead c 0)) Anything es (monitored c (is_at_end (offset_of w)) w)
+      (next_round s)
       (monitored_holds (Ahead c 0) c (is_at_end (offset_of w)) w es (λ _. a)) next_round_ahead)
       (λ _. a)
 
@@ -121,19 +135,23 @@ module _ (c : ConfigParts) (s : ScriptParts) (rules : IsConfig c) where
             ⊎_elim
             (λ (d : is_at (offset_of w) (point_at c w place) ≡ true).
             absurd (false≢true (sym u ∙ checked_done w.tick (mode_of c w) (is_at (offset_of w)) w.jobs none place l d)))
-            (λ (d : is_at (offset_of w) (point_at c w place) ≡ false). passed (offset_of w) (point_at c w place) (a.ahead place l u) d)
+            (λ (d : is_at (offset_of w) (point_at c w place) ≡ false). passed (offset_of w) (point_at c w place)
+            (a.ahead place l u) d)
             (cases_Bool (is_at (offset_of w) (point_at c w place)));
       })
 
-  new_point : (w : World) (entry : ℕ) → entry_at (offset_of w) (mode_of c w).activations ≡ Some entry → IsFrom (offset_of w + 1) (point_of (mode_of c w) (row_of (mode_of c w) entry))
+  new_point : (w : World) (entry : ℕ) → entry_at (offset_of w) (mode_of c w).activations ≡ Some entry
+      → IsFrom (offset_of w + 1) (point_of (mode_of c w) (row_of (mode_of c w) entry))
   new_point w entry e =
       let found = row_found (offset_of w) entry (mode_of c w) e in
       let l = deadline_after c (mode_of c w) entry (mode_rows c w.mode.0 rules) found.0 in
       let here = found.1 in
-      later_point (row_of (mode_of c w) entry).deadline _ (point_of (mode_of c w) (row_of (mode_of c w) entry)) (omega arith)
+      later_point (row_of (mode_of c w) entry).deadline _ (point_of (mode_of c w) (row_of (mode_of c w) entry))
+      (omega arith)
       (point_is_from (mode_of c w) (row_of (mode_of c w) entry))
 
-  activated_ahead : (w : World) (es : List Event) → Ahead c 1 w → (found : Option ℕ) → entry_at (offset_of w) (mode_of c w).activations ≡ found → Holds (Ahead c 1) es (activated c found w)
+  activated_ahead : (w : World) (es : List Event) → Ahead c 1 w → (found : Option ℕ)
+      → entry_at (offset_of w) (mode_of c w).activations ≡ found → Holds (Ahead c 1) es (activated c found w)
   activated_ahead w es a None e = a
   activated_ahead w es a (Some entry) e =
       let y : Job = record { entry = entry; left = body_of c (row_of (mode_of c w) entry).task } in
@@ -145,7 +163,8 @@ module _ (c : ConfigParts) (s : ScriptParts) (rules : IsConfig c) where
             subst (λ x. IsFrom (offset_of w + 1) (point_of (mode_of c w) (row_of (mode_of c w) x.entry))) (sym old.1)
             (a.ahead place old.0 (sym (ap (λ x. is_done x.left) old.1) ∙ u)))
             (λ (new : IsNewPlace w.jobs y place).
-            subst (λ x. IsFrom (offset_of w + 1) (point_of (mode_of c w) (row_of (mode_of c w) x.entry))) (sym new.1) (new_point w entry e))
+            subst (λ x. IsFrom (offset_of w + 1) (point_of (mode_of c w) (row_of (mode_of c w) x.entry))) (sym new.1)
+            (new_point w entry e))
             (place_of_more w.jobs y place l);
       }
 
@@ -166,15 +185,18 @@ module _ (c : ConfigParts) (s : ScriptParts) (rules : IsConfig c) where
   }
 
   -- what has statements left after the tick had some before it
-  pub left_undone : (w : World) (q : ℕ) (after : List Stmt) → IsLeftAfter c s w (runner.Job q) after → is_done after ≡ false → is_done (job_at w.jobs q).left ≡ false
+  pub left_undone : (w : World) (q : ℕ) (after : List Stmt) → IsLeftAfter c s w (runner.Job q) after
+      → is_done after ≡ false → is_done (job_at w.jobs q).left ≡ false
   left_undone w q after l u =
       ⊎_elim
       (λ (e : after ≡ (state_after c s w (job_at w.jobs q).left).left). tick_undone c s w _ (sym (ap is_done e) ∙ u))
       (λ (o : (after ≡ []) ⊎ IsOsek (runner.Job q)).
-      ⊎_elim (λ (e : after ≡ []). absurd (false≢true (sym u ∙ ap is_done e))) (λ (o : IsOsek (runner.Job q)). absurd o) o)
+      ⊎_elim (λ (e : after ≡ []). absurd (false≢true (sym u ∙ ap is_done e)))
+      (λ (o : IsOsek (runner.Job q)). absurd o) o)
       l
 
-  left_ahead : (w : World) (r : Runner) (after : List Stmt) → Ahead c 1 w → IsLeftAfter c s w r after → Ahead c 1 (leaving w r after)
+  left_ahead : (w : World) (r : Runner) (after : List Stmt) → Ahead c 1 w → IsLeftAfter c s w r after
+      → Ahead c 1 (leaving w r after)
   left_ahead w (runner.Job q) after a l =
       record {
         started = a.started;
@@ -182,7 +204,8 @@ module _ (c : ConfigParts) (s : ScriptParts) (rules : IsConfig c) where
             let within : place < length w.jobs = place_of_set w.jobs q after place i in
             let undone = undone_before w.jobs q place after (left_undone w q after l) i u in
             let same = entry_of_set w.jobs q after place i in
-            subst (λ (entry : ℕ). IsFrom ((w.tick - w.start) + 1) (point_of (mode_of c w) (row_of (mode_of c w) entry))) (sym same) (a.ahead place within undone);
+            subst (λ (entry : ℕ). IsFrom ((w.tick - w.start) + 1) (point_of (mode_of c w) (row_of (mode_of c w) entry)))
+            (sym same) (a.ahead place within undone);
       }
   left_ahead w (runner.Isr isr) after a l = record { started = a.started; ahead = a.ahead }
   left_ahead w (runner.Oisr oisr) after a l = record { started = a.started; ahead = a.ahead }
@@ -199,13 +222,15 @@ module _ (c : ConfigParts) (s : ScriptParts) (rules : IsConfig c) where
         let later : (w.tick + 1) - w.start ≡ (w.tick - w.start) + 1 = omega arith in
         record {
           started = omega arith;
-          ahead = λ place i u. later_point ((w.tick - w.start) + 1) _ (point_at c w place) (omega arith) (a.ahead place i u);
+          ahead = λ place i u. later_point ((w.tick - w.start) + 1) _ (point_at c w place) (omega arith)
+              (a.ahead place i u);
         };
   }
 
   pub instant_ahead : (w : World) (es : List Event) → Ahead c 0 w → Holds (Ahead c 0) es (instant c s w)
   instant_ahead w es a =
-      instant_leads c s (AheadAt c) Anything opening_keeps (Alone (Ahead c 0)) (step_holds c s (Ahead c 1) (Ahead c 1) (Ahead c 0) step_keeps) w es a
+      instant_leads c s (AheadAt c) Anything opening_keeps (Alone (Ahead c 0))
+      (step_holds c s (Ahead c 1) (Ahead c 1) (Ahead c 0) step_keeps) w es a
 
   pub opening_ahead : (w : World) (es : List Event) → Ahead c 0 w → Holds (Ahead c 1) es (opening c s w)
   opening_ahead w es a = opening_leads c s (AheadAt c) Anything opening_keeps w es a

@@ -42,7 +42,8 @@ Found : ℕ → List Job → Option ℕ → Type 0
 Found n xs None = NoneUnfinished xs
 Found n xs (Some q) = IsLastUnfinished n xs q
 
-found_here : (n : ℕ) (x : Job) (xs : List Job) (o : Option ℕ) → Found (n + 1) xs o → Found n (x ∷ xs) (or_else o (cond (is_done x.left) None (Some n)))
+found_here : (n : ℕ) (x : Job) (xs : List Job) (o : Option ℕ) → Found (n + 1) xs o
+    → Found n (x ∷ xs) (or_else o (cond (is_done x.left) None (Some n)))
 unfolding Found NoneUnfinished
 found_here n x xs (Some q) f =
     let low = f.low in
@@ -78,7 +79,8 @@ pub last_found_at : (xs : List Job) (q : ℕ) → last_unfinished 0 xs ≡ Some 
 unfolding Found
 last_found_at xs q e = subst (Found 0 xs) e (last_found 0 xs)
 
-pub none_found : (xs : List Job) → last_unfinished 0 xs ≡ None → (p : ℕ) → p < length xs → is_done (get_or xs p no_job).left ≡ false → ⊥
+pub none_found : (xs : List Job) → last_unfinished 0 xs ≡ None → (p : ℕ) → p < length xs
+    → is_done (get_or xs p no_job).left ≡ false → ⊥
 unfolding Found NoneUnfinished
 none_found xs e = subst (Found 0 xs) e (last_found 0 xs)
 
@@ -89,7 +91,10 @@ Says xs (runner.Job q) = last_unfinished 0 xs ≡ Some q
 Says xs r = last_unfinished 0 xs ≡ None
 
 says : (xs : List Job) (i t o k : Option ℕ) → last_unfinished 0 xs ≡ t
-    → Says xs (first_runner (option_map (λ (n : ℕ). runner.Isr (record { 0 = n })) i ∷ option_map (λ (n : ℕ). runner.Job n) t ∷ option_map (λ (n : ℕ). runner.Oisr (record { 0 = n })) o ∷ option_map (λ (n : ℕ). runner.Osek (record { 0 = n })) k ∷ []))
+    → Says xs
+    (first_runner (option_map (λ (n : ℕ). runner.Isr (record { 0 = n })) i ∷ option_map
+    (λ (n : ℕ). runner.Job n) t ∷ option_map (λ (n : ℕ). runner.Oisr (record { 0 = n })) o ∷ option_map
+    (λ (n : ℕ). runner.Osek (record { 0 = n })) k ∷ []))
 says xs (Some n) t o k e = tt
 says xs None (Some q) o k e = e
 says xs None None (Some n) k e = e
@@ -103,15 +108,18 @@ runner_says c w = says w.jobs _ (last_unfinished 0 w.jobs) _ _ refl
 -- ---- what is owed
 
 -- what is left of one activation gets less: so does what it and those before it owe
-pub owed_less : (c : ConfigParts) (w : World) (p q : ℕ) (left : List Stmt) → p ≤ q → q < length w.jobs → worst_in c.demands left + 1 ≤ worst_in c.demands (job_at w.jobs q).left
+pub owed_less : (c : ConfigParts) (w : World) (p q : ℕ) (left : List Stmt) → p ≤ q → q < length w.jobs
+    → worst_in c.demands left + 1 ≤ worst_in c.demands (job_at w.jobs q).left
     → owed_from c (leaving w (runner.Job q) left) p + 1 ≤ owed_from c w p
 owed_less c w p q left le within less =
     let xs = w.jobs in
     let y : Job = record { entry = (job_at xs q).entry; left = left } in
     let f : Job → ℕ = λ (job : Job). worst_in c.demands job.left in
     let qi : q ≡ p + (q - p) = omega arith in
-    let cut : drop p (set xs q y) ≡ set (drop p xs) (q - p) y = ap (λ k. drop p (set xs k y)) qi ∙ drop-set-add p xs (q - p) y in
-    let got : get_or (drop p xs) (q - p) no_job ≡ get_or xs q no_job = get_or-drop p xs (q - p) no_job ∙ ap (λ k. get_or xs k no_job) (sym qi) in
+    let cut : drop p (set xs q y) ≡ set (drop p xs) (q - p) y = ap (λ k. drop p (set xs k y)) qi
+    ∙ drop-set-add p xs (q - p) y in
+    let got : get_or (drop p xs) (q - p) no_job ≡ get_or xs q no_job = get_or-drop p xs (q - p) no_job
+    ∙ ap (λ k. get_or xs k no_job) (sym qi) in
     let sums = sum_by-set f (drop p xs) (q - p) y no_job (let d = length-drop p xs in omega arith) in
     let f1 : sum_by f (drop p (set xs q y)) ≡ sum_by f (set (drop p xs) (q - p) y) = ap (sum_by f) cut in
     let f2 : f (get_or (drop p xs) (q - p) no_job) ≡ f (get_or xs q no_job) = ap f got in
@@ -128,19 +136,24 @@ is_any_isr r = false
 abbrev pub taken : (Runner → Bool) → ConfigParts → ScriptParts → (from T : ℕ) → ℕ
 taken test c s from T = ticks_of test c s from (T - from)
 
-taken_next : (test : Runner → Bool) (c : ConfigParts) (s : ScriptParts) (from T : ℕ) → from ≤ T → taken test c s from (T + 1) ≡ taken test c s from T + (if test (runner_at c s T) then 1 else 0)
+taken_next : (test : Runner → Bool) (c : ConfigParts) (s : ScriptParts) (from T : ℕ) → from ≤ T
+    → taken test c s from (T + 1) ≡ taken test c s from T + (if test (runner_at c s T) then 1 else 0)
 unfolding ticks_of
 taken_next test c s from T l =
     let a : (T + 1) - from ≡ suc (T - from) = omega arith in
     let b : from + (T - from) ≡ T = omega arith in
-    ap (λ (k : ℕ). ticks_of test c s from k) a ∙ ap (λ (n : ℕ). ticks_of test c s from (T - from) + (if test (runner_at c s n) then 1 else 0)) b
+    ap (λ (k : ℕ). ticks_of test c s from k) a
+    ∙ ap (λ (n : ℕ). ticks_of test c s from (T - from) + (if test (runner_at c s n) then 1 else 0)) b
 
--- of an unfinished activation of a round that began at `start`, where the activations before N and the ticks before T have happened
+-- of an unfinished activation of a round that began at `start`, where the activations before N and the ticks before T
+-- have happened
 pub record Owed (c : ConfigParts) (s : ScriptParts) (N T start : ℕ) (mode : ModeDef) (entry owed : ℕ) : Type 0 where
   pub row : entry < length mode.activations
   pub begun : start + (row_of mode entry).offset < N
-  pub split : T - (start + (row_of mode entry).offset) ≡ taken is_task c s (start + (row_of mode entry).offset) T + taken is_any_isr c s (start + (row_of mode entry).offset) T
-  pub tasks : taken is_task c s (start + (row_of mode entry).offset) T + owed ≤ tasks_demand c mode (row_of mode entry).offset (N - start)
+  pub split : T - (start + (row_of mode entry).offset) ≡ taken is_task c s
+      (start + (row_of mode entry).offset) T + taken is_any_isr c s (start + (row_of mode entry).offset) T
+  pub tasks : taken is_task c s (start + (row_of mode entry).offset) T + owed ≤ tasks_demand c mode
+      (row_of mode entry).offset (N - start)
 
 pub record Tasks (c : ConfigParts) (s : ScriptParts) (N T : ℕ) (w : World) : Type 0 where
   pub numbers : (place : ℕ) → AreNumbersInRange (job_at w.jobs place).left
@@ -151,7 +164,8 @@ pub record Tasks (c : ConfigParts) (s : ScriptParts) (N T : ℕ) (w : World) : T
 
 -- one more tick was taken by an activation or by a time-triggered routine, and what is owed got less by it
 owed_tick : (c : ConfigParts) (s : ScriptParts) (N T start : ℕ) (mode : ModeDef) (entry owed less : ℕ) → N ≤ T + 1
-    → ((if is_task (runner_at c s T) then 1 else 0) + (if is_any_isr (runner_at c s T) then 1 else 0) ≡ 1) → less + (if is_task (runner_at c s T) then 1 else 0) ≤ owed
+    → ((if is_task (runner_at c s T) then 1 else 0) + (if is_any_isr (runner_at c s T) then 1 else 0) ≡ 1)
+    → less + (if is_task (runner_at c s T) then 1 else 0) ≤ owed
     → Owed c s N T start mode entry owed → Owed c s N (T + 1) start mode entry less
 owed_tick c s N T start mode entry owed less n one l o =
     let from = start + (row_of mode entry).offset in
@@ -170,7 +184,8 @@ module _ (c : ConfigParts) (s : ScriptParts) (rules : IsConfig c) (bounds : Keep
   undone_some left e f = false≢true (sym e ∙ ap is_done f)
 
   -- what is left of an activation that runs
-  less : (w : World) (q : ℕ) (after : List Stmt) → is_done (job_at w.jobs q).left ≡ false → AreNumbersInRange (job_at w.jobs q).left → IsLeftAfter c s w (runner.Job q) after
+  less : (w : World) (q : ℕ) (after : List Stmt) → is_done (job_at w.jobs q).left ≡ false
+      → AreNumbersInRange (job_at w.jobs q).left → IsLeftAfter c s w (runner.Job q) after
       → AreNumbersInRange after × (worst_in c.demands after + 1 ≤ worst_in c.demands (job_at w.jobs q).left)
   less w q after u numbers l =
       let old = (job_at w.jobs q).left in
@@ -179,15 +194,23 @@ module _ (c : ConfigParts) (s : ScriptParts) (rules : IsConfig c) (bounds : Keep
       let lower = lowers_worst supply state keeps numbers (undone_some old u) in
       let range = keeps_numbers supply state keeps rules.mosts numbers in
       ⊎_elim
-      (λ (e : after ≡ (state_after c s w old).left).
-      (subst AreNumbersInRange (sym e) range, subst (λ (x : List Stmt). worst_in c.demands x + 1 ≤ worst_in c.demands old) (sym e) lower))
+      (λ (e : after ≡ (state_after c s w old).left). (
+        subst AreNumbersInRange (sym e) range,
+        subst
+            (λ (x : List Stmt). worst_in c.demands x + 1 ≤ worst_in c.demands old) (sym e) lower,
+      ))
       (λ (o : (after ≡ []) ⊎ IsOsek (runner.Job q)).
       ⊎_elim
-      (λ (e : after ≡ []). (subst AreNumbersInRange (sym e) refl, subst (λ (x : List Stmt). worst_in c.demands x + 1 ≤ worst_in c.demands old) (sym e) (omega arith)))
+      (λ (e : after ≡ []). (
+        subst AreNumbersInRange (sym e) refl,
+        subst
+            (λ (x : List Stmt). worst_in c.demands x + 1 ≤ worst_in c.demands old) (sym e) (omega arith),
+      ))
       (λ (o : IsOsek (runner.Job q)). absurd o) o)
       l
 
-  place_numbers : (xs : List Job) (q place : ℕ) (after : List Stmt) → q < length xs → AreNumbersInRange after → AreNumbersInRange (job_at xs place).left → AreNumbersInRange (job_at (with_left xs q after) place).left
+  place_numbers : (xs : List Job) (q place : ℕ) (after : List Stmt) → q < length xs → AreNumbersInRange after
+      → AreNumbersInRange (job_at xs place).left → AreNumbersInRange (job_at (with_left xs q after) place).left
   place_numbers xs q place after within a b =
       ⊎_elim
       (λ (e : place ≡ q). rw (e, at_set xs q after within) a)
@@ -201,17 +224,25 @@ module _ (c : ConfigParts) (s : ScriptParts) (rules : IsConfig c) (bounds : Keep
     New : ℕ → World → Type 0
     New at w = (w.tick ≡ at) × Tasks c s N (T + 1) w
 
-    one_isr : (w : World) → Says w.jobs (runner_of c w) → (r : Runner) → runner_of c w ≡ r → (after : List Stmt) → IsLeftAfter c s w r after → Tasks c s N T w → runner_at c s T ≡ r → Tasks c s N (T + 1) (leaving w r after)
+    one_isr : (w : World) → Says w.jobs (runner_of c w) → (r : Runner) → runner_of c w ≡ r → (after : List Stmt)
+        → IsLeftAfter c s w r after → Tasks c s N T w → runner_at c s T ≡ r → Tasks c s N (T + 1) (leaving w r after)
     one_isr w said (runner.Isr j) e after l t r =
-        let one : ◌≡◌ {A = ℕ} ((if is_task (runner_at c s T) then 1 else 0) + (if is_any_isr (runner_at c s T) then 1 else 0)) 1 = ap (λ (x : Runner). (if is_task x then 1 else 0) + (if is_any_isr x then 1 else 0)) r in
-        let none : ◌≡◌ {A = ℕ} (if is_task (runner_at c s T) then 1 else 0) 0 = ap {B = ℕ} (λ (x : Runner). if is_task x then 1 else 0) r in
+        let one : ◌≡◌ {A = ℕ} ((if is_task (runner_at c s T) then 1 else 0) +
+        (if is_any_isr (runner_at c s T) then 1 else 0)) 1 =
+        ap (λ (x : Runner). (if is_task x then 1 else 0) + (if is_any_isr x then 1 else 0)) r in
+        let none : ◌≡◌ {A = ℕ} (if is_task (runner_at c s T) then 1 else 0) 0 =
+        ap {B = ℕ} (λ (x : Runner). if is_task x then 1 else 0) r in
         record {
           numbers = t.numbers;
-          each = λ place i u. owed_tick c s N T w.start (mode_of c w) _ (owed_from c w place) (owed_from c w place) n one (omega arith) (t.each place i u);
+          each = λ place i u. owed_tick c s N T w.start (mode_of c w) _ (owed_from c w place)
+              (owed_from c w place) n one (omega arith) (t.each place i u);
         }
     one_isr w said (runner.Job q) e after l t r =
-        let one : ◌≡◌ {A = ℕ} ((if is_task (runner_at c s T) then 1 else 0) + (if is_any_isr (runner_at c s T) then 1 else 0)) 1 = ap (λ (x : Runner). (if is_task x then 1 else 0) + (if is_any_isr x then 1 else 0)) r in
-        let some : ◌≡◌ {A = ℕ} (if is_task (runner_at c s T) then 1 else 0) 1 = ap {B = ℕ} (λ (x : Runner). if is_task x then 1 else 0) r in
+        let one : ◌≡◌ {A = ℕ} ((if is_task (runner_at c s T) then 1 else 0) +
+        (if is_any_isr (runner_at c s T) then 1 else 0)) 1 =
+        ap (λ (x : Runner). (if is_task x then 1 else 0) + (if is_any_isr x then 1 else 0)) r in
+        let some : ◌≡◌ {A = ℕ} (if is_task (runner_at c s T) then 1 else 0) 1 =
+        ap {B = ℕ} (λ (x : Runner). if is_task x then 1 else 0) r in
         let found = last_found_at w.jobs q (subst (Says w.jobs) e said) in
         let zero_less : q - 0 ≡ q = omega arith in
         let within : q < length w.jobs = let x = found.within in omega arith in
@@ -224,20 +255,39 @@ module _ (c : ConfigParts) (s : ScriptParts) (rules : IsConfig c) (bounds : Keep
               let before = undone_before w.jobs q place after (λ _. undone) i u in
               let late = found.after place here before in
               let owed = owed_less c w place q after (omega arith) within h.1 in
-              subst (λ (entry : ℕ). Owed c s N (T + 1) w.start (mode_of c w) entry (owed_from c (leaving w (runner.Job q) after) place)) (sym (entry_of_set w.jobs q after place i))
-              (owed_tick c s N T w.start (mode_of c w) _ (owed_from c w place) (owed_from c (leaving w (runner.Job q) after) place) n one (omega arith) (t.each place here before));
+              subst (λ (entry : ℕ). Owed c s N (T + 1) w.start (mode_of c w) entry
+              (owed_from c (leaving w (runner.Job q) after) place)) (sym (entry_of_set w.jobs q after place i))
+              (owed_tick c s N T w.start (mode_of c w) _ (owed_from c w place)
+              (owed_from c (leaving w (runner.Job q) after) place) n one (omega arith) (t.each place here before));
         }
     one_isr w said (runner.Oisr o) e after l t r =
-        record { numbers = t.numbers; each = λ place i u. absurd (none_found w.jobs (subst (Says w.jobs) e said) place i u) }
+        record {
+          numbers = t.numbers;
+          each =
+              λ place i u. absurd (none_found w.jobs (subst (Says w.jobs) e said) place i u);
+        }
     one_isr w said (runner.Osek o) e after l t r =
-        record { numbers = t.numbers; each = λ place i u. absurd (none_found w.jobs (subst (Says w.jobs) e said) place i u) }
+        record {
+          numbers = t.numbers;
+          each =
+              λ place i u. absurd (none_found w.jobs (subst (Says w.jobs) e said) place i u);
+        }
     one_isr w said runner.Nobody e after l t r =
-        record { numbers = t.numbers; each = λ place i u. absurd (none_found w.jobs (subst (Says w.jobs) e said) place i u) }
+        record {
+          numbers = t.numbers;
+          each =
+              λ place i u. absurd (none_found w.jobs (subst (Says w.jobs) e said) place i u);
+        }
 
     step_keeps : StepKeeps c s Old (New T) (New (T + 1))
     unfolding Old New
     step_keeps = record {
-      left = λ w after p l. (leaving_tick w (runner_of c w) after p.1.0, one_isr w (runner_says c w) (runner_of c w) refl after l p.1.1 p.0);
+      left =
+          λ w after p l. (
+            leaving_tick w (runner_of c w) after p.1.0,
+            one_isr w (runner_says c w)
+                (runner_of c w) refl after l p.1.1 p.0,
+          );
       free = λ w vars cursors wanted used oseks p. (p.0, record { numbers = p.1.numbers; each = p.1.each });
       synced = λ w global p. (p.0, record { numbers = p.1.numbers; each = p.1.each });
       over = λ w last p. (omega (arith, p.0), record { numbers = p.1.numbers; each = p.1.each });
@@ -251,6 +301,8 @@ module _ (c : ConfigParts) (s : ScriptParts) (rules : IsConfig c) (bounds : Keep
         leaving_tick w runner.Nobody after e = e
 
     -- the account is kept by a tick
-    pub step_tasks : (w : World) (es : List Event) → (runner_at c s T ≡ runner_of c w) × ((w.tick ≡ T) × Tasks c s N T w) → Holds (λ v. (v.tick ≡ T + 1) × Tasks c s N (T + 1) v) es (step c s w)
+    pub step_tasks : (w : World) (es : List Event)
+        → (runner_at c s T ≡ runner_of c w) × ((w.tick ≡ T) × Tasks c s N T w)
+        → Holds (λ v. (v.tick ≡ T + 1) × Tasks c s N (T + 1) v) es (step c s w)
     unfolding Old New
     step_tasks w es p = step_holds c s Old (New T) (New (T + 1)) step_keeps w es p

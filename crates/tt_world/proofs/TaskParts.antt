@@ -37,11 +37,13 @@ use Rattle.tt_world.proofs.TaskAccounts.{Owed, Tasks}
 within_more : (v from to x : ℕ) → cond {A = ℕ} (is_within from to x) v 0 ≤ cond {A = ℕ} (is_within from (to + 1) x) v 0
 within_more v from to x = grind (arith, nat_tests)
 
-within_here : (v from to x : ℕ) → x ≡ to → from ≤ to → cond {A = ℕ} (is_within from to x) v 0 + v ≤ cond {A = ℕ} (is_within from (to + 1) x) v 0
+within_here : (v from to x : ℕ) → x ≡ to → from ≤ to
+    → cond {A = ℕ} (is_within from to x) v 0 + v ≤ cond {A = ℕ} (is_within from (to + 1) x) v 0
 within_here v from to x e l = grind (arith, nat_tests)
 
 -- a sum of terms that are no larger, and smaller by this at one place
-pub sum_by-le_at : {X : Type 0} (f g : X → ℕ) (xs : List X) (i k : ℕ) (d : X) → i < length xs → ((x : X) → f x ≤ g x) → f (get_or xs i d) + k ≤ g (get_or xs i d) → sum_by f xs + k ≤ sum_by g xs
+pub sum_by-le_at : {X : Type 0} (f g : X → ℕ) (xs : List X) (i k : ℕ) (d : X) → i < length xs → ((x : X) → f x ≤ g x)
+    → f (get_or xs i d) + k ≤ g (get_or xs i d) → sum_by f xs + k ≤ sum_by g xs
 sum_by-le_at f g [] i k d l h e = absurd (omega arith)
 sum_by-le_at f g (x ∷ xs) zero k d l h e =
     let p = sum_by-cons f x xs in let q = sum_by-cons g x xs in let r = sum_by-le-sum_by f g xs h in omega arith
@@ -49,13 +51,20 @@ sum_by-le_at f g (x ∷ xs) (suc i) k d l h e =
     let p = sum_by-cons f x xs in let q = sum_by-cons g x xs in
     let r = sum_by-le_at f g xs i k d (omega arith) h e in let m = h x in omega arith
 
-demand_more : (c : ConfigParts) (mode : ModeDef) (from to : ℕ) → tasks_demand c mode from to ≤ tasks_demand c mode from (to + 1)
-demand_more c mode from to = sum_by-le-sum_by _ _ mode.activations (λ (x : Activation). within_more (task_budget c x) from to x.offset)
+demand_more : (c : ConfigParts) (mode : ModeDef) (from to : ℕ)
+    → tasks_demand c mode from to ≤ tasks_demand c mode from (to + 1)
+demand_more c mode from to = sum_by-le-sum_by _ _ mode.activations
+    (λ (x : Activation). within_more (task_budget c x) from to x.offset)
 
-demand_found : (c : ConfigParts) (mode : ModeDef) (from to n : ℕ) → from ≤ to → n < length mode.activations → (row_of mode n).offset ≡ to → tasks_demand c mode from to + task_budget c (row_of mode n) ≤ tasks_demand c mode from (to + 1)
+demand_found : (c : ConfigParts) (mode : ModeDef) (from to n : ℕ) → from ≤ to → n < length mode.activations
+    → (row_of mode n).offset ≡ to → tasks_demand c mode from to + task_budget c
+    (row_of mode n) ≤ tasks_demand c mode from (to + 1)
 demand_found c mode from to n l h e =
-    sum_by-le_at (λ (x : Activation). cond {A = ℕ} (is_within from to x.offset) (task_budget c x) 0) (λ (x : Activation). cond {A = ℕ} (is_within from (to + 1) x.offset) (task_budget c x) 0) mode.activations n (task_budget c (row_of mode n)) no_row h
-    (λ (x : Activation). within_more (task_budget c x) from to x.offset) (within_here (task_budget c (row_of mode n)) from to (row_of mode n).offset e l)
+    sum_by-le_at (λ (x : Activation). cond {A = ℕ} (is_within from to x.offset) (task_budget c x) 0)
+    (λ (x : Activation). cond {A = ℕ} (is_within from (to + 1) x.offset) (task_budget c x) 0) mode.activations n
+    (task_budget c (row_of mode n)) no_row h
+    (λ (x : Activation). within_more (task_budget c x) from to x.offset)
+    (within_here (task_budget c (row_of mode n)) from to (row_of mode n).offset e l)
 
 module _ (c : ConfigParts) (s : ScriptParts) (rules : IsConfig c) (T : ℕ) where
   -- what is due up to tick N, at tick T
@@ -70,13 +79,17 @@ module _ (c : ConfigParts) (s : ScriptParts) (rules : IsConfig c) (T : ℕ) wher
 
   body_worst : (task : TaskNo) → worst_in c.demands (body_of c task) ≡ (get_or c.tasks task.0 no_task).budget
   body_worst task =
-      ⊎_elim (λ (l : task.0 < length c.tasks). sym (All-get_or (IsTask c) c.tasks task.0 no_task l rules.tasks).routine.worst)
-      (λ (g : length c.tasks ≤ task.0). rw (get_or_past c.tasks task.0 no_task g) refl) (cases_lt task.0 (length c.tasks))
+      ⊎_elim (λ (l : task.0 < length c.tasks). sym
+      (All-get_or (IsTask c) c.tasks task.0 no_task l rules.tasks).routine.worst)
+      (λ (g : length c.tasks ≤ task.0). rw (get_or_past c.tasks task.0 no_task g) refl)
+      (cases_lt task.0 (length c.tasks))
 
   body_numbers : (task : TaskNo) → AreNumbersInRange (body_of c task)
   body_numbers task =
-      ⊎_elim (λ (l : task.0 < length c.tasks). (All-get_or (IsTask c) c.tasks task.0 no_task l rules.tasks).routine.is_body.numbers)
-      (λ (g : length c.tasks ≤ task.0). rw (get_or_past c.tasks task.0 no_task g) refl) (cases_lt task.0 (length c.tasks))
+      ⊎_elim (λ (l : task.0 < length c.tasks).
+      (All-get_or (IsTask c) c.tasks task.0 no_task l rules.tasks).routine.is_body.numbers)
+      (λ (g : length c.tasks ≤ task.0). rw (get_or_past c.tasks task.0 no_task g) refl)
+      (cases_lt task.0 (length c.tasks))
 
   not_activated : (w : World) → At T w → At (T + 1) w
   unfolding At
@@ -92,13 +105,15 @@ module _ (c : ConfigParts) (s : ScriptParts) (rules : IsConfig c) (T : ℕ) wher
                 let o = p.1.1.each place i u in
                 let begun = o.begun in
                 let tasks = o.tasks in
-                let more = demand_more c (mode_of c w) (row_of (mode_of c w) (job_at w.jobs place).entry).offset (T - w.start) in
+                let more = demand_more c (mode_of c w) (row_of (mode_of c w) (job_at w.jobs place).entry).offset
+                (T - w.start) in
                 record { row = o.row; begun = omega arith; split = o.split; tasks = rw z (omega arith) };
           },
         ),
       )
 
-  module _ (w : World) (entry : ℕ) (p : At T w) (within : entry < length (mode_of c w).activations) (here : (row_of (mode_of c w) entry).offset ≡ T - w.start) where
+  module _ (w : World) (entry : ℕ) (p : At T w) (within : entry < length (mode_of c w).activations)
+      (here : (row_of (mode_of c w) entry).offset ≡ T - w.start) where
     abbrev row : Activation
     row = row_of (mode_of c w) entry
 
@@ -111,13 +126,15 @@ module _ (c : ConfigParts) (s : ScriptParts) (rules : IsConfig c) (T : ℕ) wher
     abbrev f : Job → ℕ
     f job = worst_in c.demands job.left
 
-    cut : (place : ℕ) → place ≤ length w.jobs → sum_by f (drop place (w.jobs ++ y ∷ [])) ≡ sum_by f (drop place w.jobs) + f y
+    cut : (place : ℕ) → place ≤ length w.jobs
+        → sum_by f (drop place (w.jobs ++ y ∷ [])) ≡ sum_by f (drop place w.jobs) + f y
     cut place l = ap (sum_by f) (drop-append-le place w.jobs (y ∷ []) l) ∙ sum_by_push f (drop place w.jobs) y
 
     z : w.start ≤ T → (T + 1) - w.start ≡ (T - w.start) + 1
     z l = omega arith
 
-    old_place : (place : ℕ) → place < length w.jobs → is_done (job_at w.jobs place).left ≡ false → Owed c s (T + 1) T w.start (mode_of c w) (job_at w.jobs place).entry (owed_from c v place)
+    old_place : (place : ℕ) → place < length w.jobs → is_done (job_at w.jobs place).left ≡ false
+        → Owed c s (T + 1) T w.start (mode_of c w) (job_at w.jobs place).entry (owed_from c v place)
     unfolding At
     old_place place i u =
         let o = p.1.1.each place i u in
@@ -138,7 +155,8 @@ module _ (c : ConfigParts) (s : ScriptParts) (rules : IsConfig c) (T : ℕ) wher
         let none : T - (w.start + row.offset) ≡ 0 = omega arith in
         let more = demand_found c (mode_of c w) row.offset (T - w.start) entry (omega (arith, here)) within here in
         let sum = cut (length w.jobs) (omega arith) in
-        let empty : sum_by f (drop (length w.jobs) w.jobs) ≡ 0 = ap (sum_by f) (drop_all (length w.jobs) w.jobs (omega arith)) in
+        let empty : sum_by f (drop (length w.jobs) w.jobs) ≡ 0 =
+        ap (sum_by f) (drop_all (length w.jobs) w.jobs (omega arith)) in
         let worst = body_worst row.task in
         record {
           row = within;
@@ -168,7 +186,8 @@ module _ (c : ConfigParts) (s : ScriptParts) (rules : IsConfig c) (T : ℕ) wher
           each = λ place i u.
               ⊎_elim
               (λ (l : place < length w.jobs).
-              let same : get_or (w.jobs ++ y ∷ []) place no_job ≡ get_or w.jobs place no_job = get_or-append w.jobs (y ∷ []) no_job place l in
+              let same : get_or (w.jobs ++ y ∷ []) place no_job ≡ get_or w.jobs place no_job =
+              get_or-append w.jobs (y ∷ []) no_job place l in
               rw same (old_place place l (rw same at u)))
               (λ (g : length w.jobs ≤ place).
               let e : place ≡ length w.jobs = omega (arith, length-append w.jobs (y ∷ [])) in
@@ -187,7 +206,8 @@ module _ (c : ConfigParts) (s : ScriptParts) (rules : IsConfig c) (T : ℕ) wher
   latch_tasks : (N : ℕ) → Leads (Alone (At N)) (Alone (At N)) Anything (latch c)
   unfolding latch At
   latch_tasks N w es p =
-      cond_both (eqb (offset_of w) (c.round - c.adjust)) _ _ (Holds (At N) es) (λ _. (p.0, (p.1.0, record { numbers = p.1.1.numbers; each = p.1.1.each }))) (λ _. p)
+      cond_both (eqb (offset_of w) (c.round - c.adjust)) _ _ (Holds (At N) es)
+      (λ _. (p.0, (p.1.0, record { numbers = p.1.1.numbers; each = p.1.1.each }))) (λ _. p)
 
   next_round_tasks : (N : ℕ) → Leads (Alone (At N)) (Alone (At N)) Anything (next_round s)
   unfolding next_round At
@@ -208,10 +228,12 @@ module _ (c : ConfigParts) (s : ScriptParts) (rules : IsConfig c) (T : ℕ) wher
   unfolding round_end
   round_end_tasks N w es p =
       cond_both (is_length w.latched (offset_of w)) _ _ (Holds (At N) es)
-      (λ _. followed_leads (Alone (At N)) (Alone (At N)) Anything es (monitored c (is_at_end (offset_of w)) w) (next_round s) (monitored_holds (At N) c _ w es (λ _. p)) (next_round_tasks N))
+      (λ _. followed_leads (Alone (At N)) (Alone (At N)) Anything es (monitored c (is_at_end (offset_of w)) w)
+      (next_round s) (monitored_holds (At N) c _ w es (λ _. p)) (next_round_tasks N))
       (λ _. p)
 
-  found_tasks : (found : Option ℕ) (w : World) (es : List Event) → entry_at (offset_of w) (mode_of c w).activations ≡ found → At T w → Holds (At (T + 1)) es (activated c found w)
+  found_tasks : (found : Option ℕ) (w : World) (es : List Event)
+      → entry_at (offset_of w) (mode_of c w).activations ≡ found → At T w → Holds (At (T + 1)) es (activated c found w)
   found_tasks None w es e p = not_activated w p
   found_tasks (Some entry) w es e p =
       let row = row_found (offset_of w) entry (mode_of c w) e in
@@ -239,6 +261,7 @@ module _ (c : ConfigParts) (s : ScriptParts) (rules : IsConfig c) (T : ℕ) wher
   }
 
   -- the account is kept by an opening
-  pub opening_tasks : (w : World) (es : List Event) → (w.tick ≡ T) × ((w.start ≤ T) × Tasks c s T T w) → Holds (λ v. (v.tick ≡ T) × ((v.start ≤ T) × Tasks c s (T + 1) T v)) es (opening c s w)
+  pub opening_tasks : (w : World) (es : List Event) → (w.tick ≡ T) × ((w.start ≤ T) × Tasks c s T T w)
+      → Holds (λ v. (v.tick ≡ T) × ((v.start ≤ T) × Tasks c s (T + 1) T v)) es (opening c s w)
   unfolding At
   opening_tasks w es p = opening_leads c s AtPhase Anything opening_keeps w es p

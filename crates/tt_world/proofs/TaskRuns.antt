@@ -25,7 +25,8 @@ abbrev pub TasksAt : ConfigParts → ScriptParts → ℕ → World → Type 0
 TasksAt c s T w = (w.tick ≡ T) × ((w.start ≤ T) × Tasks c s T T w)
 
 module _ (c : ConfigParts) (s : ScriptParts) (rules : IsConfig c) (bounds : KeepsBounds c s) where
-  ran : (T : ℕ) → is_over (opening c s (world_at c s T)).end ≡ false → runner_at c s T ≡ runner_of c (opening c s (world_at c s T)).world
+  ran : (T : ℕ) → is_over (opening c s (world_at c s T)).end ≡ false
+      → runner_at c s T ≡ runner_of c (opening c s (world_at c s T)).world
   unfolding runner_at
   ran T e = ap (λ (b : Bool). runner_if b (runner_of c (opening c s (world_at c s T)).world)) e
 
@@ -41,16 +42,24 @@ module _ (c : ConfigParts) (s : ScriptParts) (rules : IsConfig c) (bounds : Keep
       kept T w runner.Nobody after l = l
 
       keeps : StepKeeps c s (λ v. v.start ≤ T) (λ v. v.start ≤ T) (λ v. v.start ≤ T)
-      keeps = record { left = λ w after p _. kept T w (runner_of c w) after p; free = λ w _ _ _ _ _ p. p; synced = λ w _ p. p; over = λ w _ p. p }
+      keeps = record {
+        left = λ w after p _. kept T w (runner_of c w) after p;
+        free = λ w _ _ _ _ _ p. p;
+        synced =
+            λ w _ p. p;
+        over = λ w _ p. p;
+      }
 
-  pub instant_tasks : (T : ℕ) (es : List Event) → TasksAt c s T (world_at c s T) → Holds (TasksAt c s (T + 1)) es (instant c s (world_at c s T))
+  pub instant_tasks : (T : ℕ) (es : List Event) → TasksAt c s T (world_at c s T)
+      → Holds (TasksAt c s (T + 1)) es (instant c s (world_at c s T))
   unfolding instant
   instant_tasks T es p =
       let w = world_at c s T in
       let o = opening c s w in
       followed_at (Alone (TasksAt c s (T + 1))) Anything es o (step c s) (λ _. tt)
       (λ on.
-      let q = led_on (Alone (λ v. (v.tick ≡ T) × ((v.start ≤ T) × Tasks c s (T + 1) T v))) Anything es o on (opening_tasks c s rules T w es p) in
+      let q = led_on (Alone (λ v. (v.tick ≡ T) × ((v.start ≤ T) × Tasks c s (T + 1) T v))) Anything es o on
+      (opening_tasks c s rules T w es p) in
       leads_by (Alone (TasksAt c s (T + 1))) Anything (es ++ o.events) (step c s o.world)
       (λ e.
       let r = led_on (Alone (λ v. (v.tick ≡ T + 1) × Tasks c s (T + 1) (T + 1) v)) Anything [] (step c s o.world) e
@@ -67,7 +76,11 @@ module _ (c : ConfigParts) (s : ScriptParts) (rules : IsConfig c) (bounds : Keep
   tasks_at n g =
       let z : 0 + n ≡ n = omega arith in
       subst (λ (j : ℕ). TasksAt c s j (world_at c s j)) z
-      (kept_from c s (λ k. Alone (TasksAt c s (0 + k))) Anything 0 (λ k _ p. each k p) first_tasks n (λ k l. g k (omega arith)))
+      (kept_from c s (λ k. Alone (TasksAt c s (0 + k))) Anything 0 (λ k _ p. each k p) first_tasks n
+      (λ k l. g k (omega arith)))
     where
-      each : (k : ℕ) → TasksAt c s (0 + k) (world_at c s (0 + k)) → LeadsTo (Alone (TasksAt c s (0 + (k + 1)))) Anything [] (instant c s (world_at c s (0 + k)))
-      each k p = let z : (0 + k) + 1 ≡ 0 + (k + 1) = omega arith in subst (λ (j : ℕ). LeadsTo (Alone (TasksAt c s j)) Anything [] (instant c s (world_at c s (0 + k)))) z (instant_tasks (0 + k) [] p)
+      each : (k : ℕ) → TasksAt c s (0 + k) (world_at c s (0 + k))
+          → LeadsTo (Alone (TasksAt c s (0 + (k + 1)))) Anything [] (instant c s (world_at c s (0 + k)))
+      each k p = let z : (0 + k) + 1 ≡ 0 + (k + 1) = omega arith in
+          subst (λ (j : ℕ). LeadsTo (Alone (TasksAt c s j)) Anything [] (instant c s (world_at c s (0 + k)))) z
+          (instant_tasks (0 + k) [] p)

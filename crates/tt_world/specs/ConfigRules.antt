@@ -24,13 +24,15 @@ use Rattle.tt_world.specs.declared.config.ConfigParts.{ConfigParts}
 
 -- a name that no document may declare
 abbrev pub is_reserved : List ℕ → Bool
-is_reserved name = bytes_eq name (codes "idle") || (bytes_eq name (codes "ttErrorHook") || bytes_eq name (codes "ttShutdownHook"))
+is_reserved name = bytes_eq name (codes "idle")
+    || (bytes_eq name (codes "ttErrorHook") || bytes_eq name (codes "ttShutdownHook"))
 
 -- no name is one of those after it, and none is reserved
 abbrev pub are_names_free : List NameEntry → Bool
 are_names_free [] = true
 are_names_free (entry ∷ rest) =
-    not (is_reserved entry.name) && (not (list_any (λ (other : NameEntry). bytes_eq other.name entry.name) rest) && are_names_free rest)
+    not (is_reserved entry.name) && (not (list_any (λ (other : NameEntry). bytes_eq other.name entry.name) rest)
+    && are_names_free rest)
 
 -- there are as many names of each kind as things of that kind
 pub record AreAllNamed (c : ConfigParts) : Type 0 where

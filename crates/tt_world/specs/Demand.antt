@@ -24,11 +24,13 @@ task_budget c row = (slice_index_or c.tasks row.task.0 no_task).budget
 
 -- the budgets of the activations with offsets from one up to below another
 abbrev pub tasks_demand : ConfigParts → ModeDef → (from to : ℕ) → ℕ
-tasks_demand c mode from to = sum_by (λ (row : Activation). cond (is_within from to row.offset) (task_budget c row) 0) mode.activations
+tasks_demand c mode from to = sum_by
+    (λ (row : Activation). cond (is_within from to row.offset) (task_budget c row) 0) mode.activations
 
 -- how many enables of a routine have such offsets
 abbrev pub enables_in : ModeDef → (isr from to : ℕ) → ℕ
-enables_in mode isr from to = count_by (λ (row : Enable). (row.isr.0 == isr) && is_within from to row.offset) mode.enables
+enables_in mode isr from to = count_by
+    (λ (row : Enable). (row.isr.0 == isr) && is_within from to row.offset) mode.enables
 
 -- at so many enables and in that many ticks a routine begins at most so often, besides what is carried over
 abbrev pub most_begins : Option ℕ → (enables ticks : ℕ) → ℕ
@@ -41,7 +43,8 @@ isr_demand isr enables ticks = isr.budget * (2 + most_begins isr.distance enable
 
 abbrev pub isrs_demand : ConfigParts → ModeDef → (from to : ℕ) → ℕ
 isrs_demand c mode from to =
-    sum_by (λ (number : ℕ). isr_demand (isr_of c number) (enables_in mode number from to) (to - from)) (range_with_len 0 (length c.isrs))
+    sum_by (λ (number : ℕ). isr_demand (isr_of c number) (enables_in mode number from to) (to - from))
+    (range_with_len 0 (length c.isrs))
 
 -- the demand from an offset up to a later one
 unfoldable pub demand : ConfigParts → ModeDef → (from to : ℕ) → ℕ
@@ -72,4 +75,5 @@ keeps_distance (Some distance) arrivals = are_spaced distance 0 arrivals
 
 pub record KeepsBounds (c : ConfigParts) (s : ScriptParts) : Type 0 where
   pub values : AreValuesKept (supply_of c.demands s.values)
-  pub distances : (isr : ℕ) → isr < length c.isrs → keeps_distance (isr_of c isr).distance (slice_index_or s.arrivals.isrs isr []) ≡ true
+  pub distances : (isr : ℕ) → isr < length c.isrs
+      → keeps_distance (isr_of c isr).distance (slice_index_or s.arrivals.isrs isr []) ≡ true

@@ -27,7 +27,8 @@ lesser_or offset (Some other) = min offset other
 -- the least of some offsets that is at or after this one
 abbrev pub least_from : ℕ → List ℕ → Option ℕ
 least_from from [] = None
-least_from from (offset ∷ rest) = if nat_le from offset then Some (lesser_or offset (least_from from rest)) else least_from from rest
+least_from from (offset ∷ rest) = if nat_le from offset then Some
+    (lesser_or offset (least_from from rest)) else least_from from rest
 
 abbrev pub at_or_end : Option ℕ → Point
 at_or_end None = point.RoundEnd
@@ -37,7 +38,9 @@ abbrev pub point_by : Bool → ModeDef → ℕ → Point
 point_by true mode deadline = point.At deadline
 point_by false mode deadline = at_or_end (least_from deadline (offsets_in mode))
 
--- the monitoring point of an activation of a mode: where it is monitored stringently, its deadline; else the least offset at or
--- after the deadline at which the mode has an activation, an enable or a stringent deadline, and the round's end where there is none
+-- the monitoring point of an activation of a mode: where it is monitored stringently, its deadline; else the least
+-- offset at or
+-- after the deadline at which the mode has an activation, an enable or a stringent deadline, and the round's end where
+-- there is none
 abbrev pub point_of : ModeDef → Activation → Point
 point_of mode row = point_by row.stringent mode row.deadline

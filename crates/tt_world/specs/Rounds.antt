@@ -30,7 +30,8 @@ next_round s w =
     else goes_on (record w { start = w.tick; number = w.number + 1; mode = w.wanted; latched = None; jobs = [] })
     (Round w.tick (w.number + 1) w.wanted ∷ [])
 
--- the round's end: each activation whose monitoring point is not an offset of the round is checked, and the round is over
+-- the round's end: each activation whose monitoring point is not an offset of the round is checked, and the round is
+-- over
 unfoldable pub round_end : ConfigParts → ScriptParts → World → Moved
 round_end c s w =
     if is_length w.latched (offset_of w)

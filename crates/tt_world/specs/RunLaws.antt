@@ -127,7 +127,8 @@ IsrIsBounded =
 -- an event is the end of a task later than a tick, at or before another
 abbrev pub HasEnd : List Event → TaskNo → (from deadline : ℕ) → Type 0
 HasEnd events task from deadline =
-    (before after : List Event) × (at : ℕ) × (events ≡ before ++ End at (owner.Task task) ∷ after) × (from < at) × (at ≤ deadline)
+    (before after : List Event) × (at : ℕ) × (events ≡ before ++ End at (owner.Task task) ∷ after) × (from < at)
+    × (at ≤ deadline)
 
 -- a check that is missed
 abbrev pub is_missed : Event → Bool
@@ -135,7 +136,8 @@ is_missed (Check at task false) = true
 is_missed event = false
 
 -- an Activate event of a round is that of a row, and the task has ended by the row's deadline where the run reaches it
-pub record EndsByDeadline (c : ConfigParts) (events : List Event) (round : RoundStart) (at : ℕ) (task : TaskNo) : Type 0 where
+pub record EndsByDeadline (c : ConfigParts) (events : List Event) (round : RoundStart) (at : ℕ)
+    (task : TaskNo) : Type 0 where
   pub entry : ℕ
   pub within : entry < length (mode_at c round.mode.0).activations
   pub at_is : at ≡ round.start + (row_of (mode_at c round.mode.0) entry).offset
@@ -148,29 +150,36 @@ pub record NoneMissed (c : ConfigParts) (events : List Event) : Type 0 where
   pub checks : All (λ (event : Event). is_missed event ≡ false) events
   pub status : (task : TaskNo) (tick : ℕ) → status_of events ≡ Missed task tick → ⊥
   pub ends : EachRound
-      (λ round rest. (before after : List Event) (at : ℕ) (task : TaskNo) → until_round rest ≡ before ++ Activate at task ∷ after → EndsByDeadline c events round at task)
+      (λ round rest. (before after : List Event) (at : ℕ) (task : TaskNo)
+      → until_round rest ≡ before ++ Activate at task ∷ after → EndsByDeadline c events round at task)
       events
 
 -- where the check says yes and the script keeps its bounds, no deadline is missed
 abbrev pub NoMiss : Type 0
-NoMiss = (c : ConfigParts) (s : ScriptParts) → IsConfig c → IsScript c s → EachResponds c → KeepsBounds c s → NoneMissed c (schedule c s)
+NoMiss = (c : ConfigParts) (s : ScriptParts) → IsConfig c → IsScript c s → EachResponds c → KeepsBounds c s
+    → NoneMissed c (schedule c s)
 
 -- ---- the accounts that no miss rests on
 
--- of a time-triggered routine, after any k consecutive instants: its ticks and what is left of it, and its budget where its source
+-- of a time-triggered routine, after any k consecutive instants: its ticks and what is left of it, and its budget where
+-- its source
 -- is enabled, are within its budget for an unfinished one, one that an open gate admits, and one for each enable
 pub record IsrAccount (c : ConfigParts) (isr : ℕ) (w : World) (ticks enables arrivals : ℕ) : Type 0 where
-  pub by_enables : ticks + (worst_in c.demands (slice_index_or w.isrs isr []) + cond (slice_index_or w.isrs_enabled isr false) (isr_of c isr).budget 0)
+  pub by_enables : ticks + (worst_in c.demands (slice_index_or w.isrs isr []) + cond
+      (slice_index_or w.isrs_enabled isr false) (isr_of c isr).budget 0)
       ≤ (isr_of c isr).budget * (2 + enables)
-  pub by_arrivals : ticks + (worst_in c.demands (slice_index_or w.isrs isr []) + cond (slice_index_or w.isrs_held isr false) (isr_of c isr).budget 0)
+  pub by_arrivals : ticks + (worst_in c.demands (slice_index_or w.isrs isr []) + cond
+      (slice_index_or w.isrs_held isr false) (isr_of c isr).budget 0)
       ≤ (isr_of c isr).budget * (2 + arrivals)
 
 -- what the activation at a place and the later ones still owe
 abbrev pub owed_from : ConfigParts → World → ℕ → ℕ
 owed_from c w place = sum_by (λ (job : Job). worst_in c.demands job.left) (drop place w.jobs)
 
--- of an unfinished activation before the opening of an instant: all ticks since its offset were taken by activations and by
--- time-triggered routines, and those of activations, with what it and the later ones still owe, are within the budgets of the
+-- of an unfinished activation before the opening of an instant: all ticks since its offset were taken by activations
+-- and by
+-- time-triggered routines, and those of activations, with what it and the later ones still owe, are within the budgets
+-- of the
 -- activations with offsets from its own on
 pub record TaskAccount (c : ConfigParts) (s : ScriptParts) (w : World) (place : ℕ) : Type 0 where
   pub row : (job_at w.jobs place).entry < length (mode_of c w).activations
@@ -178,10 +187,12 @@ pub record TaskAccount (c : ConfigParts) (s : ScriptParts) (w : World) (place : 
   pub ticks :
       let from = (row_of (mode_of c w) (job_at w.jobs place).entry).offset in
       let k = offset_of w - from in
-      k ≡ ticks_of is_task c s (w.start + from) k + sum_by (λ (isr : ℕ). ticks_of (is_isr isr) c s (w.start + from) k) (range_with_len 0 (length c.isrs))
+      k ≡ ticks_of is_task c s (w.start + from) k + sum_by (λ (isr : ℕ). ticks_of (is_isr isr) c s (w.start + from) k)
+      (range_with_len 0 (length c.isrs))
   pub tasks :
       let from = (row_of (mode_of c w) (job_at w.jobs place).entry).offset in
-      ticks_of is_task c s (w.start + from) (offset_of w - from) + owed_from c w place ≤ tasks_demand c (mode_of c w) from (offset_of w)
+      ticks_of is_task c s (w.start + from) (offset_of w - from) + owed_from c w place ≤ tasks_demand c
+      (mode_of c w) from (offset_of w)
 
 abbrev pub HasTaskAccounts : ConfigParts → ScriptParts → World → Type 0
 HasTaskAccounts c s w = (place : ℕ) → IsUnfinished w place → TaskAccount c s w place

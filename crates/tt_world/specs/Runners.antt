@@ -30,7 +30,8 @@ job_at activations place = slice_index_or activations place no_job
 
 -- the list with this left of the activation at a place
 abbrev pub with_left : List Job → ℕ → List Stmt → List Job
-with_left activations place left = slice_set activations place (record { entry = (job_at activations place).entry; left = left })
+with_left activations place left =
+    slice_set activations place (record { entry = (job_at activations place).entry; left = left })
 
 -- what is left of a runner
 abbrev pub left_of : World → Runner → List Stmt
@@ -52,7 +53,8 @@ leaving w Nobody left = w
 
 -- the numbers of those that have statements left
 abbrev pub unfinished : List (List Stmt) → List ℕ
-unfinished lefts = filter (λ (number : ℕ). not (is_done (slice_index_or lefts number []))) (range_with_len 0 (length lefts))
+unfinished lefts = filter (λ (number : ℕ). not (is_done (slice_index_or lefts number [])))
+    (range_with_len 0 (length lefts))
 
 -- of two numbers the one of the higher level
 abbrev pub higher : List ℕ → ℕ → Option ℕ → ℕ
@@ -95,11 +97,13 @@ task_runner w = option_map (λ (place : ℕ). runner.Job place) (last_unfinished
 
 -- the unfinished OSEK routine of the highest priority
 abbrev pub oisr_runner : ConfigParts → World → Option Runner
-oisr_runner c w = option_map (λ (number : ℕ). Oisr (record { 0 = number })) (highest (oisr_priorities c) (unfinished w.oisrs))
+oisr_runner c w = option_map (λ (number : ℕ). Oisr (record { 0 = number }))
+    (highest (oisr_priorities c) (unfinished w.oisrs))
 
 -- the OSEK task of the highest priority that is not suspended
 abbrev pub osek_runner : ConfigParts → World → Option Runner
-osek_runner c w = option_map (λ (number : ℕ). Osek (record { 0 = number })) (highest (osek_priorities c) (unfinished w.oseks))
+osek_runner c w = option_map (λ (number : ℕ). Osek (record { 0 = number }))
+    (highest (osek_priorities c) (unfinished w.oseks))
 
 -- the first that exists, else nobody
 abbrev pub first_runner : List (Option Runner) → Runner

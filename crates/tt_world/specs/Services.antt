@@ -34,7 +34,8 @@ ends_with w left = record { result = 0; world = w; left = left; ends = true }
 abbrev pub synced : ConfigParts → Option ℕ → World → List Stmt → Answer
 synced c None w left = answers 1 w left
 synced c (Some global) w left =
-    answers 0 (record w { pending = correction_of c.round c.adjust (offset_of w) global; times_used = w.times_used + 1 }) left
+    answers 0
+    (record w { pending = correction_of c.round c.adjust (offset_of w) global; times_used = w.times_used + 1 }) left
 
 -- ---- OSEK tasks
 

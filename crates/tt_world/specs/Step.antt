@@ -65,7 +65,8 @@ run_line w who = event_if (not (ran_before w.last who)) (Run w.tick who)
 
 -- the tick is over: the end of an owner that has ended has a line, and the tick is raised
 abbrev pub tick_over : Owner → Bool → World → Moved
-tick_over who ended w = goes_on (record w { tick = w.tick + 1; last = Some who }) (event_if ended (End (w.tick + 1) who))
+tick_over who ended w = goes_on (record w { tick = w.tick + 1; last = Some who })
+    (event_if ended (End (w.tick + 1) who))
 
 abbrev pub runner_step : ConfigParts → ScriptParts → Runner → World → Moved
 runner_step c s runner w =

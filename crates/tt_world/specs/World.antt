@@ -6,7 +6,8 @@ use Rattle.tt_base.specs.declared.number.OisrNo.{OisrNo}
 use Rattle.tt_base.specs.declared.event.Owner.{Owner}
 use Rattle.task_lang.specs.declared.syntax.Stmt.{Stmt}
 
--- an activation of the present round: the entry number of the row that activated the task, and what is left of the task's body
+-- an activation of the present round: the entry number of the row that activated the task, and what is left of the
+-- task's body
 pub record Job : Type 0 where
   pub entry : ℕ
   pub left : List Stmt
@@ -36,7 +37,8 @@ pub record World : Type 0 where
   pub cursors : List ℕ
   -- all activations of the present round, in their order
   pub jobs : List Job
-  -- of each time-triggered routine: whether its source is enabled, whether an interrupt is held, and what is left of it, nothing
+  -- of each time-triggered routine: whether its source is enabled, whether an interrupt is held, and what is left of
+  -- it, nothing
   -- where it is not unfinished
   pub isrs_enabled : List Bool
   pub isrs_held : List Bool

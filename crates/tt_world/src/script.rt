@@ -5,7 +5,8 @@ use std::marker::Model;
 use task_lang::Values;
 use tt_base::{ModeNo, Series, Tick};
 
-/// When interrupts occur: a list of ticks for each time-triggered routine, and one for each of the OSEK subsystem.
+/// When interrupts occur: a list of ticks for each time-triggered routine, and one for each of the
+/// OSEK subsystem.
 #[derive(Debug, Drop)]
 pub struct Arrivals {
     pub isrs: Series<Series<Tick>>,
@@ -26,7 +27,8 @@ pub struct ScriptParts {
     pub times: Series<u64>,
 }
 
-/// A script that meets the rules of some configuration. Contracts see it as its parts.
+/// A script that meets the rules of one by itself. Contracts see it as its parts; whether it is one
+/// for a configuration is said where both are used.
 #[derive(Debug, Drop)]
 pub struct Script {
     parts: ScriptParts,
@@ -34,15 +36,18 @@ pub struct Script {
 
 impl Model for Script {
     ghost use Rattle.tt_world.specs.declared.script.ScriptParts.{ScriptParts};
+    ghost use Rattle.tt_world.specs.ScriptRules.{IsInput};
 
     ghost Value = { ScriptParts };
 
     ghost view = { λ s. s.parts };
+
+    ghost invariant = { λ s. IsInput s.parts };
 }
 
 impl Script {
     ghost use Rattle.std.specs.Prelude.{◌≡◌};
-    ghost use Rattle.tt_world.specs.ScriptRules.{IsScript};
+    ghost use Rattle.tt_world.specs.ScriptRules.{IsInput, IsScript};
 
     /// A script of parts that meet the rules of a configuration.
     pub fn new(parts: ScriptParts, config: &Config) -> Script
@@ -54,14 +59,16 @@ impl Script {
 
     /// Its parts.
     pub fn parts(&self) -> &ScriptParts
-        ensures { result.now ≡ self.now }
+        ensures same { result.now ≡ self.now }
+        ensures rules { IsInput self.now }
     {
         &self.parts
     }
 
     /// Its parts by value.
     pub fn into_parts(self) -> ScriptParts
-        ensures { result ≡ self }
+        ensures same { result ≡ self }
+        ensures rules { IsInput result }
     {
         let Script { parts } = self;
         parts

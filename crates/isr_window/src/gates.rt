@@ -1,0 +1,169 @@
+//! The gates of the interrupt sources.
+
+ghost use Rattle.std.specs.Prelude.{◌≡◌, ◌<◌, ◌≤◌, true, false, length, option_map, slice_index_or};
+ghost use Rattle.std.specs.Option.{ForSome};
+ghost use Rattle.tt_world.specs.Gates.{source_owner};
+ghost use Rattle.isr_window.specs.Window.{first_due, first_ready, new_window, next_tick, taking, accepting, enabling};
+ghost use Rattle.isr_window.specs.Numbers.{first_at, first_isr, first_oisr, with_flag, without_next};
+ghost use Rattle.isr_window.specs.Arrived.{arrived_at};
+
+use crate::busy::Busy;
+use crate::flags::Flags;
+use crate::queues::{Queues, is_at, lesser};
+use std::marker::Model;
+use tt_base::{IsrNo, OisrNo, Owner, Tick};
+use tt_world::Arrivals;
+
+/// An arrival that was taken: at this source, and whether it was lost into an interrupt that is held there.
+#[derive(Clone, Copy, Debug, PartialEq, Eq)]
+pub struct Arrived {
+    pub source: Owner,
+    pub merged: bool,
+}
+
+/// The interrupt sources of a run. Contracts see them as a record of these.
+#[derive(Debug, Drop)]
+pub struct Gates {
+    isrs_enabled: Flags,
+    isrs_held: Flags,
+    isrs_left: Queues,
+    oisrs_held: Flags,
+    oisrs_left: Queues,
+    /// The least tick that is not taken.
+    next: Option<Tick>,
+}
+
+impl Model for Gates {
+    ghost use Rattle.isr_window.specs.Window.{Window};
+
+    ghost Value = { Window };
+
+    ghost use Rattle.isr_window.specs.Inside.{window_of, IsWindow};
+
+    ghost view = { window_of };
+
+    ghost invariant = { IsWindow };
+}
+
+/// Takes the first arrival at a tick among sources of one kind: its number, and whether an interrupt was held there.
+fn take_first(left: &mut Queues, held: &mut Flags, now: Tick) -> Option<(usize, bool)>
+    requires { length held.old ≡ length left.old }
+    ensures value { result
+        ≡ option_map (λ number. record { 0 = number; 1 = slice_index_or held.old number false }) (first_at now left.old) }
+    ensures left { left.new ≡ without_next (first_at now left.old) left.old }
+    ensures held { held.new ≡ with_flag (first_at now left.old) true held.old }
+{
+    let number = left.first_at(now)?;
+    let merged = held.is(number);
+    left.take(number);
+    held.put(number, true);
+    Some((number, merged))
+}
+
+impl Gates {
+    /// Sources with these arrivals: all enabled, and nothing held. There are at most 16 of each kind.
+    pub fn new(arrivals: Arrivals) -> Gates
+        requires isrs { length arrivals.isrs ≤ 16 }
+        requires oisrs { length arrivals.oisrs ≤ 16 }
+        ensures { result ≡ new_window arrivals }
+    {
+        let isrs_left = Queues::new(arrivals.isrs);
+        let oisrs_left = Queues::new(arrivals.oisrs);
+        let next = lesser(isrs_left.least(), oisrs_left.least());
+        Gates {
+            isrs_enabled: Flags::new(isrs_left.len(), true),
+            isrs_held: Flags::new(isrs_left.len(), false),
+            isrs_left,
+            oisrs_held: Flags::new(oisrs_left.len(), false),
+            oisrs_left,
+            next,
+        }
+    }
+
+    /// The least tick of an arrival that is not taken, if there is one. It is kept, and costs one step.
+    pub fn next_arrival(&self) -> Option<Tick>
+        ensures { result ≡ next_tick self.now }
+    {
+        self.next
+    }
+
+    /// Takes the first arrival at a tick, in the order of the sources, if there is one. No arrival before the tick is left.
+    pub fn arrive(&mut self, now: Tick) -> Option<Arrived>
+        requires { ForSome (next_tick self.old) (λ tick. now ≤ tick) }
+        ensures value { result ≡ option_map (arrived_at self.old) (first_due now self.old) }
+        ensures state { self.new ≡ taking (first_due now self.old) self.old }
+    {
+        if !is_at(self.next, now) {
+            return None;
+        }
+        let arrived = match take_first(&mut self.isrs_left, &mut self.isrs_held, now) {
+            Some((number, merged)) => Some(Arrived {
+                source: Owner::Isr(IsrNo(number as u16)),
+                merged,
+            }),
+            None => match take_first(&mut self.oisrs_left, &mut self.oisrs_held, now) {
+                Some((number, merged)) => Some(Arrived {
+                    source: Owner::Oisr(OisrNo(number as u16)),
+                    merged,
+                }),
+                None => None,
+            },
+        };
+        self.next = lesser(self.isrs_left.least(), self.oisrs_left.least());
+        arrived
+    }
+
+    /// Enables a time-triggered source.
+    pub fn enable(&mut self, isr: IsrNo)
+        requires { isr.0 < length self.old.isrs_enabled }
+        ensures { self.new ≡ enabling isr self.old }
+    {
+        self.isrs_enabled.put(usize::from(isr.0), true);
+    }
+
+    /// Accepts the interrupt of the first source that is held, enabled and not busy, in the order of the sources, if there is one: it is
+    /// no longer held, and a time-triggered source is disabled.
+    pub fn accept_next(&mut self, busy: &Busy) -> Option<Owner>
+        ensures value { result ≡ option_map source_owner (first_ready busy.now self.old) }
+        ensures state { self.new ≡ accepting (first_ready busy.now self.old) self.old }
+    {
+        if let Some(number) = self.ready_isr(busy) {
+            self.isrs_held.put(number, false);
+            self.isrs_enabled.put(number, false);
+            return Some(Owner::Isr(IsrNo(number as u16)));
+        }
+        let number = self.ready_oisr(busy)?;
+        self.oisrs_held.put(number, false);
+        Some(Owner::Oisr(OisrNo(number as u16)))
+    }
+
+    /// The number of the first time-triggered source of which an interrupt can be accepted.
+    fn ready_isr(&self, busy: &Busy) -> Option<usize>
+        ensures { result ≡ first_isr busy.now self.now }
+    {
+        if self.isrs_held.are_clear() {
+            return None;
+        }
+        for number in 0..self.isrs_held.len() {
+            if self.isrs_held.is(number) && self.isrs_enabled.is(number) && !busy.isr(number) {
+                return Some(number);
+            }
+        }
+        None
+    }
+
+    /// The number of the first source of the OSEK subsystem of which an interrupt can be accepted.
+    fn ready_oisr(&self, busy: &Busy) -> Option<usize>
+        ensures { result ≡ first_oisr busy.now self.now }
+    {
+        if self.oisrs_held.are_clear() {
+            return None;
+        }
+        for number in 0..self.oisrs_held.len() {
+            if self.oisrs_held.is(number) && !busy.oisr(number) {
+                return Some(number);
+            }
+        }
+        None
+    }
+}

@@ -1,0 +1,7 @@
+//! The dispatcher round: its offsets, its length with the correction by global time, the application mode of the next round, and its end.
+#![tactic(auto)]
+
+mod correction;
+mod state;
+
+pub use state::{RoundState, RoundStep};
