@@ -48,3 +48,8 @@ pub mod RoundRuns
 pub mod CheckEnds
 pub mod RoundChecks
 pub mod MonitorLaw
+pub mod SourceEvents
+pub mod SourceParts
+pub mod SourceTicks
+pub mod SourceEnds
+pub mod InterruptLaws
