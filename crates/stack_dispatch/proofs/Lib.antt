@@ -4,7 +4,6 @@ pub mod Highest
 pub mod LastUnfinished
 pub mod Leaving
 pub mod Marks
-pub mod Openings
 pub mod Playing
 pub mod Served
 pub mod Serving

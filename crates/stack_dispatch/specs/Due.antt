@@ -1,4 +1,4 @@
--- What is due at an instant, by the offset and the mode that it begins with.
+-- What is done at the sources of interrupts at an instant.
 use Rattle.std.specs.Prelude.{◌≡◌, ℕ, ◌<◌, not, Bool, false, List, [], ◌∷◌, length, map, slice_index_or}
 use Rattle.task_lang.specs.declared.syntax.Stmt.{Stmt}
 use Rattle.tt_base.specs.declared.number.IsrNo.{IsrNo}
@@ -17,20 +17,6 @@ use Rattle.tt_world.specs.Opening.{activated}
 -- the enables of routines, in their order
 abbrev pub enables_by : List IsrNo → World → Moved
 enables_by isrs = chain (map (λ (isr : IsrNo). enable (record { offset = 0; isr = isr })) isrs)
-
--- the enables of an offset of a mode
-abbrev pub enables_from : ℕ → ModeDef → World → Moved
-enables_from offset mode = chain (map enable (enables_at offset mode.enables))
-
--- what is due at an offset of a mode, and at the present tick
-abbrev pub due_from : ConfigParts → ScriptParts → ℕ → ModeDef → List (World → Moved)
-due_from c s offset mode =
-    monitored c (is_at offset)
-    ∷ enables_from offset mode
-    ∷ arrivals c s
-    ∷ acceptances c
-    ∷ activated c (entry_at offset mode.activations)
-    ∷ []
 
 -- nothing can be accepted
 abbrev pub NoneAccepted : ConfigParts → World → Type 0

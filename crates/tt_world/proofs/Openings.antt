@@ -1,29 +1,50 @@
 -- The opening of an instant at which nothing is due: only acceptances can change anything there.
-use Rattle.std.proofs.Common.{ℕ, zero, suc, ◌≡◌, ◌<◌, ◌-◌, List, [], ◌∷◌, ◌++◌, Bool, true, false, None, refl, ap, sym, ◌∙◌, eqb, arith, length, append-nil}
-use Rattle.std.specs.Prelude.{◌==◌, map}
-use Rattle.std.specs.List.{list_any}
+use Rattle.std.proofs.Common.{ℕ, zero, suc, ◌≡◌, ◌<◌, ◌-◌, List, [], ◌∷◌, ◌++◌, Bool, true, false, Option, None, Some, refl, ap, sym, ◌∙◌, eqb, arith, length, append-nil}
+use Rattle.std.specs.Prelude.{map}
 use Rattle.std.proofs.lemmas.Bool.{cond-false, false_from_ne_true, eqb-true}
-use Rattle.tt_world.specs.declared.config.Activation.{Activation}
+use Rattle.tt_base.specs.declared.event.Event.TheVariants.{Activate}
 use Rattle.tt_world.specs.declared.config.Enable.{Enable}
 use Rattle.tt_world.specs.declared.config.ModeDef.{ModeDef}
 use Rattle.tt_world.specs.declared.config.ConfigParts.{ConfigParts}
 use Rattle.tt_world.specs.declared.script.ScriptParts.{ScriptParts}
 use Rattle.tt_world.specs.declared.world.Point.{Point}
-use Rattle.tt_world.specs.World.{World, Source, Job}
+use Rattle.tt_world.specs.World.{World, Job}
 use Rattle.tt_world.specs.Correction.{is_length}
-use Rattle.tt_world.specs.Gates.{enable, enables, arrivals_of, arrival, arrivals, acceptances, sources}
+use Rattle.tt_world.specs.Gates.{enable, enables, arrivals, acceptances}
 use Rattle.tt_world.specs.Monitoring.{Checked, is_at, checked, check_if, check_then, after_checks, monitored}
 use Rattle.tt_world.specs.Moved.{Moved, goes_on, preceded, is_over, continued, followed, chain}
 use Rattle.tt_world.specs.Opening.{checks, activated, activation, due, first_parts, later_parts, opening}
 use Rattle.tt_world.specs.Points.{point_of}
 use Rattle.tt_world.specs.Rounds.{latch, round_end}
-use Rattle.tt_world.specs.Rows.{offset_of, mode_of, row_of, entry_at, enables_at}
+use Rattle.tt_world.specs.Rows.{offset_of, mode_of, row_of, entry_at, enables_at, body_of}
 use Rattle.tt_world.specs.Runners.{job_at, is_done}
 use Rattle.tt_world.proofs.Moves.{going_from}
 use Rattle.tt_world.proofs.Parts.{by_end, Alone, Anything}
 use Rattle.tt_world.proofs.Keeps.{Holds, monitored_holds, IgnoresGates, enables_hold, arrivals_hold, acceptances_hold}
-use Rattle.isr_window.proofs.Acceptances.{acceptances_silent}
-use Rattle.stack_dispatch.specs.Due.{enables_from, due_from, NoneAccepted}
+
+-- ---- what is due at an instant, by the offset and the mode that it begins with
+
+-- the enables of an offset of a mode
+abbrev pub enables_from : ℕ → ModeDef → World → Moved
+enables_from offset mode = chain (map enable (enables_at offset mode.enables))
+
+-- a row of a mode activates its task with the whole body
+abbrev pub activated_in : ConfigParts → ModeDef → Option ℕ → World → Moved
+activated_in c mode None w = goes_on w []
+activated_in c mode (Some entry) w =
+    let task = (row_of mode entry).task in
+    goes_on (record w { jobs = w.jobs ++ record { entry = entry; left = body_of c task } ∷ [] })
+    (Activate w.tick task ∷ [])
+
+-- what is due at an offset of a mode, and at the present tick
+abbrev pub due_from : ConfigParts → ScriptParts → ℕ → ModeDef → List (World → Moved)
+due_from c s offset mode =
+    monitored c (is_at offset)
+    ∷ enables_from offset mode
+    ∷ arrivals c s
+    ∷ acceptances c
+    ∷ activated_in c mode (entry_at offset mode.activations)
+    ∷ []
 
 -- ---- parts
 
@@ -44,12 +65,6 @@ skip : (part : World → Moved) (parts : List (World → Moved)) (w : World) →
 unfolding chain followed
 skip part parts w e = ap (λ m. followed m (chain parts)) e
 
-idle_parts : {X : Type 0} (part : X → World → Moved) (xs : List X) (w : World) → ((x : X) → part x w ≡ goes_on w [])
-    → chain (map part xs) w ≡ goes_on w []
-unfolding chain
-idle_parts part [] w e = refl
-idle_parts part (x ∷ xs) w e = skip (part x) (map part xs) w (e x) ∙ idle_parts part xs w e
-
 continued_none : (over : Bool) (m : Moved) → is_over m.end ≡ over → continued over m (λ v. goes_on v []) ≡ m
 continued_none true m e = refl
 continued_none false m e =
@@ -66,23 +81,28 @@ module _ (c : ConfigParts) (s : ScriptParts) where
   ignores : (w : World) → IgnoresGates (Clock w)
   ignores w v _ _ _ _ _ p = record { offset = p.offset; mode = p.mode }
 
+  activated_is : (v : World) (found : Option ℕ) → activated c found v ≡ activated_in c (mode_of c v) found v
+  activated_is v None = refl
+  activated_is v (Some entry) = refl
+
   module _ (w : World) where
     activation_same : (v : World) → Clock w v
-        → chain (activation c ∷ []) v ≡ chain (activated c (entry_at (offset_of w) (mode_of c w).activations) ∷ []) v
+        → chain (activation c ∷ []) v ≡ chain (activated_in c (mode_of c w) (entry_at (offset_of w) (mode_of c w).activations) ∷ []) v
     unfolding chain activation
     activation_same v p =
-        ap (λ (o : ℕ). followed (activated c (entry_at o (mode_of c v).activations) v) (chain [])) p.offset
-        ∙ ap (λ (m : ModeDef). followed (activated c (entry_at (offset_of w) m.activations) v) (chain [])) p.mode
+        ap (λ m. followed m (chain [])) (activated_is v _)
+        ∙ ap (λ (o : ℕ). followed (activated_in c (mode_of c v) (entry_at o (mode_of c v).activations) v) (chain [])) p.offset
+        ∙ ap (λ (m : ModeDef). followed (activated_in c m (entry_at (offset_of w) m.activations) v) (chain [])) p.mode
 
     accepted_same : (v : World) → Clock w v
         → chain (acceptances c ∷ activation c ∷ []) v
-        ≡ chain (acceptances c ∷ activated c (entry_at (offset_of w) (mode_of c w).activations) ∷ []) v
+        ≡ chain (acceptances c ∷ activated_in c (mode_of c w) (entry_at (offset_of w) (mode_of c w).activations) ∷ []) v
     unfolding chain
     accepted_same v p = followed_same (Clock w) (acceptances c v) _ _ (acceptances_hold (Clock w) (ignores w) c v [] p) activation_same
 
     arrived_same : (v : World) → Clock w v
         → chain (arrivals c s ∷ acceptances c ∷ activation c ∷ []) v
-        ≡ chain (arrivals c s ∷ acceptances c ∷ activated c (entry_at (offset_of w) (mode_of c w).activations) ∷ []) v
+        ≡ chain (arrivals c s ∷ acceptances c ∷ activated_in c (mode_of c w) (entry_at (offset_of w) (mode_of c w).activations) ∷ []) v
     unfolding chain
     arrived_same v p = followed_same (Clock w) (arrivals c s v) _ _ (arrivals_hold (Clock w) (ignores w) c s v [] p) accepted_same
 
@@ -93,12 +113,12 @@ module _ (c : ConfigParts) (s : ScriptParts) where
 
     enabled_same : (v : World) → Clock w v
         → chain (enables c ∷ arrivals c s ∷ acceptances c ∷ activation c ∷ []) v
-        ≡ chain (enables_from (offset_of w) (mode_of c w) ∷ arrivals c s ∷ acceptances c ∷ activated c (entry_at (offset_of w) (mode_of c w).activations) ∷ []) v
+        ≡ chain (enables_from (offset_of w) (mode_of c w) ∷ arrivals c s ∷ acceptances c ∷ activated_in c (mode_of c w) (entry_at (offset_of w) (mode_of c w).activations) ∷ []) v
     unfolding chain
     enabled_same v p =
-        followed_same (Clock w) (enables c v) _ (chain (arrivals c s ∷ acceptances c ∷ activated c (entry_at (offset_of w) (mode_of c w).activations) ∷ []))
+        followed_same (Clock w) (enables c v) _ (chain (arrivals c s ∷ acceptances c ∷ activated_in c (mode_of c w) (entry_at (offset_of w) (mode_of c w).activations) ∷ []))
         (enables_hold (Clock w) (ignores w) c v [] p) arrived_same
-        ∙ ap (λ m. followed m (chain (arrivals c s ∷ acceptances c ∷ activated c (entry_at (offset_of w) (mode_of c w).activations) ∷ []))) (enables_are v p)
+        ∙ ap (λ m. followed m (chain (arrivals c s ∷ acceptances c ∷ activated_in c (mode_of c w) (entry_at (offset_of w) (mode_of c w).activations) ∷ []))) (enables_are v p)
 
     -- what is due is that of the offset and the mode at which the parts begin
     pub due_same : chain (due c s) w ≡ chain (due_from c s (offset_of w) (mode_of c w)) w
@@ -128,7 +148,7 @@ pub record NothingDue (c : ConfigParts) (s : ScriptParts) (w : World) : Type 0 w
   pub checks : (place : ℕ) → place < length w.jobs
       → is_at (offset_of w) (point_of (mode_of c w) (row_of (mode_of c w) (job_at w.jobs place).entry)) ≡ false
   pub enables : enables_at (offset_of w) (mode_of c w).enables ≡ []
-  pub arrivals : (source : Source) → list_any (λ tick. tick == w.tick) (arrivals_of s source) ≡ false
+  pub arrivals : arrivals c s w ≡ goes_on w []
   pub activation : entry_at (offset_of w) (mode_of c w).activations ≡ None
 
 module _ (c : ConfigParts) (s : ScriptParts) (w : World) (n : NothingDue c s w) where
@@ -141,10 +161,6 @@ module _ (c : ConfigParts) (s : ScriptParts) (w : World) (n : NothingDue c s w) 
   unfolding chain
   no_enables = ap (λ (rows : List Enable). chain (map enable rows) w) n.enables
 
-  no_arrivals : arrivals c s w ≡ goes_on w []
-  unfolding arrivals arrival
-  no_arrivals = idle_parts (arrival s) (sources c) w (λ source. cond-false _ _ _ (n.arrivals source))
-
   no_latch : latch c w ≡ goes_on w []
   unfolding latch
   no_latch = cond-false _ _ _ (false_from_ne_true _ (λ e. n.latched (eqb-true _ _ e)))
@@ -153,10 +169,10 @@ module _ (c : ConfigParts) (s : ScriptParts) (w : World) (n : NothingDue c s w) 
   unfolding round_end
   no_round_end = cond-false _ _ _ n.round
 
-  last_parts : chain (acceptances c ∷ activated c (entry_at (offset_of w) (mode_of c w).activations) ∷ []) w ≡ acceptances c w
+  last_parts : chain (acceptances c ∷ activated_in c (mode_of c w) (entry_at (offset_of w) (mode_of c w).activations) ∷ []) w ≡ acceptances c w
   unfolding chain followed
   last_parts =
-      ap (λ (found : _). chain (acceptances c ∷ activated c found ∷ []) w) n.activation
+      ap (λ (found : Option ℕ). chain (acceptances c ∷ activated_in c (mode_of c w) found ∷ []) w) n.activation
       ∙ continued_none (is_over (acceptances c w).end) (acceptances c w) refl
 
   -- only the acceptances are left
@@ -169,9 +185,5 @@ module _ (c : ConfigParts) (s : ScriptParts) (w : World) (n : NothingDue c s w) 
       ∙ due_same c s w
       ∙ skip (monitored c (is_at (offset_of w))) _ w no_checks
       ∙ skip (enables_from (offset_of w) (mode_of c w)) _ w no_enables
-      ∙ skip (arrivals c s) _ w no_arrivals
+      ∙ skip (arrivals c s) _ w n.arrivals
       ∙ last_parts
-
-  -- where nothing can be accepted either, the opening changes nothing
-  pub opening_idles : NoneAccepted c w → opening c s w ≡ goes_on w []
-  opening_idles none = opening_accepts ∙ acceptances_silent c w none
