@@ -53,3 +53,6 @@ pub mod SourceParts
 pub mod SourceTicks
 pub mod SourceEnds
 pub mod InterruptLaws
+pub mod Openings
+pub mod Late
+pub mod Still

@@ -56,7 +56,7 @@ set_cases xs i j left =
     (λ (ne : j ≢ i). inr (get_or-set_other xs i j left [] ne))
     (cases_eq j i)
 
-place_cases : (xs : List Job) (i j : ℕ) (left : List Stmt) → ((job_at (with_left xs i left) j).left ≡ left)
+pub place_cases : (xs : List Job) (i j : ℕ) (left : List Stmt) → ((job_at (with_left xs i left) j).left ≡ left)
     ⊎ ((job_at (with_left xs i left) j).left ≡ (job_at xs j).left)
 place_cases xs i j left =
     ⊎_elim
@@ -170,7 +170,7 @@ module _ (c : ConfigParts) (s : ScriptParts) (rules : IsConfig c) where
 
   -- ---- a tick
 
-  abbrev EffectsNamed : List Effect → Type 0
+  abbrev pub EffectsNamed : List Effect → Type 0
   EffectsNamed [] = Unit {0}
   EffectsNamed (effect.Out value ∷ rest) = EffectsNamed rest
   EffectsNamed (effect.Service k ∷ rest) = (names_below (length c.modes) (length c.oseks) k ≡ true) × EffectsNamed rest
@@ -187,7 +187,7 @@ module _ (c : ConfigParts) (s : ScriptParts) (rules : IsConfig c) where
   tick_named left w (Stmt-F.If expr first second) rest h = tt
   tick_named left w (Stmt-F.Repeat n body) rest h = tt
 
-  effects_named : (w : World) (left : List Stmt) → Callees c left → EffectsNamed (state_after c s w left).effects
+  pub effects_named : (w : World) (left : List Stmt) → Callees c left → EffectsNamed (state_after c s w left).effects
   unfolding tick
   effects_named w [] t = tt
   effects_named w (front ∷ rest) t =
