@@ -9,3 +9,4 @@ pub mod Windows
 pub mod Arrivals
 pub mod Acceptances
 pub mod NextTicks
+pub mod Fewer

@@ -144,12 +144,14 @@ impl Gates {
         Some(Arrived { source, merged })
     }
 
-    /// Enables a time-triggered source.
+    /// Enables a time-triggered source, where it is there.
     pub fn enable(&mut self, isr: IsrNo)
-        requires { isr.0 < length self.old.isrs_enabled }
         ensures { self.new ≡ enabling isr self.old }
     {
-        self.isrs_enabled.put(usize::from(isr.0), true);
+        let number = usize::from(isr.0);
+        if number < self.isrs_enabled.len() {
+            self.isrs_enabled.put(number, true);
+        }
     }
 
     /// Accepts the interrupt of the first source that is held, enabled and not busy, if there is

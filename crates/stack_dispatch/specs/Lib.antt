@@ -1,6 +1,9 @@
-pub mod Activated
 pub mod Checking
+pub mod Due
+pub mod Lefts
 pub mod RunEnd
-pub mod Runners
+pub mod Served
+pub mod Serving
 pub mod State
+pub mod Ticking
 pub mod Unfinished

@@ -1,34 +1,57 @@
--- The state of a run between its instants, and what a part of an instant may rest on.
-use Rattle.std.specs.Prelude.{◌≡◌, ℕ, ◌+◌, ◌^◌, ◌<◌, ◌≤◌}
+-- What contracts see of the state of a run.
+use Rattle.std.specs.Prelude.{◌≡◌, ℕ, List, length}
 use Rattle.tt_world.specs.declared.config.ConfigParts.{ConfigParts}
 use Rattle.tt_world.specs.declared.script.ScriptParts.{ScriptParts}
-use Rattle.tt_world.specs.declared.world.World.{World}
-use Rattle.tt_world.specs.ConfigRules.{IsConfig}
-use Rattle.tt_world.specs.Rows.{HasMode, offset_of, mode_of}
-use Rattle.round_table.specs.NextOffset.{IsFree}
-use Rattle.round_table.specs.TableRows.{TableRows, table_of}
-use Rattle.stack_dispatch.specs.Activated.{AreActivated}
+use Rattle.tt_world.specs.World.{World}
+use Rattle.isr_window.specs.Window.{Window}
+use Rattle.isr_window.specs.Played.{with_window}
 
--- the world, and an offset of the round up to below which nothing is due
-pub record State : Type 0 where
+-- what the runner keeps beside the world: how long a round is, how far it is corrected, how many modes and rounds there are, the
+-- global times, and the ticks of the arrivals that were not yet taken
+pub record Beside : Type 0 where
+  pub round : ℕ
+  pub adjust : ℕ
+  pub modes : ℕ
+  pub rounds : ℕ
+  pub times : List ℕ
+  pub isrs_ticks : List (List ℕ)
+  pub oisrs_ticks : List (List ℕ)
+
+pub record RunState : Type 0 where
   pub world : World
-  pub next : ℕ
+  pub beside : Beside
 
--- a run can take the instant: the next tick and the next round have numbers
-pub record HasRoom (s : ScriptParts) (w : World) : Type 0 where
-  pub tick : w.tick + 1 < 2 ^ 64
-  pub number : w.number ≤ s.rounds
+-- what stays as it is over a run
+pub record Fixed : Type 0 where
+  pub round : ℕ
+  pub adjust : ℕ
+  pub modes : ℕ
+  pub rounds : ℕ
+  pub times : List ℕ
 
--- the configuration meets the rules, the table is the one of the present mode, and the rows that were reached have been activated
-pub record IsServed (c : ConfigParts) (rows : TableRows) (w : World) : Type 0 where
-  pub rules : IsConfig c
-  pub mode : HasMode c w
-  pub table : rows ≡ table_of c (mode_of c w)
-  pub activated : AreActivated c 0 w
+abbrev pub fixed_in : Beside → Fixed
+fixed_in b = record { round = b.round; adjust = b.adjust; modes = b.modes; rounds = b.rounds; times = b.times }
 
--- from the present offset on nothing is due up to below the next one: k is 0 before the opening of an instant, and 1 after it. At
--- tick 0 the head of the run is due
-pub record IsQuiet (c : ConfigParts) (k : ℕ) (state : State) : Type 0 where
-  pub within : state.next ≤ c.round
-  pub free : (between : ℕ) → offset_of state.world + k ≤ between → between < state.next → IsFree between (mode_of c state.world)
-  pub head : state.world.tick + k ≡ 0 → state.next ≡ 0
+abbrev pub fixed_of : ConfigParts → ScriptParts → Fixed
+fixed_of c s = record { round = c.round; adjust = c.adjust; modes = length c.modes; rounds = s.rounds; times = s.times }
+
+-- what is kept is that of a configuration and of a script
+abbrev pub IsFor : ConfigParts → ScriptParts → Beside → Type 0
+IsFor c s b = fixed_in b ≡ fixed_of c s
+
+-- the interrupt sources of a state
+abbrev pub window_in : RunState → Window
+window_in st = record {
+  isrs_enabled = st.world.isrs_enabled;
+  isrs_held = st.world.isrs_held;
+  isrs_left = st.beside.isrs_ticks;
+  oisrs_held = st.world.oisrs_held;
+  oisrs_left = st.beside.oisrs_ticks;
+}
+
+-- the state with these sources
+abbrev pub with_sources : Window → RunState → RunState
+with_sources g st = record {
+  world = with_window st.world g;
+  beside = record st.beside { isrs_ticks = g.isrs_left; oisrs_ticks = g.oisrs_left };
+}

@@ -1,14 +1,15 @@
 //! The hooks. A hook is played whole at one instant.
 
-ghost use Rattle.std.specs.Prelude.{◌≡◌, ◌++◌, IfOk};
+ghost use Rattle.std.specs.Prelude.{◌≡◌, ◌++◌, IfOk, Some};
 ghost use Rattle.task_lang.specs.declared.syntax.Stmt.{out-Stmt};
-ghost use Rattle.tt_world.specs.Hooks.{vars_by, outs_by, vars_after, outs_of, error_vars, error_events, shutdown_vars, shutdown_events};
+ghost use Rattle.tt_world.specs.Hooks.{vars_by, outs_by, vars_after, outs_of, shuts_down, misses};
+ghost use Rattle.tt_world.specs.Moved.{Gives};
 
-use crate::plain::Events;
+use crate::state::State;
 use task_lang::value::value;
 use task_lang::{Body, Stmt, Vars};
-use tt_base::{Event, Memory, Owner, TaskNo, Tick};
-use tt_world::ConfigParts;
+use tt_base::{Event, Memory, Owner, Series, TaskNo, Tick};
+use tt_world::{ConfigParts, RunEnd};
 
 /// Plays a statement of a hook. The rules allow no other than `set` and `out`; any other does nothing.
 fn play_statement(
@@ -16,7 +17,7 @@ fn play_statement(
     hook: Owner,
     stmt: &Stmt,
     vars: &mut Vars,
-    events: &mut Events,
+    events: &mut Series<Event>,
 ) -> Result<(), Memory>
     ensures vars { IfOk result (λ _. vars.new ≡ vars_by vars.old (out-Stmt stmt.now)) }
     ensures events { IfOk result (λ _. events.new ≡ events.old ++ outs_by at hook vars.old (out-Stmt stmt.now)) }
@@ -43,7 +44,7 @@ fn play(
     hook: Owner,
     body: &Body,
     vars: &mut Vars,
-    events: &mut Events,
+    events: &mut Series<Event>,
 ) -> Result<(), Memory>
     ensures vars { IfOk result (λ _. vars.new ≡ vars_after vars.old body.now) }
     ensures events { IfOk result (λ _. events.new ≡ events.old ++ outs_of at hook vars.old body.now) }
@@ -54,32 +55,49 @@ fn play(
     Ok(())
 }
 
-/// Calls ttErrorHook with the task that missed its deadline.
-pub fn call_error_hook(
-    at: Tick,
-    task: TaskNo,
-    config: &ConfigParts,
-    vars: &mut Vars,
-    events: &mut Events,
-) -> Result<(), Memory>
-    ensures vars { IfOk result (λ _. vars.new ≡ error_vars config.now vars.old) }
-    ensures events { IfOk result (λ _. events.new ≡ events.old ++ error_events config.now at task vars.old) }
-{
-    events.push(Event::ErrorHook { at, task })?;
-    play(at, Owner::ErrorHook, &config.error_hook, vars, events)
-}
+impl State {
+    /// ttShutdownHook is called, and the run ends by a shutdown, with this end.
+    pub(crate) fn shut_down(
+        &mut self,
+        config: &ConfigParts,
+        end: RunEnd,
+        events: &mut Series<Event>,
+    ) -> Result<Option<RunEnd>, Memory>
+        ensures gives { IfOk result (λ over. Gives events.old events.new self.new.world over (shuts_down config.now (Some end) self.old.world)) }
+        ensures beside { IfOk result (λ _. self.new.beside ≡ self.old.beside) }
+    {
+        let at = self.tick;
+        events.push(Event::ShutdownHook { at })?;
+        play(
+            at,
+            Owner::ShutdownHook,
+            &config.shutdown_hook,
+            &mut self.vars,
+            events,
+        )?;
+        events.push(Event::Shutdown { at })?;
+        Ok(Some(end))
+    }
 
-/// Calls ttShutdownHook, after which the run ends by a shutdown.
-pub fn call_shutdown_hook(
-    at: Tick,
-    config: &ConfigParts,
-    vars: &mut Vars,
-    events: &mut Events,
-) -> Result<(), Memory>
-    ensures vars { IfOk result (λ _. vars.new ≡ shutdown_vars config.now vars.old) }
-    ensures events { IfOk result (λ _. events.new ≡ events.old ++ shutdown_events config.now at vars.old) }
-{
-    events.push(Event::ShutdownHook { at })?;
-    play(at, Owner::ShutdownHook, &config.shutdown_hook, vars, events)?;
-    events.push(Event::Shutdown { at })
+    /// A task has missed its deadline: ttErrorHook is called with it, and then the run is shut down.
+    pub(crate) fn miss(
+        &mut self,
+        config: &ConfigParts,
+        task: TaskNo,
+        events: &mut Series<Event>,
+    ) -> Result<Option<RunEnd>, Memory>
+        ensures gives { IfOk result (λ over. Gives events.old events.new self.new.world over (misses config.now task self.old.world)) }
+        ensures beside { IfOk result (λ _. self.new.beside ≡ self.old.beside) }
+    {
+        let at = self.tick;
+        events.push(Event::ErrorHook { at, task })?;
+        play(
+            at,
+            Owner::ErrorHook,
+            &config.error_hook,
+            &mut self.vars,
+            events,
+        )?;
+        self.shut_down(config, RunEnd::Missed(task), events)
+    }
 }

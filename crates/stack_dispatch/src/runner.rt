@@ -1,53 +1,15 @@
-//! Who runs, and one tick of it.
+//! Who runs.
 
-ghost use Rattle.std.specs.Prelude.{◌≡◌, ◌+◌, ◌^◌, ◌<◌, IfOk, ◌++◌, option_to_list};
-ghost use Rattle.tt_world.specs.Moved.{Gives, event_if, goes_on};
-ghost use Rattle.tt_world.specs.Rows.{HasMode, mode_of};
-ghost use Rattle.tt_world.specs.Step.{task_runner, owner_of, ran_before, effect_events, served, served_events};
-ghost use Rattle.stack_dispatch.specs.Runners.{IsThere, ChangesOnly};
+ghost use Rattle.std.specs.Prelude.{◌≡◌};
+ghost use Rattle.tt_world.specs.Rows.{HasMode};
+ghost use Rattle.tt_world.specs.Runners.{isr_runner, task_runner, oisr_runner, osek_runner, runner_of, owner_of, ran_before};
 
-use crate::monitoring::{is_done, row};
-use crate::plain::Events;
-use std::alloc::Global;
-use task_lang::Effect;
-use tt_base::{Event, Memory, Owner, Tick};
-use tt_world::{ConfigParts, ModeDef, Outcome, Runner, ScriptParts, World};
-
-/// The runner where this is the place of the last activation with statements left.
-pub fn runner_at(place: Option<usize>) -> Runner
-    ensures { result ≡ task_runner place }
-{
-    match place {
-        Some(place) => Runner::Activation(place),
-        None => Runner::Nobody,
-    }
-}
-
-/// The present mode.
-pub fn mode<'a>(config: &'a ConfigParts, world: &World) -> &'a ModeDef
-    requires { HasMode config.now world.now }
-    ensures { result.now ≡ mode_of config.now world.now }
-{
-    &config.modes.as_slice()[usize::from(world.mode.0)]
-}
-
-/// The owner of a tick that a runner takes.
-pub fn owner(config: &ConfigParts, world: &World, runner: Runner) -> Owner
-    requires mode { HasMode config.now world.now }
-    requires there { IsThere runner world.now.activations }
-    ensures { result ≡ owner_of config.now world.now runner }
-{
-    match runner {
-        Runner::Activation(place) => {
-            let entry = world.activations.as_slice()[place].entry;
-            Owner::Task(row(mode(config, world), entry).task)
-        }
-        Runner::Nobody => Owner::Idle,
-    }
-}
+use crate::state::{State, entry_at, row};
+use tt_base::{IsrNo, OisrNo, OsekNo, Owner};
+use tt_world::{ConfigParts, Runner};
 
 /// Whether the tick before had this owner.
-pub fn ran_before(last: Option<Owner>, who: Owner) -> bool
+pub(crate) fn ran_before(last: Option<Owner>, who: Owner) -> bool
     ensures { result ≡ ran_before last who }
 {
     match (last, who) {
@@ -62,64 +24,73 @@ pub fn ran_before(last: Option<Owner>, who: Owner) -> bool
     }
 }
 
-/// Notes the events of a tick: its effect, and the end of its owner.
-fn note_tick(
-    at: Tick,
-    who: Owner,
-    effect: Option<Effect>,
-    ended: bool,
-    events: &mut Events,
-) -> Result<(), Memory>
-    requires { at + 1 < 2 ^ 64 }
-    ensures { IfOk result (λ _. events.new ≡ events.old ++ (effect_events at who (option_to_list effect) ++ event_if ended (Event.End (at + 1) who))) }
-{
-    if let Some(Effect::Out(value)) = effect {
-        events.push(Event::Out {
-            at,
-            owner: who,
-            value,
-        })?;
+impl State {
+    /// The unfinished time-triggered routine of the highest level, if there is one.
+    fn isr_runner(&self, config: &ConfigParts) -> Option<Runner>
+        ensures { result ≡ isr_runner config.now self.now.world }
+    {
+        let number = self.isrs.highest(config.isrs.as_slice())?;
+        Some(Runner::Isr(IsrNo(number)))
     }
-    if ended {
-        events.push(Event::End {
-            at: at + 1,
-            owner: who,
-        })?;
-    }
-    Ok(())
-}
 
-/// The tick of a runner, which has this owner, but for the tick itself and its owner.
-pub fn serve(
-    alloc: Global,
-    config: &ConfigParts,
-    script: &ScriptParts,
-    runner: Runner,
-    who: Owner,
-    world: &mut World,
-    events: &mut Events,
-) -> Result<(), Memory>
-    requires tick { world.old.tick + 1 < 2 ^ 64 }
-    requires there { IsThere runner world.old.activations }
-    requires owner { who ≡ owner_of config.now world.old runner }
-    ensures gives { IfOk result (λ _. Gives events.old events.new world.new Outcome.GoesOn
-        (goes_on (served config.now script.now runner world.old) (served_events config.now script.now runner world.old))) }
-    // also on want of memory
-    ensures others { ChangesOnly runner world.old.activations world.new.activations }
-{
-    match runner {
-        Runner::Activation(place) => {
-            let left = world.activations.left_mut(place);
-            let effect = left.tick(
-                alloc,
-                &mut world.vars,
-                &mut world.cursors,
-                &config.demands,
-                &script.values,
-            )?;
-            let ended = is_done(left);
-            note_tick(world.tick, who, effect, ended, events)
+    /// The last job that has statements left, if there is one.
+    fn task_runner(&mut self) -> Option<Runner>
+        ensures runner { result ≡ task_runner self.old.world }
+        ensures state { self.new ≡ self.old }
+    {
+        self.unfinished.settle(self.jobs.as_slice());
+        let place = self.unfinished.last()?;
+        Some(Runner::Job(place))
+    }
+
+    /// The unfinished OSEK routine of the highest priority, if there is one.
+    fn oisr_runner(&self, config: &ConfigParts) -> Option<Runner>
+        ensures { result ≡ oisr_runner config.now self.now.world }
+    {
+        let number = self.oisrs.highest(config.oisrs.as_slice())?;
+        Some(Runner::Oisr(OisrNo(number)))
+    }
+
+    /// The OSEK task of the highest priority that is not suspended, if there is one.
+    fn osek_runner(&self, config: &ConfigParts) -> Option<Runner>
+        ensures { result ≡ osek_runner config.now self.now.world }
+    {
+        let number = self.oseks.highest(config.oseks.as_slice())?;
+        Some(Runner::Osek(OsekNo(number)))
+    }
+
+    /// Who runs: a time-triggered routine before a job, a job before the OSEK subsystem, and there a routine before a task; else nobody.
+    #[tactic(auto, unfolding(tt_world::specs::Runners::runner_of))]
+    pub(crate) fn runner(&mut self, config: &ConfigParts) -> Runner
+        ensures runner { result ≡ runner_of config.now self.old.world }
+        ensures state { self.new ≡ self.old }
+    {
+        if let Some(runner) = self.isr_runner(config) {
+            return runner;
         }
-        Runner::Nobody => Ok(()),
+        if let Some(runner) = self.task_runner() {
+            return runner;
+        }
+        if let Some(runner) = self.oisr_runner(config) {
+            return runner;
+        }
+        self.osek_runner(config).unwrap_or(Runner::Nobody)
+    }
+
+    /// The owner of a tick that a runner takes.
+    pub(crate) fn owner(&self, config: &ConfigParts, runner: Runner) -> Owner
+        requires { HasMode config.now self.now.world }
+        ensures { result ≡ owner_of config.now self.now.world runner }
+    {
+        match runner {
+            Runner::Isr(isr) => Owner::Isr(isr),
+            Runner::Job(place) => {
+                let entry = entry_at(self.jobs.as_slice(), place);
+                Owner::Task(row(self.mode_of(config), entry).task)
+            }
+            Runner::Oisr(oisr) => Owner::Oisr(oisr),
+            Runner::Osek(task) => Owner::Osek(task),
+            Runner::Nobody => Owner::Idle,
+        }
     }
 }

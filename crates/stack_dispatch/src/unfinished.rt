@@ -1,14 +1,13 @@
 //! The activations of a round that may have statements left, as a stack: the last one runs.
 
 ghost use Rattle.std.specs.Prelude.{◌≡◌, [], ◌∷◌, drop, length, slice_get, OnOk, OnErr};
-ghost use Rattle.tt_world.specs.Instances.{last_unfinished};
+ghost use Rattle.tt_world.specs.Runners.{last_unfinished};
 ghost use Rattle.stack_dispatch.specs.Unfinished.{AreUnfinished};
 
-use crate::monitoring::is_done_at;
+use crate::state::{Job, is_done_at};
 use std::alloc::Global;
 use std::marker::Model;
 use tt_base::Memory;
-use tt_world::Instance;
 
 /// The places of activations in the round's list. Contracts see them as a list, the last first.
 #[derive(Drop)]
@@ -42,7 +41,7 @@ impl Unfinished {
         self.places.last().copied()
     }
 
-    /// Puts a place behind the others. On want of memory nothing has changed.
+    /// Puts a place after the others. When out of memory, nothing has changed.
     pub fn push(&mut self, place: usize) -> Result<(), Memory>
         ensures ok { OnOk result (self.new ≡ place ∷ self.old) }
         ensures err { OnErr result (self.new ≡ self.old) }
@@ -70,13 +69,13 @@ impl Unfinished {
     /// Takes the last places away up to one whose activation has statements left. No activation at another place has any. Each place
     /// is taken away once, so that over a run the steps are linear in the activations and the calls.
     #[tactic(auto, using(crate::proofs::LastUnfinished::last_here, crate::proofs::LastUnfinished::last_none, crate::proofs::LastUnfinished::last_taken))]
-    pub fn settle(&mut self, activations: &[Instance])
-        requires { AreUnfinished self.old (length activations.now) activations.now }
-        ensures places { AreUnfinished self.new (length activations.now) activations.now }
-        ensures last { slice_get self.new 0 ≡ last_unfinished 0 activations.now }
+    pub fn settle(&mut self, jobs: &[Job])
+        requires { AreUnfinished self.old (length jobs.now) jobs.now }
+        ensures places { AreUnfinished self.new (length jobs.now) jobs.now }
+        ensures last { slice_get self.new 0 ≡ last_unfinished 0 jobs.now }
     {
         while let Some(place) = self.last() {
-            if !is_done_at(activations, place) {
+            if !is_done_at(jobs, place) {
                 return;
             }
             self.pop();

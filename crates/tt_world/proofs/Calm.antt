@@ -51,7 +51,7 @@ unfolding outs_of
 outs_calm at hook vars [] = tt
 outs_calm at hook vars (stmt ∷ rest) =
     all_more IsCalm (outs_by at hook vars (out-Stmt stmt)) (outs_of at hook (vars_by vars (out-Stmt stmt)) rest)
-        (outs_by_calm at hook vars (out-Stmt stmt)) (outs_calm at hook (vars_by vars (out-Stmt stmt)) rest)
+    (outs_by_calm at hook vars (out-Stmt stmt)) (outs_calm at hook (vars_by vars (out-Stmt stmt)) rest)
 
 pub shuts_status : (c : ConfigParts) (end : Outcome) (w : World) → status_of (shuts_down c end w).events ≡ Shut w.tick
 shuts_status c end w = calm_status (outs_of w.tick owner.ShutdownHook w.vars c.shutdown_hook) (Shutdown w.tick ∷ [])
@@ -87,7 +87,7 @@ checked_tell at mode is_due [] = tt
 checked_tell at mode is_due (x ∷ xs) =
     if_tell at (is_due (point_of mode (row_of mode x.entry))) _ (checked at mode is_due xs)
     (then_tell at (row_of mode x.entry).task (is_done x.left) (checked at mode is_due xs)
-        (checked_tell at mode is_due xs)) (checked_tell at mode is_due xs)
+    (checked_tell at mode is_due xs)) (checked_tell at mode is_due xs)
 
 -- ---- a tick
 
@@ -104,9 +104,11 @@ module _ (c : ConfigParts) (s : ScriptParts) where
       let answer = service c s r k left w in
       let u = leaving answer.world r answer.left in
       cond_both (is_shutdown k) _ _ (Tells line)
-      (λ _.
-          (u.tick, calm_status line (Called u.tick who k answer.result ∷ (shuts_down c (Some ending.Shutdown) u).events)
-          p ∙ shuts_status c (Some ending.Shutdown) u))
+      (λ _. (
+        u.tick,
+        calm_status line (Called u.tick who k answer.result ∷ (shuts_down c (Some ending.Shutdown) u).events)
+            p ∙ shuts_status c (Some ending.Shutdown) u,
+      ))
       (λ _. all_more IsCalm line (Called u.tick who k answer.result ∷ []) p (λ _. refl, tt))
 
   after_tells : (line : List Event) (m : Moved) → Tells line m → Tells [] (preceded line m)
@@ -121,13 +123,13 @@ module _ (c : ConfigParts) (s : ScriptParts) where
       let v = record w { vars = state.vars; cursors = state.cursors } in
       let tick = runner_tick c s r who w in
       let told = effected_tells r who state.effects state.left v (run_line w who)
-          (event_if_all IsCalm _ (Run w.tick who) (λ _. refl)) in
+      (event_if_all IsCalm _ (Run w.tick who) (λ _. refl)) in
       followed_at (λ v fs. Of IsCalm fs) (λ end v fs. (t : ℕ) × (status_of fs ≡ Shut t)) []
-          (preceded (run_line w who) tick.move) (tick_over who (is_somebody r && tick.ended))
+      (preceded (run_line w who) tick.move) (tick_over who (is_somebody r && tick.ended))
       (λ over. led_over (λ v fs. Of IsCalm fs) (λ end v fs. (t : ℕ) × (status_of fs ≡ Shut t))
-          (run_line w who) tick.move over told)
+      (run_line w who) tick.move over told)
       (λ on.
       all_more IsCalm (run_line w who ++ tick.move.events)
-          (event_if (is_somebody r && tick.ended) (End (tick.move.world.tick + 1) who))
+      (event_if (is_somebody r && tick.ended) (End (tick.move.world.tick + 1) who))
       (led_on (λ v fs. Of IsCalm fs) (λ end v fs. (t : ℕ) × (status_of fs ≡ Shut t)) (run_line w who) tick.move on told)
       (event_if_all IsCalm (is_somebody r && tick.ended) (End (tick.move.world.tick + 1) who) (λ _. refl)))

@@ -1,6 +1,6 @@
 -- The checks of an instant at the end of its round, and that the ends seen at a tick are those among the events before
 -- it.
-use Rattle.std.proofs.Common.{ℕ, zero, suc, ◌≡◌, ◌<◌, ◌≤◌, ◌+◌, ◌-◌, List, [], ◌∷◌, ◌++◌, Bool, true, false, Option, None, refl, ap, sym, ◌∙◌, subst, arith, length, ⊎_elim}
+use Rattle.std.proofs.Common.{ℕ, suc, ◌≡◌, ◌≤◌, ◌+◌, ◌-◌, List, [], ◌∷◌, ◌++◌, Bool, true, false, refl, ap, sym, ◌∙◌, subst, arith, ⊎_elim}
 use Rattle.std.specs.Prelude.{filter, nat_le, not}
 use Rattle.std.proofs.lemmas.Bool.{cond_both, cases_Bool}
 use Rattle.std.proofs.lemmas.List.Elements.{filter-append}
@@ -13,11 +13,10 @@ use Rattle.tt_world.specs.declared.config.ConfigParts.{ConfigParts}
 use Rattle.tt_world.specs.declared.config.ModeDef.{ModeDef}
 use Rattle.tt_world.specs.declared.script.ScriptParts.{ScriptParts}
 use Rattle.tt_world.specs.declared.world.Point.{Point}
-use Rattle.tt_world.specs.declared.world.Point.TheVariants as point
 use Rattle.tt_world.specs.World.{World}
 use Rattle.tt_world.specs.ConfigRules.{IsConfig}
 use Rattle.tt_world.specs.ScriptRules.{IsScript}
-use Rattle.tt_world.specs.Moved.{Moved, is_over, chain}
+use Rattle.tt_world.specs.Moved.{Moved, is_over}
 use Rattle.tt_world.specs.Rows.{offset_of, mode_of, row_of, entry_at}
 use Rattle.tt_world.specs.Runners.{runner_of, owner_of, ran_before}
 use Rattle.tt_world.specs.Points.{point_of}
@@ -30,7 +29,7 @@ use Rattle.tt_world.specs.Schedule.{instant, instant_at, world_at, events_before
 use Rattle.tt_world.specs.Status.{stamp_of}
 use Rattle.tt_world.specs.Readings.{seen_at, has_ended}
 use Rattle.tt_world.specs.EventLaws.{checked_rows}
-use Rattle.tt_world.proofs.Parts.{OfRun, OfEnd, OpeningKeeps, LeadsTo, Leads, leads_by, led_on, led_over, opening_leads, followed_events, GoesOnBefore}
+use Rattle.tt_world.proofs.Parts.{OfRun, OfEnd, OpeningKeeps, Leads, leads_by, led_on, led_over, opening_leads, followed_events, GoesOnBefore}
 use Rattle.tt_world.proofs.Ends.{are_bounded, last_is, tick_at}
 use Rattle.tt_world.proofs.Emits.{Of, all_more, event_if_all, latch_all, round_end_all, monitored_all, enables_all, arrivals_all, acceptances_all, activated_all}
 use Rattle.tt_world.proofs.TableRows.{mode_rows, deadline_after}
@@ -57,7 +56,7 @@ checks_at_length c rules w es p late seen =
       entries = λ i l. let z : 0 + i ≡ i = omega arith in p.entries i l ∙ sym z;
       rows_are = λ i l. let z : 0 + i ≡ i = omega arith in ap (row_of mode) (sym z);
       few = p.few;
-      preceded = λ i g l.
+      later = λ i g l.
           let rows = mode_rows c w.mode.0 rules in
           let after = p.later i g l in
           let dead = deadline_after c mode i rows l in
@@ -107,7 +106,7 @@ of_filter E test [] p = tt
 of_filter E test (e ∷ es) p =
     let rest = of_filter E test es p.1 in cond_both (test e) _ _ (Of E) (λ _. (p.0, rest)) (λ _. rest)
 
-still_end : (e : Event) → is_still e ≡ true → is_end e ≡ false
+pub still_end : (e : Event) → is_still e ≡ true → is_end e ≡ false
 still_end (End at who) n = cc
 still_end e n = refl
 
@@ -138,7 +137,8 @@ module _ (c : ConfigParts) (s : ScriptParts) where
         (λ w. activated_all NoEnd c (entry_at (offset_of w) (mode_of c w).activations) (λ _ _. refl) w);
   }
 
-  opening_no_end : (w : World) → Of NoEnd (opening c s w).events
+  -- an opening has no end
+  pub opening_no_end : (w : World) → Of NoEnd (opening c s w).events
   opening_no_end w =
       let m = opening c s w in
       let h = opening_leads c s (λ _. NoEnds) NoEndsOver opening_keeps w [] tt in

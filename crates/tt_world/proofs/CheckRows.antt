@@ -62,7 +62,7 @@ module _ (seen : List Event) (at start : ℕ) (mode : ModeDef) (is_due : Point �
     pub entries : (i : ℕ) → i < length xs → (job_at xs i).entry ≡ n + i
     pub rows_are : (i : ℕ) → i < length rows → get_or rows i no_row ≡ row_of mode (n + i)
     pub few : length xs ≤ length rows
-    pub preceded : (i : ℕ) → length xs ≤ i → i < length rows → is_due (point_of mode (get_or rows i no_row)) ≡ false
+    pub later : (i : ℕ) → length xs ≤ i → i < length rows → is_due (point_of mode (get_or rows i no_row)) ≡ false
     pub met : (i : ℕ) → i < length xs → is_due (point_of mode (get_or rows i no_row)) ≡ true
         → is_done (job_at xs i).left ≡ ended (get_or rows i no_row)
 
@@ -74,7 +74,7 @@ module _ (seen : List Event) (at start : ℕ) (mode : ModeDef) (is_due : Point �
         rows_are = λ i l. let z : n + suc i ≡ n + 1 + i = omega arith in
             h.rows_are (suc i) (omega arith) ∙ ap (row_of mode) z;
         few = let f = h.few in omega arith;
-        preceded = λ i g l. h.preceded (suc i) (omega arith) (omega arith);
+        later = λ i g l. h.later (suc i) (omega arith) (omega arith);
         met = λ i l d. h.met (suc i) (omega arith) d;
       }
 
@@ -86,17 +86,17 @@ module _ (seen : List Event) (at start : ℕ) (mode : ModeDef) (is_due : Point �
   pub checks_are_rows : (n : ℕ) (xs : List Job) (rows : List ActivationRow) → Same n xs rows
       → (checked at mode is_due xs).events ≡ rows_of rows
   unfolding checked
-  checks_are_rows n [] rows h = sym (none_due rows (λ i l. h.preceded i (omega arith) l))
+  checks_are_rows n [] rows h = sym (none_due rows (λ i l. h.later i (omega arith) l))
   checks_are_rows n (x ∷ xs) [] h = absurd (let f = h.few in omega arith)
   checks_are_rows n (x ∷ xs) (row ∷ rows) h =
       let rest = checks_are_rows (n + 1) xs rows (next n x xs row rows h) in
       let row_is : row_of mode x.entry ≡ row = ap (row_of mode) (h.entries 0 (omega arith))
-          ∙ sym (h.rows_are 0 (omega arith)) in
+      ∙ sym (h.rows_are 0 (omega arith)) in
       let due_is : is_due (point_of mode (row_of mode x.entry)) ≡ is_due (point_of mode row) =
-          ap (λ (r : ActivationRow). is_due (point_of mode r)) row_is in
+      ap (λ (r : ActivationRow). is_due (point_of mode r)) row_is in
       if_events (is_due (point_of mode (row_of mode x.entry)))
-          (check_then at (row_of mode x.entry).task (is_done x.left) (checked at mode is_due xs))
-          (checked at mode is_due xs) (rows_of (row ∷ rows)) []
+      (check_then at (row_of mode x.entry).task (is_done x.left) (checked at mode is_due xs))
+      (checked at mode is_due xs) (rows_of (row ∷ rows)) []
       (λ d.
       let due : is_due (point_of mode row) ≡ true = sym due_is ∙ d in
       then_events (row_of mode x.entry).task (is_done x.left) (checked at mode is_due xs) (rows_of rows) rest
@@ -112,7 +112,7 @@ abbrev pub EndsAreSeen : ConfigParts → World → List Event → (Point → Boo
 EndsAreSeen c w es is_due =
     (i : ℕ) → i < length w.jobs → is_due (point_of (mode_of c w) (row_of (mode_of c w) i)) ≡ true
     → is_done (job_at w.jobs i).left ≡ has_ended (w.start + (row_of (mode_of c w) i).offset)
-        (owner.Task (row_of (mode_of c w) i).task) es
+    (owner.Task (row_of (mode_of c w) i).task) es
 
 not_at : (offset from : ℕ) (p : Point) → offset < from → IsFrom from p → is_at offset p ≡ false
 not_at offset from (point.At place) l h = ne_eqb place offset (λ e. absurd (omega arith))
@@ -122,7 +122,7 @@ not_at offset from point.RoundEnd l h = refl
 pub checks_at_offset : (c : ConfigParts) → IsConfig c → (w : World) (es : List Event) → Placed c 0 w
     → EndsAreSeen c w es (is_at (offset_of w))
     → (checked w.tick (mode_of c w) (is_at (offset_of w)) w.jobs).events ≡ checked_rows es w.tick w.start (mode_of c w)
-        (is_at (offset_of w)) (mode_of c w).activations
+    (is_at (offset_of w)) (mode_of c w).activations
 checks_at_offset c rules w es p seen =
     let mode = mode_of c w in
     checks_are_rows es w.tick w.start mode (is_at (offset_of w)) 0 w.jobs mode.activations
@@ -130,10 +130,10 @@ checks_at_offset c rules w es p seen =
       entries = λ i l. let z : 0 + i ≡ i = omega arith in p.entries i l ∙ sym z;
       rows_are = λ i l. let z : 0 + i ≡ i = omega arith in ap (row_of mode) (sym z);
       few = p.few;
-      preceded = λ i g l.
+      later = λ i g l.
           let low = p.later i g l in
           let dead = deadline_after c mode i (mode_rows c w.mode.0 rules) l in
           not_at (offset_of w) (row_of mode i).deadline (point_of mode (row_of mode i)) (omega arith)
-              (point_is_from mode (row_of mode i));
+          (point_is_from mode (row_of mode i));
       met = λ i l d. seen i l d;
     })

@@ -77,7 +77,7 @@ module _ (E : Event → Type 0) where
   unfolding latch
   latch_all c h w =
       cond_both (eqb (offset_of w) (c.round - c.adjust)) _ _ (λ (m : Moved). Of E m.events)
-          (λ _. event_if_all (not (is_no_change w.pending)) (Correct w.tick w.pending) (h _ _)) (λ _. tt)
+      (λ _. event_if_all (not (is_no_change w.pending)) (Correct w.tick w.pending) (h _ _)) (λ _. tt)
 
   pub next_round_all : (s : ScriptParts) → ((at : ℕ) → E (Stop at))
       → ((at number : ℕ) (mode : ModeNo) → E (Round at number mode)) → (w : World) → Of E (next_round s w).events
@@ -101,15 +101,15 @@ module _ (E : Event → Type 0) where
   arrivals_all c s arrive merge w =
       chain_all (arrival s) (sources c)
       (λ source v. cond_both (list_any (λ (tick : ℕ). tick == v.tick) (arrivals_of s source)) _ _
-          (λ (m : Moved). Of E m.events) (λ _. arrived_all (is_held v source) source arrive merge v) (λ _. tt)) w
+      (λ (m : Moved). Of E m.events) (λ _. arrived_all (is_held v source) source arrive merge v) (λ _. tt)) w
 
   pub acceptances_all : (c : ConfigParts) → ((at : ℕ) (who : Owner) → E (Accept at who)) → (w : World)
       → Of E (acceptances c w).events
   unfolding acceptances acceptance
   acceptances_all c h w =
       chain_all (acceptance c) (sources c)
-          (λ source v. cond_both (is_accepted v source) _ _ (λ (m : Moved). Of E m.events) (λ _. (h _ _, tt)) (λ _. tt))
-          w
+      (λ source v. cond_both (is_accepted v source) _ _ (λ (m : Moved). Of E m.events) (λ _. (h _ _, tt)) (λ _. tt))
+      w
 
   pub activated_all : (c : ConfigParts) (entry : Option ℕ) → ((at : ℕ) (task : TaskNo) → E (Activate at task))
       → (w : World) → Of E (activated c entry w).events
@@ -135,7 +135,7 @@ module _ (E : Event → Type 0) where
   checked_all at mode is_due [] h = tt
   checked_all at mode is_due (x ∷ xs) h =
       if_all (is_due (point_of mode (row_of mode x.entry))) _ _
-          (then_all at _ (is_done x.left) _ h (checked_all at mode is_due xs h)) (checked_all at mode is_due xs h)
+      (then_all at _ (is_done x.left) _ h (checked_all at mode is_due xs h)) (checked_all at mode is_due xs h)
 
   -- ---- hooks
 
@@ -155,21 +155,25 @@ module _ (E : Event → Type 0) where
     outs_all at hook vars [] = tt
     outs_all at hook vars (stmt ∷ rest) =
         all_more (outs_by at hook vars (out-Stmt stmt)) (outs_of at hook (vars_by vars (out-Stmt stmt)) rest)
-            (outs_by_all at hook vars (out-Stmt stmt)) (outs_all at hook (vars_by vars (out-Stmt stmt)) rest)
+        (outs_by_all at hook vars (out-Stmt stmt)) (outs_all at hook (vars_by vars (out-Stmt stmt)) rest)
 
     pub shuts_down_all : (c : ConfigParts) (end : Outcome) (w : World) → Of E (shuts_down c end w).events
-    shuts_down_all c end w =
-        (h.hook _, all_more (outs_of w.tick owner.ShutdownHook w.vars c.shutdown_hook) (Shutdown w.tick ∷ [])
-            (outs_all w.tick owner.ShutdownHook w.vars c.shutdown_hook) (h.shutdown _, tt))
+    shuts_down_all c end w = (
+      h.hook _,
+      all_more (outs_of w.tick owner.ShutdownHook w.vars c.shutdown_hook) (Shutdown w.tick ∷ [])
+          (outs_all w.tick owner.ShutdownHook w.vars c.shutdown_hook) (h.shutdown _, tt),
+    )
 
     pub after_all : (c : ConfigParts) (fs : List Event) (missed : Option TaskNo) (w : World) → Of E fs
         → Of E (after_checks c fs missed w).events
     after_all c fs None w p = p
     after_all c fs (Some task) w p =
-        all_more fs (misses c task w).events p
-        (h.error _ _, all_more (outs_of w.tick owner.ErrorHook w.vars c.error_hook) _
-            (outs_all w.tick owner.ErrorHook w.vars c.error_hook)
-            (shuts_down_all c (Some (ending.Missed task)) (record w { vars = vars_after w.vars c.error_hook })))
+        all_more fs (misses c task w).events p (
+          h.error _ _,
+          all_more (outs_of w.tick owner.ErrorHook w.vars c.error_hook) _
+              (outs_all w.tick owner.ErrorHook w.vars c.error_hook)
+              (shuts_down_all c (Some (ending.Missed task)) (record w { vars = vars_after w.vars c.error_hook })),
+        )
 
     pub monitored_all : (c : ConfigParts) (is_due : Point → Bool)
         → ((at : ℕ) (task : TaskNo) (met : Bool) → E (Check at task met)) → (w : World)
@@ -184,24 +188,26 @@ module _ (E : Event → Type 0) where
     round_end_all c s check stop round w =
         cond_both (is_length w.latched (offset_of w)) _ _ (λ (m : Moved). Of E m.events)
         (λ _. followed_all (monitored c (is_at_end (offset_of w)) w) (next_round s) (monitored_all c _ check w)
-            (next_round_all s stop round)) (λ _. tt)
+        (next_round_all s stop round)) (λ _. tt)
 
     -- ---- the tick
 
-    module _ (c : ConfigParts) (s : ScriptParts) (run : (at : ℕ) (who : Owner) → E (Run at who))
-        (end : (at : ℕ) (who : Owner) → E (End at who))
+    module _ (c : ConfigParts) (s : ScriptParts)
         (call : (at : ℕ) (who : Owner) (call : Call) (result : ℕ) → E (Called at who call result)) where
       called_all : (r : Runner) (who : Owner) (k : Call) (a : Answer) → Of E (called c r who k a).move.events
       called_all r who k a = cond_both (is_shutdown k) _ _ (λ (m : Moved). Of E m.events)
           (λ _. (call _ _ _ _, shuts_down_all c (Some ending.Shutdown) (leaving a.world r a.left)))
           (λ _. (call _ _ _ _, tt))
 
-      effected_all : (r : Runner) (who : Owner) (effects : List Effect) (left : List Stmt) (w : World)
+      pub effected_all : (r : Runner) (who : Owner) (effects : List Effect) (left : List Stmt) (w : World)
           → Of E (effected c s r who effects left w).move.events
       effected_all r who [] left w = tt
       effected_all r who (effect.Out value ∷ rest) left w = (h.out _ _ _, tt)
       effected_all r who (effect.Service k ∷ rest) left w = called_all r who k (service c s r k left w)
 
+    module _ (c : ConfigParts) (s : ScriptParts) (run : (at : ℕ) (who : Owner) → E (Run at who))
+        (end : (at : ℕ) (who : Owner) → E (End at who))
+        (call : (at : ℕ) (who : Owner) (call : Call) (result : ℕ) → E (Called at who call result)) where
       pub step_all : (w : World) → Of E (step c s w).events
       unfolding step
       step_all w =
@@ -210,5 +216,5 @@ module _ (E : Event → Type 0) where
           let state = state_after c s w (left_of w r) in
           followed_all (preceded (run_line w who) (runner_tick c s r who w).move) _
           (all_more (run_line w who) (runner_tick c s r who w).move.events (event_if_all _ (Run w.tick who) (run _ _))
-              (effected_all r who state.effects state.left _))
+          (effected_all c s call r who state.effects state.left _))
           (λ v. event_if_all _ (End (v.tick + 1) who) (end _ _))

@@ -62,22 +62,22 @@ rows_at isr offset rows = count_by (λ (row : EnableRow). (row.isr.0 == isr) && 
 
 row_here : (a : Bool) (x offset from : ℕ) → from ≤ offset
     → cond {A = ℕ} (a && is_within from offset x) 1 0 + cond {A = ℕ} (a && (x == offset)) 1 0 ≤ cond {A = ℕ}
-        (a && is_within from (offset + 1) x) 1 0
+    (a && is_within from (offset + 1) x) 1 0
 row_here false x offset from l = omega arith
 row_here true x offset from l = grind (arith, nat_tests)
 
 -- the rows up to an offset and those at it are within those up to the next
 pub rows_more : (isr from offset : ℕ) (rows : List EnableRow) → from ≤ offset
     → count_by (λ (row : EnableRow). (row.isr.0 == isr) && is_within from offset row.offset) rows
-        + rows_at isr offset rows
+    + rows_at isr offset rows
     ≤ count_by (λ (row : EnableRow). (row.isr.0 == isr) && is_within from (offset + 1) row.offset) rows
 rows_more isr from offset [] l = omega arith
 rows_more isr from offset (row ∷ rows) l =
     let f : EnableRow → ℕ = λ (row : EnableRow). cond {A = ℕ}
-        ((row.isr.0 == isr) && is_within from offset row.offset) 1 0 in
+    ((row.isr.0 == isr) && is_within from offset row.offset) 1 0 in
     let g : EnableRow → ℕ = λ (row : EnableRow). cond {A = ℕ} ((row.isr.0 == isr) && (row.offset == offset)) 1 0 in
     let h : EnableRow → ℕ = λ (row : EnableRow). cond {A = ℕ}
-        ((row.isr.0 == isr) && is_within from (offset + 1) row.offset) 1 0 in
+    ((row.isr.0 == isr) && is_within from (offset + 1) row.offset) 1 0 in
     let a = sum_by-cons f row rows in
     let b = sum_by-cons g row rows in
     let d = sum_by-cons h row rows in
@@ -99,20 +99,20 @@ events_of_rows isr at offset (row ∷ rows) = split (row.offset == offset) refl 
     split : (b : Bool) → row.offset == offset ≡ b
         → enables_of isr (row_events at (enables_at offset rows)) ≡ rows_at isr offset rows
         → enables_of isr (row_events at (cond b (row ∷ enables_at offset rows) (enables_at offset rows)))
-            ≡ rows_at isr offset (row ∷ rows)
+        ≡ rows_at isr offset (row ∷ rows)
     split true e rest =
         let one = sum_by-cons (λ (x : Event). cond {A = ℕ} (is_enable isr x) 1 0) (Enable at row.isr)
-            (row_events at (enables_at offset rows)) in
+        (row_events at (enables_at offset rows)) in
         let b = sum_by-cons (λ (row : EnableRow). cond {A = ℕ} ((row.isr.0 == isr) && (row.offset == offset)) 1 0) row
-            rows in
+        rows in
         let same : cond {A = ℕ} ((row.isr.0 == isr) && (row.offset == offset)) 1 0 ≡ cond {A = ℕ}
-            (row.isr.0 == isr) 1 0 = and_true (row.isr.0 == isr) (row.offset == offset) e in
+        (row.isr.0 == isr) 1 0 = and_true (row.isr.0 == isr) (row.offset == offset) e in
         omega arith
     split false e rest =
         let b = sum_by-cons (λ (row : EnableRow). cond {A = ℕ} ((row.isr.0 == isr) && (row.offset == offset)) 1 0) row
-            rows in
+        rows in
         let none : cond {A = ℕ} ((row.isr.0 == isr) && (row.offset == offset)) 1 0 ≡ 0 =
-            and_false (row.isr.0 == isr) (row.offset == offset) e in
+        and_false (row.isr.0 == isr) (row.offset == offset) e in
         omega arith
 
 -- the events of these enables
@@ -157,7 +157,7 @@ module _ (c : ConfigParts) (s : ScriptParts) (isr T : ℕ) (w : World) where
   unfolding Zero
   zero_leads es m n o h =
       leads_by (λ v fs. Here T T w v × (enables_of isr fs ≡ 0)) Anything es m
-          (λ e. (led_on (Alone (Here T T w)) Anything es m e h, none_more es m.events o ∙ n)) (λ _. tt)
+      (λ e. (led_on (Alone (Here T T w)) Anything es m e h, none_more es m.events o ∙ n)) (λ _. tt)
 
   full_leads : (at : ℕ) (es : List Event) (m : Moved) (n : ℕ) → enables_of isr es ≡ n → Of (IsNoEnable isr) m.events
       → Holds (λ v. Here T at w v × (now_rows v ≡ n)) es m → LeadsTo (Full at) Anything es m
@@ -165,7 +165,7 @@ module _ (c : ConfigParts) (s : ScriptParts) (isr T : ℕ) (w : World) where
   full_leads at es m n k o h =
       leads_by (λ v fs. Here T at w v × (enables_of isr fs ≡ now_rows v)) Anything es m
       (λ e. let q = led_on (Alone (λ v. Here T at w v × (now_rows v ≡ n))) Anything es m e h in
-          (q.0, none_more es m.events o ∙ k ∙ sym q.1)) (λ _. tt)
+      (q.0, none_more es m.events o ∙ k ∙ sym q.1)) (λ _. tt)
 
   head_zero : (v : World) (es : List Event) → v.tick ≡ 0 → Zero v es → LeadsTo Zero Anything es (head s v)
   unfolding head Zero
@@ -187,29 +187,29 @@ module _ (c : ConfigParts) (s : ScriptParts) (isr T : ℕ) (w : World) where
   next_round_here v es p =
       let t = p.tick in
       cond_both (eqb v.number s.rounds) _ _ (Holds (Here T T w) es) (λ _. tt)
-          (λ _. record { tick = p.tick; started = omega arith; same = inr t })
+      (λ _. record { tick = p.tick; started = omega arith; same = inr t })
 
   round_end_here : (v : World) (es : List Event) → Here T T w v → Holds (Here T T w) es (round_end c s v)
   unfolding round_end
   round_end_here v es p =
       cond_both (is_length v.latched (offset_of v)) _ _ (Holds (Here T T w) es)
       (λ _. followed_leads (Alone (Here T T w)) (Alone (Here T T w)) Anything es
-          (monitored c (is_at_end (offset_of v)) v) (next_round s)
-          (monitored_holds (Here T T w) c _ v es (λ _. p)) next_round_here)
+      (monitored c (is_at_end (offset_of v)) v) (next_round s)
+      (monitored_holds (Here T T w) c _ v es (λ _. p)) next_round_here)
       (λ _. p)
 
   round_end_zero : Leads Zero Zero Anything (round_end c s)
   unfolding Zero
   round_end_zero v es p =
       zero_leads es (round_end c s v) p.1
-          (round_end_all (IsNoEnable isr) hooks c s (λ _ _ _. refl) (λ _. refl) (λ _ _ _. refl) v)
-          (round_end_here v es p.0)
+      (round_end_all (IsNoEnable isr) hooks c s (λ _ _ _. refl) (λ _. refl) (λ _ _ _. refl) v)
+      (round_end_here v es p.0)
 
   checks_zero : Leads Zero Zero Anything (checks c)
   unfolding Zero checks
   checks_zero v es p =
       zero_leads es (checks c v) p.1 (monitored_all (IsNoEnable isr) hooks c (is_at (offset_of v)) (λ _ _ _. refl) v)
-          (monitored_holds (Here T T w) c (is_at (offset_of v)) v es (λ _. p.0))
+      (monitored_holds (Here T T w) c (is_at (offset_of v)) v es (λ _. p.0))
 
   enables_full : Leads Zero (Full T) Anything (enables c)
   unfolding Zero Full now_rows enables
@@ -220,15 +220,15 @@ module _ (c : ConfigParts) (s : ScriptParts) (isr T : ℕ) (w : World) where
       let off : offset_of v ≡ T - v.start = ap (λ (x : ℕ). x - v.start) t in
       let n = count_more (is_enable isr) es m.events in
       let e1 : enables_of isr m.events ≡ enables_of isr (row_events v.tick rows) =
-          ap (enables_of isr) (chain_events rows v) in
+      ap (enables_of isr) (chain_events rows v) in
       let e2 = events_of_rows isr v.tick (offset_of v) (mode_of c v).enables in
       let e3 : rows_at isr (offset_of v) (mode_of c v).enables ≡ rows_at isr (T - v.start) (mode_of c v).enables =
-          ap (λ (x : ℕ). rows_at isr x (mode_of c v).enables) off in
+      ap (λ (x : ℕ). rows_at isr x (mode_of c v).enables) off in
       let z = p.1 in
       let all : enables_of isr (es ++ m.events) ≡ rows_at isr (T - v.start) (mode_of c v).enables = omega arith in
       leads_by (λ u fs. Here T T w u × (enables_of isr fs ≡ now_rows u)) Anything es m
       (λ e. let q = led_on (Alone (λ u. Here T T w u × (now_rows u ≡ now_rows v))) Anything es m e (kept v es p.0) in
-          (q.0, all ∙ sym q.1)) (λ _. tt)
+      (q.0, all ∙ sym q.1)) (λ _. tt)
     where
       kept : (v : World) (es : List Event) → Here T T w v
           → Holds (λ u. Here T T w u × (now_rows u ≡ now_rows v)) es
@@ -239,14 +239,14 @@ module _ (c : ConfigParts) (s : ScriptParts) (isr T : ℕ) (w : World) where
   unfolding Full
   arrivals_full v es p =
       full_leads T es (arrivals c s v) (now_rows v) p.1
-          (arrivals_all (IsNoEnable isr) c s (λ _ _. refl) (λ _ _. refl) v)
-          (arrivals_hold (λ u. Here T T w u × (now_rows u ≡ now_rows v)) (ignores (now_rows v)) c s v es (p.0, refl))
+      (arrivals_all (IsNoEnable isr) c s (λ _ _. refl) (λ _ _. refl) v)
+      (arrivals_hold (λ u. Here T T w u × (now_rows u ≡ now_rows v)) (ignores (now_rows v)) c s v es (p.0, refl))
 
   acceptances_full : Leads (Full T) (Full T) Anything (acceptances c)
   unfolding Full
   acceptances_full v es p =
       full_leads T es (acceptances c v) (now_rows v) p.1 (acceptances_all (IsNoEnable isr) c (λ _ _. refl) v)
-          (acceptances_hold (λ u. Here T T w u × (now_rows u ≡ now_rows v)) (ignores (now_rows v)) c v es (p.0, refl))
+      (acceptances_hold (λ u. Here T T w u × (now_rows u ≡ now_rows v)) (ignores (now_rows v)) c v es (p.0, refl))
 
   activated_full : (found : Option ℕ) (v : World) (es : List Event) → Full T v es
       → LeadsTo (Full T) Anything es (activated c found v)
@@ -254,7 +254,7 @@ module _ (c : ConfigParts) (s : ScriptParts) (isr T : ℕ) (w : World) where
   activated_full None v es p = full_leads T es (activated c None v) (now_rows v) p.1 tt (p.0, refl)
   activated_full (Some entry) v es p =
       full_leads T es (activated c (Some entry) v) (now_rows v) p.1 (refl, tt)
-          (record { tick = p.0.tick; started = p.0.started; same = p.0.same }, refl)
+      (record { tick = p.0.tick; started = p.0.started; same = p.0.same }, refl)
 
   activation_full : Leads (Full T) (Full T) Anything (activation c)
   unfolding activation
@@ -302,9 +302,9 @@ module _ (c : ConfigParts) (s : ScriptParts) (isr T : ℕ) (w : World) where
   unfolding Full Old
   step_full v es p =
       full_leads (T + 1) es (step c s v) (now_rows v) p.1
-          (step_all (IsNoEnable isr) hooks c s (λ _ _. refl) (λ _ _. refl) (λ _ _ _ _. refl) v)
+      (step_all (IsNoEnable isr) hooks c s (λ _ _. refl) (λ _ _. refl) (λ _ _ _ _. refl) v)
       (step_holds c s (Old T (now_rows v)) (Old T (now_rows v)) (Old (T + 1) (now_rows v))
-          (step_keeps (now_rows v)) v es (p.0, refl))
+      (step_keeps (now_rows v)) v es (p.0, refl))
 
   -- the enables of an instant are the rows at its offset
   pub instant_full : w.tick ≡ T → w.start ≤ T
@@ -336,7 +336,7 @@ module _ (c : ConfigParts) (s : ScriptParts) (isr : ℕ) where
       let x : (n + 1) - v.start ≡ (n - v.start) + 1 = omega arith in
       let more = count_more (is_enable isr) (events_between c s m (n - m)) (instant_at c s (m + (n - m))).events in
       let here : enables_of isr (instant_at c s (m + (n - m))).events ≡ rows_at isr (n - v.start)
-          (mode_of c v).enables = ap (λ (j : ℕ). enables_of isr (instant_at c s j).events) y ∙ e in
+      (mode_of c v).enables = ap (λ (j : ℕ). enables_of isr (instant_at c s j).events) y ∙ e in
       let rows = rows_more isr from (n - v.start) (mode_of c v).enables (omega arith) in
       rw (z, x) (omega arith)
 
@@ -347,8 +347,8 @@ module _ (c : ConfigParts) (s : ScriptParts) (isr : ℕ) where
       let w = world_at c s n in
       let v = (instant c s w).world in
       let q = led_on (λ v es. Here n (n + 1) w v
-          × (enables_of isr es ≡ rows_at isr (n - v.start) (mode_of c v).enables)) Anything [] (instant c s w) g
-          (instant_full c s isr n w p.tick p.started) in
+      × (enables_of isr es ≡ rows_at isr (n - v.start) (mode_of c v).enables)) Anything [] (instant c s w) g
+      (instant_full c s isr n w p.tick p.started) in
       let started = q.0.started in
       record {
         tick = q.0.tick;
@@ -361,10 +361,10 @@ module _ (c : ConfigParts) (s : ScriptParts) (isr : ℕ) where
             (λ (same : (v.start ≡ w.start) × (v.mode ≡ w.mode)).
             let a = p.within from (let x = same.0 in omega arith) in
             subst (λ (x : ℕ). enables_of isr (events_between c s (x + from) (n - (x + from))) ≤ enables_in
-                (mode_of c v) isr from (n - x)) (sym same.0)
+            (mode_of c v) isr from (n - x)) (sym same.0)
             (subst (λ (mode : ModeNo). enables_of isr
-                (events_between c s (w.start + from) (n - (w.start + from))) ≤ enables_in (mode_at c mode.0) isr from
-                (n - w.start)) (sym same.1) a))
+            (events_between c s (w.start + from) (n - (w.start + from))) ≤ enables_in (mode_at c mode.0) isr from
+            (n - w.start)) (sym same.1) a))
             (λ (new : v.start ≡ n).
             let z : n - (v.start + from) ≡ 0 = omega arith in
             rw z (omega arith))
@@ -377,8 +377,12 @@ module _ (c : ConfigParts) (s : ScriptParts) (isr : ℕ) where
 
   first_enables : EnablesAt c s isr 0 (world_at c s 0)
   unfolding world_at events_between
-  first_enables = record { tick = refl; started = omega arith; within = λ from l. let z : 0 - (0 + from) ≡ 0 =
-      omega arith in rw z (omega arith) }
+  first_enables = record {
+    tick = refl;
+    started = omega arith;
+    within = λ from l. let z : 0 - (0 + from) ≡ 0 =
+        omega arith in rw z (omega arith);
+  }
 
   -- at each instant of a run
   pub enables_at_instant : (n : ℕ) → GoesOnBefore c s n → EnablesAt c s isr n (world_at c s n)
@@ -386,4 +390,4 @@ module _ (c : ConfigParts) (s : ScriptParts) (isr : ℕ) where
   enables_at_instant (suc n) g =
       let z : n + 1 ≡ suc n = omega arith in
       subst (λ (j : ℕ). EnablesAt c s isr j (world_at c s (suc n))) z
-          (next_enables n (g n (omega arith)) (enables_at_instant n (λ k l. g k (omega arith))))
+      (next_enables n (g n (omega arith)) (enables_at_instant n (λ k l. g k (omega arith))))

@@ -42,7 +42,7 @@ module _ (c : ConfigParts) (s : ScriptParts) (t : ℕ) where
   round_end_at w es p =
       cond_both (is_length w.latched (offset_of w)) _ _ (Holds At es)
       (λ _. followed_leads (Alone At) (Alone At) Anything es (monitored c (is_at_end (offset_of w)) w) (next_round s)
-          (monitored_holds At c _ w es (λ _. p)) next_round_at)
+      (monitored_holds At c _ w es (λ _. p)) next_round_at)
       (λ _. p)
 
   activated_at : (entry : Option ℕ) (w : World) (es : List Event) → At w → Holds At es (activated c entry w)
@@ -84,7 +84,7 @@ module _ (c : ConfigParts) (s : ScriptParts) (t : ℕ) where
   unfolding At
   instant_at_tick w es p =
       instant_leads c s (λ _. Alone At) Anything opening_at (Alone (λ v. v.tick ≡ t + 1))
-          (step_holds c s At At (λ v. v.tick ≡ t + 1) step_at) w es p
+      (step_holds c s At At (λ v. v.tick ≡ t + 1) step_at) w es p
 
 -- an instant that goes on takes one tick
 pub instant_tick : (c : ConfigParts) (s : ScriptParts) (w : World) (es : List Event)
@@ -122,7 +122,7 @@ module _ (c : ConfigParts) (s : ScriptParts) (bounded : IsBounded c s) where
       let t = timed_at c s bounded n g in
       let e : (world_at c s n).tick ≡ n = tick_at c s n g in
       let m : (world_at c s n).number * (c.round + c.adjust) ≤ s.rounds * (c.round + c.adjust) =
-          mul-le-mul_right (c.round + c.adjust) t.within in
+      mul-le-mul_right (c.round + c.adjust) t.within in
       let early = t.early in
       let started = t.started in
       let offset = before_end (world_at c s n).latched _ t.stands in
@@ -139,7 +139,7 @@ module _ (c : ConfigParts) (s : ScriptParts) (bounded : IsBounded c s) where
       }
   last_found (suc more) from g e =
       let later : ends_at c s from ≡ false → IsLast c s (last_from c s more (from + 1)) =
-          λ p. last_found more (from + 1) (goes_on_more c s from g p) (omega arith) in
+      λ p. last_found more (from + 1) (goes_on_more c s from g p) (omega arith) in
       cond_both (ends_at c s from) _ _ (IsLast c s) (λ p. record { ends = p; first = g }) later
 
   pub last_is : IsLast c s (last_instant c s)
@@ -173,7 +173,7 @@ are_ahead c s rules script n l e =
     let before : GoesOnBefore c s n = λ k m. last.first k (omega arith) in
     let on : is_over (opening c s (world_at c s n)).end ≡ false = ap is_over e in
     let t = led_on (Alone (Timed Begun c s)) Anything [] (opening c s (world_at c s n)) on
-        (opening_timed c s bounded (world_at c s n) [] (timed_at c s bounded n before)) in
+    (opening_timed c s bounded (world_at c s n) [] (timed_at c s bounded n before)) in
     let a = led_on (Alone (Ahead c 1)) Anything [] (opening c s (world_at c s n)) on
-        (opening_ahead c s rules (world_at c s n) [] (ahead_at c s rules n before)) in
+    (opening_ahead c s rules (world_at c s n) [] (ahead_at c s rules n before)) in
     points_ahead c s _ a t

@@ -115,16 +115,20 @@ module _ (c : ConfigParts) (s : ScriptParts) where
   pub act_tick : (q : ℕ) (who : Owner) (effects : List Effect) (left : List Stmt) (w v : World) → v.jobs ≡ w.jobs
       → is_over (effected c s (runner.Job q) who effects left v).move.end ≡ false
       → ActTick q w (effected c s (runner.Job q) who effects left v).move.world
-          (effected c s (runner.Job q) who effects left v).ended
-  act_tick q who [] left w v d on = record { after = left; acts = ap (λ (xs : List Job). with_left xs q left) d; ends =
-      refl }
+      (effected c s (runner.Job q) who effects left v).ended
+  act_tick q who [] left w v d on = record {
+    after = left;
+    acts = ap (λ (xs : List Job). with_left xs q left) d;
+    ends =
+        refl;
+  }
   act_tick q who (effect.Out value ∷ rest) left w v d on =
       record { after = left; acts = ap (λ (xs : List Job). with_left xs q left) d; ends = refl }
   act_tick q who (effect.Service k ∷ rest) left w v d on =
       let answer = service c s (runner.Job q) k left v in
       let h = (service_answers c s (runner.Job q) k left v).world in
       cond_both (is_shutdown k) _ _ (λ (m : Moved). is_over m.end ≡ false
-          → ActTick q w m.world (answer.ends || is_done answer.left)) (λ _ on. cc)
+      → ActTick q w m.world (answer.ends || is_done answer.left)) (λ _ on. cc)
       (λ _ on. record {
         after = answer.left;
         acts = ap (λ (xs : List Job). with_left xs q answer.left) (ap (λ (x : World). x.jobs) h.is ∙ d);

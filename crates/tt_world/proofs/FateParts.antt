@@ -64,7 +64,7 @@ module _ (c : ConfigParts) (s : ScriptParts) (w : World) where
   unfolding latch S
   latch_same v es p =
       cond_both (eqb (offset_of v) (c.round - c.adjust)) _ _ (LeadsTo S Never es)
-          (λ _. record { start = p.start; mode = p.mode; acts = p.acts }) (λ _. p)
+      (λ _. record { start = p.start; mode = p.mode; acts = p.acts }) (λ _. p)
 
   enable_same : (row : EnableRow) → Leads S S Never (enable row)
   unfolding enable S
@@ -85,7 +85,7 @@ module _ (c : ConfigParts) (s : ScriptParts) (w : World) where
   unfolding arrival
   arrival_same source v es p =
       cond_both (list_any (λ (tick : ℕ). tick == v.tick) (arrivals_of s source)) _ _ (LeadsTo S Never es)
-          (λ _. arrived_same (is_held v source) source v es p) (λ _. still_leads S Never es v p)
+      (λ _. arrived_same (is_held v source) source v es p) (λ _. still_leads S Never es v p)
 
   arrivals_same : Leads S S Never (arrivals c s)
   unfolding arrivals
@@ -124,8 +124,8 @@ module _ (c : ConfigParts) (s : ScriptParts) (rules : IsConfig c) (bounded : IsB
   quiet_told w es m p e q h =
       leads_by T0 Over es m
       (λ on. let same = led_on (λ v fs. Same w v) Never es m on h in
-          told_forward c first T T w m.world es m.events (omega arith) e
-          (same_forward c w m.world m.events same.start same.mode same.acts) q p)
+      told_forward c first T T w m.world es m.events (omega arith) e
+      (same_forward c w m.world m.events same.start same.mode same.acts) q p)
       (λ over. absurd (led_over (λ v fs. Same w v) Never es m over h))
 
   same_as : (w : World) → Same w w
@@ -158,7 +158,7 @@ module _ (c : ConfigParts) (s : ScriptParts) (rules : IsConfig c) (bounded : IsB
       let all = checked w.tick (mode_of c w) (is_at (offset_of w)) w.jobs in
       after_leads T0 Over c all.events all.missed w es (checks_met c s rules bounded T w e).missed
       (told_forward c first T T w w es all.events (omega arith) e (same_forward c w w all.events refl refl refl)
-          (checked_all IsQuiet w.tick (mode_of c w) (is_at (offset_of w)) w.jobs (λ _ _ _. (refl, refl))) p)
+      (checked_all IsQuiet w.tick (mode_of c w) (is_at (offset_of w)) w.jobs (λ _ _ _. (refl, refl))) p)
 
   head_told : (w : World) (es : List Event) → w.tick ≡ 0 → w.mode ≡ s.start → T0 w es → Early w
       → LeadsTo T0 Over es (head s w)
@@ -172,11 +172,12 @@ module _ (c : ConfigParts) (s : ScriptParts) (rules : IsConfig c) (bounded : IsB
         fates =
             through_more (OfActivate c (Fate c T w (es ++ fs))) first es fs
             (through_each (OfActivate c (Fate c T w es)) (OfActivate c (Fate c T w (es ++ fs)))
-                (activate_each c (Fate c T w es) (Fate c T w (es ++ fs))
-                (λ round entry q. fate_forward c first T T w w es fs (omega arith) e
-                (same_forward c w w fs refl refl refl) round entry q)) first es p.fates)
-            (no_activate c (Fate c T w (es ++ fs)) (last_round first es) (OsStart w.tick s.start) refl,
-                (no_activate c (Fate c T w (es ++ fs)) (last_round first es) (Round w.tick 1 s.start) refl, tt));
+            (activate_each c (Fate c T w es) (Fate c T w (es ++ fs))
+            (λ round entry q. fate_forward c first T T w w es fs (omega arith) e
+            (same_forward c w w fs refl refl refl) round entry q)) first es p.fates) (
+              no_activate c (Fate c T w (es ++ fs)) (last_round first es) (OsStart w.tick s.start) refl,
+              (no_activate c (Fate c T w (es ++ fs)) (last_round first es) (Round w.tick 1 s.start) refl, tt),
+            );
         now = last_round_more first es fs ∙
             (ap (λ x. record { start = x; mode = s.start }) zero_start
             ∙ ap (λ n. record { start = w.start; mode = n }) (sym m));
@@ -189,12 +190,12 @@ module _ (c : ConfigParts) (s : ScriptParts) (rules : IsConfig c) (bounded : IsB
   row_task number entry l =
       let row = row_of (mode_at c number) entry in
       let h = list_all_get (is_activation c) (mode_at c number).activations entry no_row
-          (mode_rows c number rules).activations l in
+      (mode_rows c number rules).activations l in
       let within = ltb-true row.task.0 (length c.tasks)
-          (both_left (nat_lt row.task.0 (length c.tasks))
-          (nat_lt row.offset row.deadline && nat_le row.deadline (c.round - c.adjust)) h) in
+      (both_left (nat_lt row.task.0 (length c.tasks))
+      (nat_lt row.offset row.deadline && nat_le row.deadline (c.round - c.adjust)) h) in
       some_undone (body_of c row.task) (All-get_or
-          (IsTask c) c.tasks row.task.0 no_task within rules.tasks).routine.some
+      (IsTask c) c.tasks row.task.0 no_task within rules.tasks).routine.some
 
   activated_told : (found : Option ℕ) (w : World) (es : List Event)
       → entry_at (offset_of w) (mode_of c w).activations ≡ found → T0 w es → Early w
@@ -239,9 +240,9 @@ module _ (c : ConfigParts) (s : ScriptParts) (rules : IsConfig c) (bounded : IsB
         fates =
             through_more (OfActivate c (Fate c T v (es ++ fs))) first es fs
             (through_each (OfActivate c (Fate c T w es)) (OfActivate c (Fate c T v (es ++ fs)))
-                (activate_each c (Fate c T w es) (Fate c T v (es ++ fs))
-                (λ round entry q. fate_forward c first T T w v es fs (omega arith) e grows round entry q)) first es
-                p.fates)
+            (activate_each c (Fate c T w es) (Fate c T v (es ++ fs))
+            (λ round entry q. fate_forward c first T T w v es fs (omega arith) e grows round entry q)) first es
+            p.fates)
             (subst (λ r. OfActivate c (Fate c T v (es ++ fs)) r (Activate w.tick task)) (sym p.now) new, tt);
         now = last_round_more first es fs ∙ p.now;
       }
@@ -271,7 +272,7 @@ module _ (c : ConfigParts) (s : ScriptParts) (rules : IsConfig c) (bounded : IsB
       settle round entry q =
           let row = row_of (mode_at c round.mode.0) entry in
           ⊎_elim (λ (d : HasEnded c es round entry). has_end_more es fs row.task (round.start + row.offset)
-              (round.start + row.deadline) d)
+          (round.start + row.deadline) d)
           (λ (o : IsOpen c T w round entry).
           let ahead = e.each o.place o.within o.undone in
           let low = deadline_low c (mode_of c w) (job_at w.jobs o.place).entry (mode_rows c w.mode.0 rules) in
@@ -291,8 +292,8 @@ module _ (c : ConfigParts) (s : ScriptParts) (rules : IsConfig c) (bounded : IsB
         through_more (OfActivate c (Settled c T (ds ++ stop))) first ds stop
             (through_each (OfActivate c (HasEnded c ds)) (OfActivate c (Settled c T (ds ++ stop)))
             (activate_each c (HasEnded c ds) (Settled c T (ds ++ stop))
-                (λ round entry q reached. let row = row_of (mode_at c round.mode.0) entry in
-                has_end_more ds stop row.task (round.start + row.offset) (round.start + row.deadline) q)) first ds p.1)
+            (λ round entry q reached. let row = row_of (mode_at c round.mode.0) entry in
+            has_end_more ds stop row.task (round.start + row.offset) (round.start + row.deadline) q)) first ds p.1)
             (no_activate c (Settled c T (ds ++ stop)) (last_round first ds) (Stop v.tick) refl, tt),
         (ds, Stop v.tick, refl, tick),
       ))
@@ -304,11 +305,13 @@ module _ (c : ConfigParts) (s : ScriptParts) (rules : IsConfig c) (bounded : IsB
             through_more (OfActivate c (Fate c T u (ds ++ begin))) first ds begin
             (through_each (OfActivate c (HasEnded c ds)) (OfActivate c (Fate c T u (ds ++ begin)))
             (activate_each c (HasEnded c ds) (Fate c T u (ds ++ begin))
-                (λ round entry q. let row = row_of (mode_at c round.mode.0) entry in
-                inl (has_end_more ds begin row.task (round.start + row.offset) (round.start + row.deadline) q))) first
-                ds p.1)
-            (no_activate c (Fate c T u (ds ++ begin)) (last_round first ds)
-                (Round v.tick (v.number + 1) v.wanted) refl, tt);
+            (λ round entry q. let row = row_of (mode_at c round.mode.0) entry in
+            inl (has_end_more ds begin row.task (round.start + row.offset) (round.start + row.deadline) q))) first
+            ds p.1) (
+              no_activate c (Fate c T u (ds ++ begin)) (last_round first ds)
+                  (Round v.tick (v.number + 1) v.wanted) refl,
+              tt,
+            );
         now = last_round_more first ds begin;
       })
 
@@ -322,15 +325,20 @@ module _ (c : ConfigParts) (s : ScriptParts) (rules : IsConfig c) (bounded : IsB
       followed_leads AllEnded T0 Over es (monitored c (is_at_end (offset_of w)) w) (next_round s)
       (after_leads AllEnded Over c all.events all.missed w es (end_met c s rules bounded T w e t h).missed
       (ended_now w es all.events p e t h
-          (checked_all IsQuiet w.tick (mode_of c w) (is_at_end (offset_of w)) w.jobs (λ _ _ _. (refl, refl)))))
+      (checked_all IsQuiet w.tick (mode_of c w) (is_at_end (offset_of w)) w.jobs (λ _ _ _. (refl, refl)))))
       next_told)
       (λ _. told_forward c first T T w w es [] (omega arith) e (same_forward c w w [] refl refl refl) tt p)
 
   -- ---- the tick
 
   hooks : OfHooks IsQuiet
-  hooks = record { error = λ _ _. (refl, refl); out = λ _ _ _. (refl, refl); hook = λ _. (refl, refl); shutdown =
-      λ _. (refl, refl) }
+  hooks = record {
+    error = λ _ _. (refl, refl);
+    out = λ _ _ _. (refl, refl);
+    hook = λ _. (refl, refl);
+    shutdown =
+        λ _. (refl, refl);
+  }
 
   step_told : (w : World) (es : List Event) → T0 w es → Early w
       → LeadsTo (λ v fs. Told c first (T + 1) v fs) Over es (step c s w)
@@ -339,7 +347,7 @@ module _ (c : ConfigParts) (s : ScriptParts) (rules : IsConfig c) (bounded : IsB
       let quiet = step_all IsQuiet hooks c s (λ _ _. (refl, refl)) (λ _ _. (refl, refl)) (λ _ _ _ _. (refl, refl)) w in
       leads_by (λ v fs. Told c first (T + 1) v fs) Over es m
       (λ on. told_forward c first T (T + 1) w m.world es m.events (omega arith) e
-          (led_on (λ v fs. Forward c w v fs) (λ end v fs. EndsAt w.tick fs) [] m on (step_forward c s w)) quiet p)
+      (led_on (λ v fs. Forward c w v fs) (λ end v fs. EndsAt w.tick fs) [] m on (step_forward c s w)) quiet p)
       (λ over. (
         settled_over c first T w es m.events e quiet p,
         subst (λ (t : ℕ). EndsAt t (es ++ m.events)) e.tick
@@ -359,7 +367,7 @@ module _ (c : ConfigParts) (s : ScriptParts) (rules : IsConfig c) (bounded : IsB
   joined A B es m h a b =
       leads_by (λ v fs. (A v × B v) × T0 v fs) Over es m
       (λ e. ((led_on (Alone A) Anything es m e a, led_on (Alone B) Anything es m e b), led_on T0 Over es m e h))
-          (λ e. led_over T0 Over es m e h)
+      (λ e. led_over T0 Over es m e h)
 
   abbrev on : World → Type 0
   on = Timed Begun c s
@@ -393,4 +401,4 @@ module _ (c : ConfigParts) (s : ScriptParts) (rules : IsConfig c) (bounded : IsB
       → LeadsTo (λ v fs. Told c (record { start = 0; mode = s.start }) (T + 1) v fs) Over es (instant c s w)
   instant_told w es e t m p =
       instant_leads c s ToldAt Over opening_told (λ v fs. Told c first (T + 1) v fs)
-          (λ v ds q. step_told v ds q.1 q.0.0) w es ((e, t), (p, m))
+      (λ v ds q. step_told v ds q.1 q.0.0) w es ((e, t), (p, m))

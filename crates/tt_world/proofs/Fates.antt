@@ -40,15 +40,27 @@ use Rattle.tt_world.specs.Moved.{Outcome}
 
 pub has_end_more : (es fs : List Event) (task : TaskNo) (from deadline : ℕ) → HasEnd es task from deadline
     → HasEnd (es ++ fs) task from deadline
-has_end_more es fs task from deadline h =
-    (h.0, h.1 ++ fs, h.2, ap (λ (xs : List Event). xs ++ fs) h.3
-        ∙ append_assoc h.0 (End h.2 (owner.Task task) ∷ h.1) fs, h.4, h.5)
+has_end_more es fs task from deadline h = (
+  h.0,
+  h.1 ++ fs,
+  h.2,
+  ap (λ (xs : List Event). xs ++ fs) h.3
+      ∙ append_assoc h.0 (End h.2 (owner.Task task) ∷ h.1) fs,
+  h.4,
+  h.5,
+)
 
 pub has_end_after : (es fs : List Event) (task : TaskNo) (from deadline : ℕ) → HasEnd fs task from deadline
     → HasEnd (es ++ fs) task from deadline
-has_end_after es fs task from deadline h =
-    (es ++ h.0, h.1, h.2, ap (λ (xs : List Event). es ++ xs) h.3
-        ∙ sym (append_assoc es h.0 (End h.2 (owner.Task task) ∷ h.1)), h.4, h.5)
+has_end_after es fs task from deadline h = (
+  es ++ h.0,
+  h.1,
+  h.2,
+  ap (λ (xs : List Event). es ++ xs) h.3
+      ∙ sym (append_assoc es h.0 (End h.2 (owner.Task task) ∷ h.1)),
+  h.4,
+  h.5,
+)
 
 -- ---- what is said of an activation
 
@@ -67,7 +79,7 @@ abbrev pub OfActivate : ConfigParts → (RoundStart → ℕ → Type 0) → Roun
 OfActivate c P round e =
     (at : ℕ) (task : TaskNo) → e ≡ Activate at task
     → (entry : ℕ) × (entry < length (mode_at c round.mode.0).activations)
-        × (at ≡ round.start + (row_of (mode_at c round.mode.0) entry).offset)
+    × (at ≡ round.start + (row_of (mode_at c round.mode.0) entry).offset)
     × (task ≡ (row_of (mode_at c round.mode.0) entry).task) × P round entry
 
 pub activate_each : (c : ConfigParts) (P Q : RoundStart → ℕ → Type 0)
@@ -82,7 +94,7 @@ no_activate c P round e n at task f = absurd (false≢true (sym n ∙ ap is_acti
 abbrev pub HasEnded : ConfigParts → List Event → RoundStart → ℕ → Type 0
 HasEnded c es round entry =
     let row = row_of (mode_at c round.mode.0) entry in
-        HasEnd es row.task (round.start + row.offset) (round.start + row.deadline)
+    HasEnd es row.task (round.start + row.offset) (round.start + row.deadline)
 
 -- it has ended by its deadline, or is unfinished
 abbrev pub Fate : ConfigParts → ℕ → World → List Event → RoundStart → ℕ → Type 0
@@ -123,11 +135,11 @@ pub record Forward (c : ConfigParts) (w v : World) (fs : List Event) : Type 0 wh
   pub mode : v.mode ≡ w.mode
   pub each : (place : ℕ) → place < length w.jobs → is_done (job_at w.jobs place).left ≡ false
       →
-          ((place < length v.jobs) × ((is_done (job_at v.jobs place).left ≡ false)
-          × ((job_at v.jobs place).entry ≡ (job_at w.jobs place).entry)))
+      ((place < length v.jobs) × ((is_done (job_at v.jobs place).left ≡ false)
+      × ((job_at v.jobs place).entry ≡ (job_at w.jobs place).entry)))
       ⊎
-          ((before : List Event)
-          × (fs ≡ before ++ End (w.tick + 1) (owner.Task (row_of (mode_of c w) (job_at w.jobs place).entry).task) ∷ []))
+      ((before : List Event)
+      × (fs ≡ before ++ End (w.tick + 1) (owner.Task (row_of (mode_of c w) (job_at w.jobs place).entry).task) ∷ []))
 
 pub same_forward : (c : ConfigParts) (w v : World) (fs : List Event) → v.start ≡ w.start → v.mode ≡ w.mode
     → v.jobs ≡ w.jobs → Forward c w v fs
@@ -136,9 +148,14 @@ same_forward c w v fs a b d =
       start = a;
       mode = b;
       each =
-          λ place l u. inl (subst (λ (xs : List Job). place < length xs) (sym d) l,
-          (subst (λ (xs : List Job). is_done (job_at xs place).left ≡ false) (sym d) u, ap
-          (λ (xs : List Job). (job_at xs place).entry) d));
+          λ place l u. inl (
+            subst (λ (xs : List Job). place < length xs) (sym d) l,
+            (
+              subst (λ (xs : List Job). is_done (job_at xs place).left ≡ false) (sym d) u,
+              ap
+                  (λ (xs : List Job). (job_at xs place).entry) d,
+            ),
+          );
     }
 
 module _ (c : ConfigParts) (first : RoundStart) (T : ℕ) where
@@ -151,23 +168,31 @@ module _ (c : ConfigParts) (first : RoundStart) (T : ℕ) where
       let begun = o.begun in
       ⊎_elim
       (λ (stays : (o.place < length v.jobs) × ((is_done (job_at v.jobs o.place).left ≡ false)
-          × ((job_at v.jobs o.place).entry ≡ (job_at w.jobs o.place).entry))).
+      × ((job_at v.jobs o.place).entry ≡ (job_at w.jobs o.place).entry))).
       inr
-          (record { start = f.start ∙ o.start; mode = ap (λ mode. mode.0) f.mode ∙ o.mode; begun = omega arith; place =
-          o.place; within = stays.0; undone = stays.1.0; same = stays.1.1 ∙ o.same }))
+      (record {
+        start = f.start ∙ o.start;
+        mode = ap (λ mode. mode.0) f.mode ∙ o.mode;
+        begun = omega arith;
+        place =
+            o.place;
+        within = stays.0;
+        undone = stays.1.0;
+        same = stays.1.1 ∙ o.same;
+      }))
       (λ (ends : (before : List Event) × (fs ≡ before ++ End (w.tick + 1)
-          (owner.Task (row_of (mode_of c w) (job_at w.jobs o.place).entry).task) ∷ [])).
+      (owner.Task (row_of (mode_of c w) (job_at w.jobs o.place).entry).task) ∷ [])).
       let row = row_of (mode_at c round.mode.0) entry in
       let row_is : row_of (mode_of c w) (job_at w.jobs o.place).entry ≡ row =
-          ap (λ (n : ℕ). row_of (mode_at c n) (job_at w.jobs o.place).entry) o.mode
-          ∙ ap (row_of (mode_at c round.mode.0)) o.same in
+      ap (λ (n : ℕ). row_of (mode_at c n) (job_at w.jobs o.place).entry) o.mode
+      ∙ ap (row_of (mode_at c round.mode.0)) o.same in
       let dead : T < round.start + row.deadline =
-          subst (λ (x : ℕ). T < x + row.deadline) o.start (subst (λ r. T < w.start + r.deadline) row_is ahead) in
+      subst (λ (x : ℕ). T < x + row.deadline) o.start (subst (λ r. T < w.start + r.deadline) row_is ahead) in
       let is : fs ≡ ends.0 ++ End (T + 1) (owner.Task row.task) ∷ [] =
-          subst (λ (x : ℕ). fs ≡ ends.0 ++ End (x + 1) (owner.Task row.task) ∷ []) t
-          (subst (λ r. fs ≡ ends.0 ++ End (w.tick + 1) (owner.Task r.task) ∷ []) row_is ends.1) in
+      subst (λ (x : ℕ). fs ≡ ends.0 ++ End (x + 1) (owner.Task row.task) ∷ []) t
+      (subst (λ r. fs ≡ ends.0 ++ End (w.tick + 1) (owner.Task r.task) ∷ []) row_is ends.1) in
       inl (has_end_after es fs row.task (round.start + row.offset) (round.start + row.deadline)
-          (ends.0, [], T + 1, is, omega arith, omega arith)))
+      (ends.0, [], T + 1, is, omega arith, omega arith)))
       (f.each o.place o.within o.undone)
 
   pub fate_forward : (at : ℕ) (w v : World) (es fs : List Event) → T ≤ at → Each c (IsEarly c T) T w → Forward c w v fs
@@ -175,8 +200,8 @@ module _ (c : ConfigParts) (first : RoundStart) (T : ℕ) where
   fate_forward at w v es fs more early f round entry p =
       ⊎_elim
       (λ (h : HasEnded c es round entry). inl
-          (let row = row_of (mode_at c round.mode.0) entry in
-          has_end_more es fs row.task (round.start + row.offset) (round.start + row.deadline) h))
+      (let row = row_of (mode_at c round.mode.0) entry in
+      has_end_more es fs row.task (round.start + row.offset) (round.start + row.deadline) h))
       (λ (o : IsOpen c T w round entry). open_forward at w v es fs more early f round entry o) p
 
   pub told_forward : (at : ℕ) (w v : World) (es fs : List Event) → T ≤ at → Each c (IsEarly c T) T w → Forward c w v fs
@@ -186,8 +211,8 @@ module _ (c : ConfigParts) (first : RoundStart) (T : ℕ) where
         fates =
             through_more (OfActivate c (Fate c at v (es ++ fs))) first es fs
             (through_each (OfActivate c (Fate c T w es)) (OfActivate c (Fate c at v (es ++ fs)))
-                (activate_each c (Fate c T w es) (Fate c at v (es ++ fs))
-                (λ round entry q. fate_forward at w v es fs more early f round entry q)) first es p.fates)
+            (activate_each c (Fate c T w es) (Fate c at v (es ++ fs))
+            (λ round entry q. fate_forward at w v es fs more early f round entry q)) first es p.fates)
             (quiet_through c (Fate c at v (es ++ fs)) (last_round first es) fs quiet);
         now = last_round_more first es fs ∙ quiet_round (last_round first es) fs quiet ∙ p.now ∙ same_round;
       }
@@ -202,21 +227,21 @@ module _ (c : ConfigParts) (first : RoundStart) (T : ℕ) where
   settled_over w es fs early quiet p =
       through_more (OfActivate c (Settled c T (es ++ fs))) first es fs
       (through_each (OfActivate c (Fate c T w es)) (OfActivate c (Settled c T (es ++ fs)))
-          (activate_each c (Fate c T w es) (Settled c T (es ++ fs)) settle) first es p.fates)
+      (activate_each c (Fate c T w es) (Settled c T (es ++ fs)) settle) first es p.fates)
       (quiet_through c (Settled c T (es ++ fs)) (last_round first es) fs quiet)
     where
       settle : (round : RoundStart) (entry : ℕ) → Fate c T w es round entry → Settled c T (es ++ fs) round entry
       settle round entry q reached =
           let row = row_of (mode_at c round.mode.0) entry in
           ⊎_elim (λ (h : HasEnded c es round entry). has_end_more es fs row.task (round.start + row.offset)
-              (round.start + row.deadline) h)
+          (round.start + row.deadline) h)
           (λ (o : IsOpen c T w round entry).
           let ahead = early.each o.place o.within o.undone in
           let row_is : row_of (mode_of c w) (job_at w.jobs o.place).entry ≡ row =
-              ap (λ (n : ℕ). row_of (mode_at c n) (job_at w.jobs o.place).entry) o.mode
-              ∙ ap (row_of (mode_at c round.mode.0)) o.same in
+          ap (λ (n : ℕ). row_of (mode_at c n) (job_at w.jobs o.place).entry) o.mode
+          ∙ ap (row_of (mode_at c round.mode.0)) o.same in
           let dead : T < round.start + row.deadline =
-              subst (λ (x : ℕ). T < x + row.deadline) o.start (subst (λ r. T < w.start + r.deadline) row_is ahead) in
+          subst (λ (x : ℕ). T < x + row.deadline) o.start (subst (λ r. T < w.start + r.deadline) row_is ahead) in
           absurd (omega arith))
           q
 
@@ -241,8 +266,15 @@ leaving_mid : (w : World) (r : Runner) (v : World) (after : List Stmt) (ended : 
 leaving_mid w (runner.Isr i) v after ended a b t d e =
     record { after = after; start = a; mode = b; tick = t; acts = d; ends = e }
 leaving_mid w (runner.Job q) v after ended a b t d e =
-    record { after = after; start = a; mode = b; tick = t; acts = ap (λ (xs : List Job). with_left xs q after) d; ends =
-    e }
+    record {
+      after = after;
+      start = a;
+      mode = b;
+      tick = t;
+      acts = ap (λ (xs : List Job). with_left xs q after) d;
+      ends =
+          e;
+    }
 leaving_mid w (runner.Oisr i) v after ended a b t d e =
     record { after = after; start = a; mode = b; tick = t; acts = d; ends = e }
 leaving_mid w (runner.Osek i) v after ended a b t d e =
@@ -258,7 +290,7 @@ module _ (c : ConfigParts) (s : ScriptParts) where
   pub effected_mid : (r : Runner) (who : Owner) (effects : List Effect) (left : List Stmt) (w v : World)
       → v.start ≡ w.start → v.mode ≡ w.mode → v.tick ≡ w.tick → v.jobs ≡ w.jobs
       → is_over (effected c s r who effects left v).move.end ≡ false
-          → Mid w r (effected c s r who effects left v).move.world (effected c s r who effects left v).ended
+      → Mid w r (effected c s r who effects left v).move.world (effected c s r who effects left v).ended
   effected_mid r who [] left w v a b t d on = leaving_mid w r v left (is_done left) a b t d (λ e. e)
   effected_mid r who (effect.Out value ∷ rest) left w v a b t d on =
       leaving_mid w r v left (is_done left) a b t d (λ e. e)
@@ -266,18 +298,18 @@ module _ (c : ConfigParts) (s : ScriptParts) where
       let answer = service c s r k left v in
       let h = (service_answers c s r k left v).world in
       cond_both (is_shutdown k) _ _ (λ (m : Moved). is_over m.end ≡ false
-          → Mid w r m.world (answer.ends || is_done answer.left)) (λ _ on. cc)
+      → Mid w r m.world (answer.ends || is_done answer.left)) (λ _ on. cc)
       (λ _ on.
       leaving_mid w r answer.world answer.left (answer.ends || is_done answer.left)
-          (ap (λ (x : World). x.start) h.is ∙ a) (ap (λ (x : World). x.mode) h.is ∙ b)
-          (ap (λ (x : World). x.tick) h.is ∙ t) (ap (λ (x : World). x.jobs) h.is ∙ d)
+      (ap (λ (x : World). x.start) h.is ∙ a) (ap (λ (x : World). x.mode) h.is ∙ b)
+      (ap (λ (x : World). x.tick) h.is ∙ t) (ap (λ (x : World). x.jobs) h.is ∙ d)
       (or_true answer.ends (is_done answer.left)))
       on
 
   tick_forward : (w : World) (r : Runner) (v : World) (ended : Bool) (es : List Event) (last : Option Owner)
       → Mid w r v ended
       → Forward c w (record v { tick = v.tick + 1; last = last })
-          (es ++ event_if (is_somebody r && ended) (End (v.tick + 1) (owner_of c w r)))
+      (es ++ event_if (is_somebody r && ended) (End (v.tick + 1) (owner_of c w r)))
   tick_forward w (runner.Isr i) v ended es last m = same_forward c w _ _ m.start m.mode m.acts
   tick_forward w (runner.Oisr i) v ended es last m = same_forward c w _ _ m.start m.mode m.acts
   tick_forward w (runner.Osek i) v ended es last m = same_forward c w _ _ m.start m.mode m.acts
@@ -290,27 +322,32 @@ module _ (c : ConfigParts) (s : ScriptParts) where
         mode = m.mode;
         each = λ place l u.
             let long : place < length v.jobs = let n = ap (λ (ys : List Job). length ys) m.acts in
-                let k = length-set xs q (record { entry = (job_at xs q).entry; left = m.after }) in omega arith in
+            let k = length-set xs q (record { entry = (job_at xs q).entry; left = m.after }) in omega arith in
             ⊎_elim
             (λ (e : place ≡ q).
             let here : q < length xs = omega arith in
             let at : job_at v.jobs place ≡ record { entry = (job_at xs q).entry; left = m.after } =
-                ap (λ (ys : List Job). job_at ys place) m.acts ∙ ap (job_at (with_left xs q m.after)) e
-                ∙ at_set xs q m.after here in
+            ap (λ (ys : List Job). job_at ys place) m.acts ∙ ap (job_at (with_left xs q m.after)) e
+            ∙ at_set xs q m.after here in
             ⊎_elim
             (λ (d : is_done m.after ≡ true).
             let x : event_if ended (End (v.tick + 1) (who q)) ≡ End (v.tick + 1) (who q) ∷ [] =
-                ap (λ (b : Bool). event_if b (End (v.tick + 1) (who q))) (m.ends d) in
+            ap (λ (b : Bool). event_if b (End (v.tick + 1) (who q))) (m.ends d) in
             let y : End (v.tick + 1) (who q) ≡ End (w.tick + 1) (who place) = ap (λ (t : ℕ). End (t + 1) (who q)) m.tick
-                ∙ ap (λ (p : ℕ). End (w.tick + 1) (who p)) (sym e) in
+            ∙ ap (λ (p : ℕ). End (w.tick + 1) (who p)) (sym e) in
             inr (es, ap (λ (ys : List Event). es ++ ys) (x ∙ ap (λ (z : Event). z ∷ []) y)))
-            (λ (d : is_done m.after ≡ false). inl
-                (long, (ap (λ (i : Job). is_done i.left) at ∙ d, ap (λ (i : Job). i.entry) at
-                ∙ ap (λ (p : ℕ). (job_at xs p).entry) (sym e))))
+            (λ (d : is_done m.after ≡ false). inl (
+              long,
+              (
+                ap (λ (i : Job). is_done i.left) at ∙ d,
+                ap (λ (i : Job). i.entry) at
+                    ∙ ap (λ (p : ℕ). (job_at xs p).entry) (sym e),
+              ),
+            ))
             (cases_Bool (is_done m.after)))
             (λ (ne : place ≢ q).
             let at : job_at v.jobs place ≡ job_at xs place = ap (λ (ys : List Job). job_at ys place) m.acts
-                ∙ at_other xs q place m.after ne in
+            ∙ at_other xs q place m.after ne in
             inl (long, (ap (λ (i : Job). is_done i.left) at ∙ u, ap (λ (i : Job). i.entry) at)))
             (cases_eq place q);
       }
@@ -322,8 +359,13 @@ abbrev pub EndsAt : ℕ → List Event → Type 0
 EndsAt t es = (before : List Event) × (e : Event) × (es ≡ before ++ e ∷ []) × (stamp_of e ≡ t)
 
 pub ends_after : (t : ℕ) (es fs : List Event) → EndsAt t fs → EndsAt t (es ++ fs)
-ends_after t es fs h = (es ++ h.0, h.1, ap (λ (xs : List Event). es ++ xs) h.2
-    ∙ sym (append_assoc es h.0 (h.1 ∷ [])), h.3)
+ends_after t es fs h = (
+  es ++ h.0,
+  h.1,
+  ap (λ (xs : List Event). es ++ xs) h.2
+      ∙ sym (append_assoc es h.0 (h.1 ∷ [])),
+  h.3,
+)
 
 stamp_last : (x : ℕ) (es : List Event) (e : Event) → stamp_after x (es ++ e ∷ []) ≡ stamp_of e
 stamp_last x [] e = refl
@@ -337,7 +379,7 @@ module _ (c : ConfigParts) (s : ScriptParts) where
   shut_at end w line =
       let outs = outs_of w.tick owner.ShutdownHook w.vars c.shutdown_hook in
       ends_after w.tick line (shuts_down c end w).events
-          (ends_after w.tick (ShutdownHook w.tick ∷ outs) (Shutdown w.tick ∷ []) ([], Shutdown w.tick, refl, refl))
+      (ends_after w.tick (ShutdownHook w.tick ∷ outs) (Shutdown w.tick ∷ []) ([], Shutdown w.tick, refl, refl))
 
   effected_over : (r : Runner) (who : Owner) (effects : List Effect) (left : List Stmt) (w v : World) → v.tick ≡ w.tick
       → is_over (effected c s r who effects left v).move.end ≡ true
@@ -351,8 +393,8 @@ module _ (c : ConfigParts) (s : ScriptParts) where
       let tick : u.tick ≡ w.tick = leaving_tick answer.world r answer.left ∙ ap (λ (x : World). x.tick) h.is ∙ t in
       cond_both (is_shutdown k) _ _ (λ (m : Moved). is_over m.end ≡ true → EndsAt w.tick m.events)
       (λ _ over. subst (λ (x : ℕ). EndsAt x
-          (Called u.tick who k answer.result ∷ (shuts_down c (Some ending.Shutdown) u).events)) tick
-          (shut_at (Some ending.Shutdown) u (Called u.tick who k answer.result ∷ []))) (λ _ over. cc) over
+      (Called u.tick who k answer.result ∷ (shuts_down c (Some ending.Shutdown) u).events)) tick
+      (shut_at (Some ending.Shutdown) u (Called u.tick who k answer.result ∷ []))) (λ _ over. cc) over
     where
       leaving_tick : (x : World) (r : Runner) (after : List Stmt) → (leaving x r after).tick ≡ x.tick
       leaving_tick x (runner.Isr i) after = refl
@@ -371,8 +413,8 @@ module _ (c : ConfigParts) (s : ScriptParts) where
       let v = record w { vars = state.vars; cursors = state.cursors } in
       let tick = runner_tick c s r who w in
       followed_at (λ v fs. Forward c w v fs) (λ end v fs. EndsAt w.tick fs) [] (preceded (run_line w who) tick.move)
-          (tick_over who (is_somebody r && tick.ended))
+      (tick_over who (is_somebody r && tick.ended))
       (λ over. ends_after w.tick (run_line w who) tick.move.events
-          (effected_over r who state.effects state.left w v refl over))
+      (effected_over r who state.effects state.left w v refl over))
       (λ on. tick_forward c s w r tick.move.world tick.ended (run_line w who ++ tick.move.events) (Some who)
-          (effected_mid c s r who state.effects state.left w v refl refl refl refl on))
+      (effected_mid c s r who state.effects state.left w v refl refl refl refl on))

@@ -40,7 +40,7 @@ higher_passes : (levels : List ℕ) (test : ℕ → Bool) (x : ℕ) (o : Option 
 higher_passes levels test x None h k = h
 higher_passes levels test x (Some other) h k =
     cond_both (nat_lt (slice_index_or levels x 0) (slice_index_or levels other 0)) other x (λ (y : ℕ). test y ≡ true)
-        (λ _. k other refl) (λ _. h)
+    (λ _. k other refl) (λ _. h)
 
 -- the highest of some numbers that all pass a test passes it
 pub passes : (levels numbers : List ℕ) (test : ℕ → Bool) → list_all test numbers ≡ true → (number : ℕ)
@@ -70,7 +70,7 @@ pub highest_undone : (levels : List ℕ) (lefts : List (List Stmt)) (number : �
     → highest levels (unfinished lefts) ≡ Some number → is_done (slice_index_or lefts number []) ≡ false
 highest_undone levels lefts number e =
     not_done _ (passes levels (unfinished lefts) (λ (n : ℕ). not (is_done (slice_index_or lefts n [])))
-        (filtered _ (range_with_len 0 (length lefts))) number e)
+    (filtered _ (range_with_len 0 (length lefts))) number e)
 
 -- where a time-triggered routine runs, it is the unfinished one of the highest level
 isr_first : (o : Option ℕ) (others : List (Option Runner)) (isr : IsrNo)
@@ -141,8 +141,16 @@ module _ (c : ConfigParts) (isr : ℕ) where
       let y = more_times (isr_of c isr).budget a b m in
       let p = k.by_enables in
       let q = k.by_arrivals in
-      record { gate = k.gate; hold = k.hold; has = k.has; numbers = k.numbers; small = k.small; by_enables =
-          omega arith; by_arrivals = omega arith }
+      record {
+        gate = k.gate;
+        hold = k.hold;
+        has = k.has;
+        numbers = k.numbers;
+        small = k.small;
+        by_enables =
+            omega arith;
+        by_arrivals = omega arith;
+      }
 
   -- an enable of this source
   pub account_enabled : (t e a : ℕ) (enabled held : List Bool) (isrs : List (List Stmt))
@@ -242,9 +250,9 @@ module _ (c : ConfigParts) (s : ScriptParts) (rules : IsConfig c) (bounds : Keep
       let none = none_left c (get_or isrs isr []) d in
       let worst = routine.routine.worst in
       let gate : cond (get_or enabled isr false) (isr_of c isr).budget 0 ≡ (isr_of c isr).budget =
-          ap (λ b. cond b (isr_of c isr).budget 0) g in
+      ap (λ b. cond b (isr_of c isr).budget 0) g in
       let hold : cond (get_or held isr false) (isr_of c isr).budget 0 ≡ (isr_of c isr).budget =
-          ap (λ b. cond b (isr_of c isr).budget 0) h in
+      ap (λ b. cond b (isr_of c isr).budget 0) h in
       let p = k.by_enables in
       let q = k.by_arrivals in
       record {
@@ -306,12 +314,17 @@ module _ (c : ConfigParts) (s : ScriptParts) (rules : IsConfig c) (bounds : Keep
       let range = keeps_numbers supply state keeps rules.mosts numbers in
       ⊎_elim
       (λ (e : after ≡ (state_after c s w (get_or w.isrs number.0 [])).left).
-      let f : after ≡ (state_after c s w old).left = e ∙ ap (λ left. (state_after c s w left).left) at in
-      (subst AreNumbersInRange (sym f) range, subst
-          (λ (x : List Stmt). worst_in c.demands x + 1 ≤ worst_in c.demands old) (sym f) lower))
+      let f : after ≡ (state_after c s w old).left = e ∙ ap (λ left. (state_after c s w left).left) at in (
+        subst AreNumbersInRange (sym f) range,
+        subst
+            (λ (x : List Stmt). worst_in c.demands x + 1 ≤ worst_in c.demands old) (sym f) lower,
+      ))
       (λ (o : (after ≡ []) ⊎ IsOsek (runner.Isr number)).
       ⊎_elim
-      (λ (e : after ≡ []). (subst AreNumbersInRange (sym e) refl, subst
-          (λ (x : List Stmt). worst_in c.demands x + 1 ≤ worst_in c.demands old) (sym e) (omega arith)))
+      (λ (e : after ≡ []). (
+        subst AreNumbersInRange (sym e) refl,
+        subst
+            (λ (x : List Stmt). worst_in c.demands x + 1 ≤ worst_in c.demands old) (sym e) (omega arith),
+      ))
       (λ (o : IsOsek (runner.Isr number)). absurd o) o)
       l

@@ -71,7 +71,7 @@ module _ (c : ConfigParts) (s : ScriptParts) (rules : IsConfig c) (bounds : Keep
     unfolding latch A
     latch_acc w es p =
         cond_both (eqb (offset_of w) (c.round - c.adjust)) _ _ (LeadsTo A Anything es) (λ _. events t a now w es _ p)
-            (λ _. still_leads A Anything es w p)
+        (λ _. still_leads A Anything es w p)
 
     next_round_acc : Leads A A Anything (next_round s)
     unfolding next_round A
@@ -83,7 +83,7 @@ module _ (c : ConfigParts) (s : ScriptParts) (rules : IsConfig c) (bounds : Keep
     round_end_acc w es p =
         cond_both (is_length w.latched (offset_of w)) _ _ (LeadsTo A Anything es)
         (λ _. followed_leads A A Anything es (monitored c (is_at_end (offset_of w)) w) (next_round s)
-            (monitored_leads A c _ w es (λ fs. events t a now w es fs p)) next_round_acc)
+        (monitored_leads A c _ w es (λ fs. events t a now w es fs p)) next_round_acc)
         (λ _. still_leads A Anything es w p)
 
     checks_acc : Leads A A Anything (checks c)
@@ -96,7 +96,7 @@ module _ (c : ConfigParts) (s : ScriptParts) (rules : IsConfig c) (bounds : Keep
         let n = count_more (is_enable isr) es (Enable w.tick row.isr ∷ []) in
         let one = sum_by-cons (λ x. cond (is_enable isr x) 1 0) (Enable w.tick row.isr) [] in
         let b : cond {A = ℕ} (is_enable isr (Enable w.tick row.isr)) 1 0 ≡ 1 =
-            ap (λ (x : Bool). cond {A = ℕ} x 1 0) (eq-eqb row.isr.0 isr e) in
+        ap (λ (x : Bool). cond {A = ℕ} x 1 0) (eq-eqb row.isr.0 isr e) in
         omega arith
 
     enable_acc : (row : EnableRow) → Leads A A Anything (enable row)
@@ -112,7 +112,7 @@ module _ (c : ConfigParts) (s : ScriptParts) (rules : IsConfig c) (bounds : Keep
         ))
         (λ (ne : isr ≢ row.isr.0).
         events t a now (record w { isrs_enabled = set w.isrs_enabled row.isr.0 true }) es _
-            (p.0, account_enabled_other c isr t _ a row.isr.0 true w.isrs_enabled w.isrs_held w.isrs ne p.1))
+        (p.0, account_enabled_other c isr t _ a row.isr.0 true w.isrs_enabled w.isrs_held w.isrs ne p.1))
         (cases_eq isr row.isr.0)
 
     enables_acc : Leads A A Anything (enables c)
@@ -124,7 +124,7 @@ module _ (c : ConfigParts) (s : ScriptParts) (rules : IsConfig c) (bounds : Keep
     unfolding acceptance A
     acceptance_acc (OisrSource oisr) w es p =
         cond_both (is_accepted w (OisrSource oisr)) _ _ (LeadsTo A Anything es) (λ _. events t a now w es _ p)
-            (λ _. still_leads A Anything es w p)
+        (λ _. still_leads A Anything es w p)
     acceptance_acc (IsrSource j) w es p =
         cond_both (is_accepted w (IsrSource j)) _ _ (LeadsTo A Anything es)
         (λ e.
@@ -133,17 +133,17 @@ module _ (c : ConfigParts) (s : ScriptParts) (rules : IsConfig c) (bounds : Keep
         ⊎_elim
         (λ (f : isr ≡ j.0).
         let k = account_accepted c s rules bounds isr within t _ a w.isrs_enabled w.isrs_held w.isrs (rw f held.0)
-            (rw f other.0) (rw f other.1) p.1 in (
+        (rw f other.0) (rw f other.1) p.1 in (
           p.0,
           account_more c isr t _ a _ a _ _ _ (enables_grow es _) (omega arith)
               (subst (λ n. Account c isr t (enables_of isr es) a (set w.isrs_enabled n false) (set w.isrs_held n false)
-                  (set w.isrs n (isr_of c n).body)) f k),
+              (set w.isrs n (isr_of c n).body)) f k),
         ))
         (λ (ne : isr ≢ j.0). (
           p.0,
           account_more c isr t _ a _ a _ _ _ (enables_grow es _) (omega arith)
               (account_left_other c s rules bounds isr within t _ a j.0 (isr_of c j.0).body _ _ w.isrs ne
-                  (account_other c isr t _ a j.0 false false w.isrs_enabled w.isrs_held w.isrs ne p.1)),
+              (account_other c isr t _ a j.0 false false w.isrs_enabled w.isrs_held w.isrs ne p.1)),
         ))
         (cases_eq isr j.0))
         (λ _. still_leads A Anything es w p)
@@ -178,7 +178,7 @@ module _ (c : ConfigParts) (s : ScriptParts) (rules : IsConfig c) (bounds : Keep
     b_events w es fs p =
         ⊎_elim (λ (q : Acc t a now w es). inl (events t a now w es fs q))
         (λ (q : (comes_at now ≡ true) × (get_or w.isrs_held isr false ≡ true) × Acc t (a + 1) now w es). inr
-            (q.0, q.1, events t (a + 1) now w es fs q.2)) p
+        (q.0, q.1, events t (a + 1) now w es fs q.2)) p
 
     -- at the source itself
     here : (held : Bool) (j : IsrNo) (w : World) (es : List Event) → isr ≡ j.0 → comes_at now ≡ true
@@ -190,14 +190,14 @@ module _ (c : ConfigParts) (s : ScriptParts) (rules : IsConfig c) (bounds : Keep
         (λ (q : Acc t a now w es).
         let k = account_arrived c isr t _ a w.isrs_enabled w.isrs_held w.isrs q.1 in
         let m : Account c isr t (enables_of isr es) (a + 1) w.isrs_enabled (set w.isrs_held j.0 true) w.isrs =
-            subst (λ n. Account c isr t (enables_of isr es) (a + 1) w.isrs_enabled (set w.isrs_held n true) w.isrs) f
-            k in
+        subst (λ n. Account c isr t (enables_of isr es) (a + 1) w.isrs_enabled (set w.isrs_held n true) w.isrs) f
+        k in
         let now_held : get_or (set w.isrs_held j.0 true) isr false ≡ true =
-            subst (λ (n : ℕ). get_or (set w.isrs_held n true) isr false ≡ true) f
-            (get_or-set_same w.isrs_held isr true false q.1.hold) in
+        subst (λ (n : ℕ). get_or (set w.isrs_held n true) isr false ≡ true) f
+        (get_or-set_same w.isrs_held isr true false q.1.hold) in
         inr (come, now_held, (q.0, account_more c isr t _ (a + 1) _ (a + 1) _ _ _ (enables_grow es _) (omega arith) m)))
         (λ (q : (comes_at now ≡ true) × (get_or w.isrs_held isr false ≡ true) × Acc t (a + 1) now w es). absurd
-            (false≢true (sym h ∙ q.1)))
+        (false≢true (sym h ∙ q.1)))
         p
 
     -- at another source
@@ -209,13 +209,22 @@ module _ (c : ConfigParts) (s : ScriptParts) (rules : IsConfig c) (bounds : Keep
         let same = get_or-set_other w.isrs_held j.0 isr true false ne in
         ⊎_elim
         (λ (q : Acc t a now w es).
-        inl (q.0, account_more c isr t _ a _ a _ _ _ (enables_grow es _) (omega arith)
-            (account_held_other c isr t _ a j.0 true w.isrs_enabled w.isrs_held w.isrs ne q.1)))
+        inl (
+          q.0,
+          account_more c isr t _ a _ a _ _ _ (enables_grow es _) (omega arith)
+              (account_held_other c isr t _ a j.0 true w.isrs_enabled w.isrs_held w.isrs ne q.1),
+        ))
         (λ (q : (comes_at now ≡ true) × (get_or w.isrs_held isr false ≡ true) × Acc t (a + 1) now w es).
-        inr
-            (q.0, same
-            ∙ q.1, (q.2.0, account_more c isr t _ (a + 1) _ (a + 1) _ _ _ (enables_grow es _) (omega arith)
-            (account_held_other c isr t _ (a + 1) j.0 true w.isrs_enabled w.isrs_held w.isrs ne q.2.1))))
+        inr (
+          q.0,
+          same
+              ∙ q.1,
+          (
+            q.2.0,
+            account_more c isr t _ (a + 1) _ (a + 1) _ _ _ (enables_grow es _) (omega arith)
+                (account_held_other c isr t _ (a + 1) j.0 true w.isrs_enabled w.isrs_held w.isrs ne q.2.1),
+          ),
+        ))
         p
 
     tick_is : (w : World) (es : List Event) → B w es → w.tick ≡ now
@@ -233,7 +242,7 @@ module _ (c : ConfigParts) (s : ScriptParts) (rules : IsConfig c) (bounds : Keep
     unfolding arrival
     arrival_acc (OisrSource oisr) w es p =
         cond_both (list_any (λ (tick : ℕ). tick == w.tick) (arrivals_of s (OisrSource oisr))) _ _
-            (LeadsTo B Anything es)
+        (LeadsTo B Anything es)
         (λ _. other_arrived _ oisr w es p) (λ _. still_leads B Anything es w p)
     arrival_acc (IsrSource j) w es p =
         cond_both (list_any (λ (tick : ℕ). tick == w.tick) (arrivals_of s (IsrSource j))) _ _ (LeadsTo B Anything es)
@@ -254,14 +263,14 @@ module _ (c : ConfigParts) (s : ScriptParts) (rules : IsConfig c) (bounds : Keep
         leads_by (Acc t b now) Anything es (chain (map (arrival s) (sources c)) w)
         (λ e.
         let led = led_on B Anything es (chain (map (arrival s) (sources c)) w) e
-            (chain_each B Anything (arrival s) (sources c) arrival_acc w es (inl p)) in
+        (chain_each B Anything (arrival s) (sources c) arrival_acc w es (inl p)) in
         ⊎_elim
         (λ (q : Acc t a now (chain (map (arrival s) (sources c)) w).world
-            (es ++ (chain (map (arrival s) (sources c)) w).events)).
+        (es ++ (chain (map (arrival s) (sources c)) w).events)).
         (q.0, account_more c isr t _ a _ b _ _ _ (omega arith) l q.1))
         (λ (q : (comes_at now ≡ true) × (get_or (chain (map (arrival s) (sources c)) w).world.isrs_held isr false
-            ≡ true) × Acc t (a + 1) now (chain (map (arrival s) (sources c)) w).world
-            (es ++ (chain (map (arrival s) (sources c)) w).events)).
+        ≡ true) × Acc t (a + 1) now (chain (map (arrival s) (sources c)) w).world
+        (es ++ (chain (map (arrival s) (sources c)) w).events)).
         (q.2.0, account_more c isr t _ (a + 1) _ b _ _ _ (omega arith) (m q.0) q.2.1))
         led)
         (λ _. tt)
@@ -317,16 +326,20 @@ module _ (c : ConfigParts) (s : ScriptParts) (rules : IsConfig c) (bounds : Keep
         let u : is_done (get_or w.isrs isr []) ≡ false = rw f (highest_undone _ w.isrs j.0 runs) in
         let less = left_less c s rules bounds isr within w j after (sym f) u p.1.1.numbers l in
         let k = account_tick c s rules bounds isr within t e b after w.isrs_enabled w.isrs_held w.isrs less.0 less.1
-            p.1.1 in
+        p.1.1 in
         let y : adds r0 ≡ 1 = ap adds r ∙ ap (λ (x : Bool). cond {A = ℕ} x 1 0) (eq-eqb j.0 isr (sym f)) in
-        let z : t + 1 ≡ t + adds r0 = omega arith in
-        (p.1.0, subst (λ n. Account c isr n e b w.isrs_enabled w.isrs_held (set w.isrs j.0 after)) z
-            (subst (λ i. Account c isr (t + 1) e b w.isrs_enabled w.isrs_held (set w.isrs i after)) f k)))
+        let z : t + 1 ≡ t + adds r0 = omega arith in (
+          p.1.0,
+          subst (λ n. Account c isr n e b w.isrs_enabled w.isrs_held (set w.isrs j.0 after)) z
+              (subst (λ i. Account c isr (t + 1) e b w.isrs_enabled w.isrs_held (set w.isrs i after)) f k),
+        ))
         (λ (ne : isr ≢ j.0).
-        let y : is_isr isr r0 ≡ false = ap (is_isr isr) r ∙ other_isr j ne in
-        (p.1.0, same_ticks (leaving w (runner.Isr j) after) y
-            (account_left_other c s rules bounds isr within t e b j.0 after w.isrs_enabled w.isrs_held w.isrs ne
-            p.1.1)))
+        let y : is_isr isr r0 ≡ false = ap (is_isr isr) r ∙ other_isr j ne in (
+          p.1.0,
+          same_ticks (leaving w (runner.Isr j) after) y
+              (account_left_other c s rules bounds isr within t e b j.0 after w.isrs_enabled w.isrs_held w.isrs ne
+              p.1.1),
+        ))
         (cases_eq isr j.0)
       where
         other_isr : (j : IsrNo) → isr ≢ j.0 → (j.0 == isr) ≡ false
@@ -366,11 +379,11 @@ module _ (c : ConfigParts) (s : ScriptParts) (rules : IsConfig c) (bounds : Keep
       followed_at R Anything es o (step c s) (λ _. tt)
       (λ on.
       let led = led_on (Acc t b now) Anything es o on
-          (opening_leads c s (AccAt t a b now) Anything (opening_keeps t a b now l m) w es p) in
+      (opening_leads c s (AccAt t a b now) Anything (opening_keeps t a b now l m) w es p) in
       leads_by R Anything (es ++ o.events) (step c s o.world)
       (λ e.
       let q = led_on (Alone (New t b now (enables_of isr (es ++ o.events)) r0 (now + 1))) Anything (es ++ o.events)
-          (step c s o.world) e
+      (step c s o.world) e
       (step_acc t b now (enables_of isr (es ++ o.events)) r0 o.world (es ++ o.events) (refl, (led.0, led.1))) in
       (q.0, account_more c isr (t + adds r0) _ b _ b _ _ _ (enables_grow (es ++ o.events) _) (omega arith) q.1))
       (λ _. tt))
@@ -395,7 +408,7 @@ module _ (c : ConfigParts) (s : ScriptParts) (rules : IsConfig c) (bounds : Keep
       let some = less.1 in
       omega arith)
       (λ (ne : isr ≢ j.0). let z : adds (runner.Isr j) ≡ 0 = ap (λ (x : Bool). cond {A = ℕ} x 1 0) (other_isr j ne) in
-          omega arith)
+      omega arith)
       (cases_eq isr j.0)
   adds_within w (runner.Job place) e numbers = omega arith
   adds_within w (runner.Oisr oisr) e numbers = omega arith

@@ -73,17 +73,17 @@ module _ (c : ConfigParts) (s : ScriptParts) (rules : IsConfig c) (script : IsSc
       let b = arrivals_in m ((m + k) + 1) comes in
       let r = adds c s rules bounds isr within (runner_of c (opening c s w).world) in
       leads_by (Acc c s rules bounds isr within (ticks m (k + 1)) (arrivals_in m (m + (k + 1)) comes) (m + (k + 1)))
-          Anything es (instant c s w)
+      Anything es (instant c s w)
       (λ e.
       let led = led_on (Acc c s rules bounds isr within (ticks m k + r) b ((m + k) + 1)) Anything es (instant c s w) e
       (instant_acc c s rules bounds isr within (ticks m k) a b (m + k) (count_later m (m + k) comes)
-          (λ e. count_found m (m + k) comes (omega arith) e) w es p) in
+      (λ e. count_found m (m + k) comes (omega arith) e) w es p) in
       let z : (m + k) + 1 ≡ m + (k + 1) = omega arith in
       let t : ticks m k + r ≡ ticks m (k + 1) = ap (λ n. ticks m k + n) (ran m k (opening_on w e)) ∙ ticks_next m k in
       subst (λ (t : ℕ). Acc c s rules bounds isr within t (arrivals_in m (m + (k + 1)) comes) (m + (k + 1))
-          (instant c s w).world (es ++ (instant c s w).events)) t
+      (instant c s w).world (es ++ (instant c s w).events)) t
       (subst (λ (n : ℕ). Acc c s rules bounds isr within (ticks m k + r) (arrivals_in m n comes) n (instant c s w).world
-          (es ++ (instant c s w).events)) z led))
+      (es ++ (instant c s w).events)) z led))
       (λ _. tt)
 
   after_from : (m : ℕ) → After m 0 (world_at c s m) [] → (k : ℕ) → GoesOnBefore c s (m + k)
@@ -120,9 +120,18 @@ module _ (c : ConfigParts) (s : ScriptParts) (rules : IsConfig c) (script : IsSc
       let x = cond_within (get_or (world_at c s m).isrs_enabled isr false) (isr_of c isr).budget in
       let y = cond_within (get_or (world_at c s m).isrs_held isr false) (isr_of c isr).budget in
       let small = k.small in
-      let twice = more_times (isr_of c isr).budget 0 (arrivals_in m (m + 0) comes) (omega arith) in
-      (n ∙ add-none m, record { gate = k.gate; hold = k.hold; has = k.has; numbers = k.numbers; small = k.small;
-          by_enables = omega arith; by_arrivals = omega arith })
+      let twice = more_times (isr_of c isr).budget 0 (arrivals_in m (m + 0) comes) (omega arith) in (
+        n ∙ add-none m,
+        record {
+          gate = k.gate;
+          hold = k.hold;
+          has = k.has;
+          numbers = k.numbers;
+          small = k.small;
+          by_enables = omega arith;
+          by_arrivals = omega arith;
+        },
+      )
     where
       add-none : (m : ℕ) → m ≡ m + 0
       add-none m = omega arith
@@ -133,9 +142,9 @@ module _ (c : ConfigParts) (s : ScriptParts) (rules : IsConfig c) (script : IsSc
       let z : 0 + m ≡ m = omega arith in
       let start = after_from 0 first m (λ j l. g j (omega arith)) in
       let p =
-          subst (λ (n : ℕ). Account c isr (ticks 0 m) (enables_of isr (events_between c s 0 m))
-          (arrivals_in 0 (0 + m) comes) (world_at c s n).isrs_enabled (world_at c s n).isrs_held (world_at c s n).isrs)
-          z start.1 in
+      subst (λ (n : ℕ). Account c isr (ticks 0 m) (enables_of isr (events_between c s 0 m))
+      (arrivals_in 0 (0 + m) comes) (world_at c s n).isrs_enabled (world_at c s n).isrs_held (world_at c s n).isrs)
+      z start.1 in
       after_from m (again _ _ _ m p (tick_at c s m (λ j l. g j (omega arith)))) k g
 
   grows : (es fs : List Event) → enables_of isr es ≤ enables_of isr (es ++ fs)
@@ -149,7 +158,7 @@ module _ (c : ConfigParts) (s : ScriptParts) (rules : IsConfig c) (script : IsSc
       let o = (opening c s w).events in
       let t = (step c s (opening c s w).world).events in
       let g : es ++ (followed (opening c s w) (step c s)).events ≡ (es ++ o) ++ t = ap (λ x. es ++ x) f
-          ∙ sym (append_assoc es o t) in
+      ∙ sym (append_assoc es o t) in
       subst (λ (x : List Event). enables_of isr (es ++ o) ≤ enables_of isr x) (sym g) (grows (es ++ o) t)
 
   -- the ticks of k + 1 instants of which only the last may end the run
@@ -175,12 +184,12 @@ module _ (c : ConfigParts) (s : ScriptParts) (rules : IsConfig c) (script : IsSc
       (λ (on : is_over (opening c s w).end ≡ false).
       let q = led_on (Acc c s rules bounds isr within (ticks m k) b (m + k)) Anything es (opening c s w) on
       (opening_acc c s rules bounds isr within (ticks m k) (arrivals_in m (m + k) comes) b (m + k)
-          (count_later m (m + k) comes) (λ e. count_found m (m + k) comes (omega arith) e) w es p) in
+      (count_later m (m + k) comes) (λ e. count_found m (m + k) comes (omega arith) e) w es p) in
       let x = q.1.by_enables in
       let y = q.1.by_arrivals in
       let r = ran m k on in
       let n = adds_within c s rules bounds isr within (opening c s w).world
-          (runner_of c (opening c s w).world) refl q.1.numbers in
+      (runner_of c (opening c s w).world) refl q.1.numbers in
       let e = more_times (isr_of c isr).budget _ _ (instant_grows w es on) in
       (omega arith, omega arith))
       (cases_Bool (is_over (opening c s w).end))
@@ -195,11 +204,11 @@ module _ (c : ConfigParts) (s : ScriptParts) (rules : IsConfig c) (script : IsSc
       let z : ((m + k) + 1) - m ≡ k + 1 = omega arith in
       let y : suc k ≡ k + 1 = omega arith in
       let q : ticks_of (is_isr isr) c s m (k + 1) ≤ (isr_of c isr).budget *
-          (2 + enables_of isr (events_between c s m (suc k))) = p.0 in
+      (2 + enables_of isr (events_between c s m (suc k))) = p.0 in
       by_times (isr_of c isr).distance (isr_of c isr).budget (ticks_of (is_isr isr) c s m (k + 1)) _
-          (arrivals_in m ((m + k) + 1) comes) (k + 1)
+      (arrivals_in m ((m + k) + 1) comes) (k + 1)
       (subst (λ (j : ℕ). ticks_of (is_isr isr) c s m (k + 1) ≤ (isr_of c isr).budget *
-          (2 + enables_of isr (events_between c s m j))) y q) p.1 (rw z at few)
+      (2 + enables_of isr (events_between c s m j))) y q) p.1 (rw z at few)
 
   bounded : (m k : ℕ) → m + k ≤ suc (last_instant c s)
       → ticks_of (is_isr isr) c s m k ≤ isr_demand (isr_of c isr) (count_by (is_enable isr) (events_between c s m k)) k
@@ -209,7 +218,7 @@ module _ (c : ConfigParts) (s : ScriptParts) (rules : IsConfig c) (script : IsSc
       let last = last_is c s (are_bounded c s rules script) in
       let y : k + 1 ≡ suc k = omega arith in
       subst (λ (j : ℕ). ticks_of (is_isr isr) c s m j ≤ isr_demand (isr_of c isr)
-          (count_by (is_enable isr) (events_between c s m j)) j) y
+      (count_by (is_enable isr) (events_between c s m j)) j) y
       (bounded_next m k (λ j n. last.first j (omega arith)))
 
 pub isr_bounded : IsrIsBounded

@@ -50,7 +50,7 @@ module _ (c : ConfigParts) (s : ScriptParts) where
   round_end_sized w es p =
       cond_both (is_length w.latched (offset_of w)) _ _ (Holds Sized es)
       (λ _. followed_leads (Alone Sized) (Alone Sized) Anything es (monitored c (is_at_end (offset_of w)) w)
-          (next_round s) (monitored_holds Sized c _ w es (λ _. p)) next_round_sized)
+      (next_round s) (monitored_holds Sized c _ w es (λ _. p)) next_round_sized)
       (λ _. p)
 
   enable_sized : (row : EnableRow) → Leads (Alone Sized) (Alone Sized) Anything (enable row)
@@ -68,13 +68,13 @@ module _ (c : ConfigParts) (s : ScriptParts) where
   unfolding arrival
   arrival_sized source w es p =
       cond_both (list_any (λ (tick : ℕ). tick == w.tick) (arrivals_of s source)) _ _ (Holds Sized es)
-          (λ _. arrived_sized (is_held w source) source w es p) (λ _. p)
+      (λ _. arrived_sized (is_held w source) source w es p) (λ _. p)
 
   acceptance_sized : (source : Source) → Leads (Alone Sized) (Alone Sized) Anything (acceptance c source)
   unfolding acceptance Sized
   acceptance_sized (IsrSource isr) w es p =
       cond_both (is_accepted w (IsrSource isr)) _ _ (Holds Sized es)
-          (λ _. length-set w.isrs isr.0 (routine_of c (IsrSource isr)) ∙ p) (λ _. p)
+      (λ _. length-set w.isrs isr.0 (routine_of c (IsrSource isr)) ∙ p) (λ _. p)
   acceptance_sized (OisrSource oisr) w es p =
       cond_both (is_accepted w (OisrSource oisr)) _ _ (Holds Sized es) (λ _. p) (λ _. p)
 
@@ -144,7 +144,7 @@ module _ (c : ConfigParts) (s : ScriptParts) where
   opening_within n g false o j e =
       runs_within (opening c s (world_at c s n)).world
       (led_on (Alone Sized) Anything [] (opening c s (world_at c s n)) o
-          (opening_leads c s (λ _. Alone Sized) Anything opening_sized (world_at c s n) [] (sized_at n g))) j e
+      (opening_leads c s (λ _. Alone Sized) Anything opening_sized (world_at c s n) [] (sized_at n g))) j e
 
   runner_within : (n : ℕ) → GoesOnBefore c s n → (j : IsrNo) → runner_at c s n ≡ runner.Isr j → j.0 < length c.isrs
   unfolding runner_at
@@ -157,18 +157,18 @@ module _ (c : ConfigParts) (s : ScriptParts) where
 
   one_number : (f : ℕ → ℕ) (n : ℕ) (r : Runner) → ((j : IsrNo) → r ≡ runner.Isr j → j.0 < n)
       → sum_by f (range_with_len 0 n) + (if is_any_isr r then 1 else 0) ≤ sum_by
-          (λ (x : ℕ). f x + (if is_isr x r then 1 else 0)) (range_with_len 0 n)
+      (λ (x : ℕ). f x + (if is_isr x r then 1 else 0)) (range_with_len 0 n)
   one_number f n (runner.Isr j) h =
       let l = h j refl in
       let m = length-range_with_len 0 n in
       let z : 0 + j.0 ≡ j.0 = omega arith in
       let k : get_or (range_with_len 0 n) j.0 0 ≡ j.0 = get_or-range_with_len 0 n j.0 0 l ∙ z in
       let b : j.0 == get_or (range_with_len 0 n) j.0 0 ≡ true =
-          eq-eqb j.0 (get_or (range_with_len 0 n) j.0 0) (sym k) in
+      eq-eqb j.0 (get_or (range_with_len 0 n) j.0 0) (sym k) in
       let one : cond {A = ℕ} (j.0 == get_or (range_with_len 0 n) j.0 0) 1 0 ≡ 1 =
-          ap (λ (x : Bool). cond {A = ℕ} x 1 0) b in
+      ap (λ (x : Bool). cond {A = ℕ} x 1 0) b in
       sum_by-le_at f (λ (x : ℕ). f x + (if is_isr x (runner.Isr j) then 1 else 0)) (range_with_len 0 n) j.0 1 0
-          (omega arith) (λ (x : ℕ). omega arith) (omega arith)
+      (omega arith) (λ (x : ℕ). omega arith) (omega arith)
   one_number f n (runner.Job p) h = sum_none f n
   one_number f n (runner.Oisr p) h = sum_none f n
   one_number f n (runner.Osek p) h = sum_none f n
@@ -183,5 +183,5 @@ module _ (c : ConfigParts) (s : ScriptParts) where
   ticks_by_number m (suc k) g =
       let before = ticks_by_number m k (λ j l. g j (omega arith)) in
       let one = one_number (λ (isr : ℕ). ticks_of (is_isr isr) c s m k) (length c.isrs) (runner_at c s (m + k))
-          (λ j e. runner_within (m + k) (λ i l. g i (omega arith)) j e) in
+      (λ j e. runner_within (m + k) (λ i l. g i (omega arith)) j e) in
       omega arith

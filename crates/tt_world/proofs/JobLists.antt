@@ -48,7 +48,7 @@ pub entry_of_set : (xs : List Job) (q : ℕ) (left : List Stmt) (place : ℕ) �
 entry_of_set xs q left place l =
     let within : place < length xs = place_of_set xs q left place l in
     ⊎_elim (λ (e : place ≡ q). let here : q < length xs = omega arith in
-        rw e (ap (λ x. x.entry) (at_set xs q left here)))
+    rw e (ap (λ x. x.entry) (at_set xs q left here)))
     (λ (e : place ≢ q). ap (λ x. x.entry) (at_other xs q place left e))
     (cases_eq place q)
 
@@ -69,7 +69,7 @@ undone_before xs q place left before l u =
     (λ (e : place ≡ q).
     let here : q < length xs = omega arith in
     let same : job_at (with_left xs q left) place ≡ record { entry = (job_at xs q).entry; left = left } =
-        rw e (at_set xs q left here) in
+    rw e (at_set xs q left here) in
     let undone : is_done left ≡ false = sym (ap (λ x. is_done x.left) same) ∙ u in
     rw e (before undone))
     (λ (e : place ≢ q). sym (ap (λ x. is_done x.left) (at_other xs q place left e)) ∙ u)

@@ -72,7 +72,7 @@ module _ (P : World → Type 0) (ignores : IgnoresGates P) where
   unfolding arrival
   arrival_holds s source w es p =
       cond_both (list_any (λ (tick : ℕ). eqb tick w.tick) (arrivals_of s source)) _ _ (Holds P es)
-          (λ _. arrived_holds (is_held w source) source w es p) (λ _. p)
+      (λ _. arrived_holds (is_held w source) source w es p) (λ _. p)
 
   pub arrivals_hold : (c : ConfigParts) (s : ScriptParts) → Leads (Alone P) (Alone P) Anything (arrivals c s)
   unfolding arrivals
@@ -106,8 +106,14 @@ pub record AfterService (c : ConfigParts) (w v : World) : Type 0 where
       ⊎ ((global : ℕ) × (pending ≡ correction_of c.round c.adjust (offset_of w) global))
 
 same_world : (c : ConfigParts) (w : World) → AfterService c w w
-same_world c w = record { wanted = w.wanted; pending = w.pending; used = w.times_used; oseks = w.oseks; is = refl;
-    correction = inl refl }
+same_world c w = record {
+  wanted = w.wanted;
+  pending = w.pending;
+  used = w.times_used;
+  oseks = w.oseks;
+  is = refl;
+  correction = inl refl;
+}
 
 -- what is left of the caller: what was left after the call, or nothing, or, where it is an OSEK task, a whole body
 abbrev pub IsOsek : Runner → Type 0
@@ -126,16 +132,30 @@ goes_on_with : (c : ConfigParts) (r : Runner) (left : List Stmt) (w v : World) (
 goes_on_with c r left w v result h = record { world = h; left_is = inl refl }
 
 ready_world : (c : ConfigParts) (w : World) (task : _) → AfterService c w (ready c task w)
-ready_world c w task = record { wanted = w.wanted; pending = w.pending; used = w.times_used; oseks =
-    (ready c task w).oseks; is = refl; correction = inl refl }
+ready_world c w task = record {
+  wanted = w.wanted;
+  pending = w.pending;
+  used = w.times_used;
+  oseks =
+      (ready c task w).oseks;
+  is = refl;
+  correction = inl refl;
+}
 
 synced_answers : (c : ConfigParts) (r : Runner) (global : Option ℕ) (left : List Stmt) (w : World)
     → Answers c r left w (synced c global w left)
 synced_answers c r None left w = goes_on_with c r left w w 1 (same_world c w)
 synced_answers c r (Some global) left w =
     goes_on_with c r left w _ 0
-        (record { wanted = w.wanted; pending = correction_of c.round c.adjust (offset_of w) global; used =
-        w.times_used + 1; oseks = w.oseks; is = refl; correction = inr (global, refl) })
+    (record {
+      wanted = w.wanted;
+      pending = correction_of c.round c.adjust (offset_of w) global;
+      used =
+          w.times_used + 1;
+      oseks = w.oseks;
+      is = refl;
+      correction = inr (global, refl);
+    })
 
 caller_is_osek : (r : Runner) (task : _) → is_caller r task ≡ true → IsOsek r
 caller_is_osek (runner.Osek caller) task e = tt
@@ -149,8 +169,15 @@ pub service_answers : (c : ConfigParts) (s : ScriptParts) (r : Runner) (k : Call
 unfolding service
 service_answers c s r (call.Switch mode) left w =
     goes_on_with c r left w _ 0
-        (record { wanted = mode; pending = w.pending; used = w.times_used; oseks = w.oseks; is = refl; correction =
-        inl refl })
+    (record {
+      wanted = mode;
+      pending = w.pending;
+      used = w.times_used;
+      oseks = w.oseks;
+      is = refl;
+      correction =
+          inl refl;
+    })
 service_answers c s r call.Sync left w = synced_answers c r _ left w
 service_answers c s r call.Shutdown left w = goes_on_with c r left w w 0 (same_world c w)
 service_answers c s r (call.Activate task) left w =
@@ -188,14 +215,28 @@ module _ (c : ConfigParts) (s : ScriptParts) (P R S : World → Type 0) (k : Ste
       subst R (sym h.is)
       (⊎_elim
       (λ (e : h.pending ≡ w.pending). subst
-          (λ (x : ℤ). R
-          (record w { vars = vars; cursors = cursors; wanted = h.wanted; pending = x; times_used = h.used; oseks =
-          h.oseks })) (sym e) (k.free w vars cursors h.wanted h.used h.oseks p))
+      (λ (x : ℤ). R
+      (record w {
+        vars = vars;
+        cursors = cursors;
+        wanted = h.wanted;
+        pending = x;
+        times_used = h.used;
+        oseks =
+            h.oseks;
+      })) (sym e) (k.free w vars cursors h.wanted h.used h.oseks p))
       (λ (g : (global : ℕ) × (h.pending ≡ correction_of c.round c.adjust (offset_of w) global)).
       subst
-          (λ (x : ℤ). R
-          (record w { vars = vars; cursors = cursors; wanted = h.wanted; pending = x; times_used = h.used; oseks =
-          h.oseks })) (sym g.1)
+      (λ (x : ℤ). R
+      (record w {
+        vars = vars;
+        cursors = cursors;
+        wanted = h.wanted;
+        pending = x;
+        times_used = h.used;
+        oseks =
+            h.oseks;
+      })) (sym g.1)
       (k.free _ vars cursors h.wanted h.used h.oseks (k.synced w g.0 p)))
       h.correction)
 
@@ -204,17 +245,45 @@ module _ (c : ConfigParts) (s : ScriptParts) (P R S : World → Type 0) (k : Ste
       → AfterService c (record w { vars = vars; cursors = cursors }) v
       → AfterService c (record (leaving w r after) { vars = vars; cursors = cursors }) (leaving v r after)
   left_first (runner.Isr isr) w vars cursors v after h =
-      record { wanted = h.wanted; pending = h.pending; used = h.used; oseks = h.oseks; is =
-      ap (λ x. leaving x (runner.Isr isr) after) h.is; correction = h.correction }
+      record {
+        wanted = h.wanted;
+        pending = h.pending;
+        used = h.used;
+        oseks = h.oseks;
+        is =
+            ap (λ x. leaving x (runner.Isr isr) after) h.is;
+        correction = h.correction;
+      }
   left_first (runner.Job place) w vars cursors v after h =
-      record { wanted = h.wanted; pending = h.pending; used = h.used; oseks = h.oseks; is =
-      ap (λ x. leaving x (runner.Job place) after) h.is; correction = h.correction }
+      record {
+        wanted = h.wanted;
+        pending = h.pending;
+        used = h.used;
+        oseks = h.oseks;
+        is =
+            ap (λ x. leaving x (runner.Job place) after) h.is;
+        correction = h.correction;
+      }
   left_first (runner.Oisr oisr) w vars cursors v after h =
-      record { wanted = h.wanted; pending = h.pending; used = h.used; oseks = h.oseks; is =
-      ap (λ x. leaving x (runner.Oisr oisr) after) h.is; correction = h.correction }
+      record {
+        wanted = h.wanted;
+        pending = h.pending;
+        used = h.used;
+        oseks = h.oseks;
+        is =
+            ap (λ x. leaving x (runner.Oisr oisr) after) h.is;
+        correction = h.correction;
+      }
   left_first (runner.Osek task) w vars cursors v after h =
-      record { wanted = h.wanted; pending = h.pending; used = h.used; oseks = slice_set h.oseks task.0 after; is =
-      ap (λ x. leaving x (runner.Osek task) after) h.is; correction = h.correction }
+      record {
+        wanted = h.wanted;
+        pending = h.pending;
+        used = h.used;
+        oseks = slice_set h.oseks task.0 after;
+        is =
+            ap (λ x. leaving x (runner.Osek task) after) h.is;
+        correction = h.correction;
+      }
   left_first runner.Nobody w vars cursors v after h = h
 
   left_holds : (w : World) (vars : List ℤ) (cursors : List ℕ) (v : World) (after : List Stmt)
@@ -222,12 +291,12 @@ module _ (c : ConfigParts) (s : ScriptParts) (P R S : World → Type 0) (k : Ste
       → R (leaving v (runner_of c w) after)
   left_holds w vars cursors v after l h p =
       changed (leaving w (runner_of c w) after) vars cursors _ (left_first (runner_of c w) w vars cursors v after h)
-          (k.left w after p l)
+      (k.left w after p l)
 
   effect_holds : (effects : List Effect) (who : Owner) (w : World) (vars : List ℤ) (cursors : List ℕ) (es : List Event)
       → P w
       → Holds R es (effected c s (runner_of c w) who effects (state_after c s w (left_of w (runner_of c w))).left
-          (record w { vars = vars; cursors = cursors })).move
+      (record w { vars = vars; cursors = cursors })).move
   effect_holds [] who w vars cursors es p =
       left_holds w vars cursors _ _ (inl refl) (same_world c _) p
   effect_holds (effect.Out value ∷ rest) who w vars cursors es p =

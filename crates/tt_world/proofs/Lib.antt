@@ -39,6 +39,7 @@ pub mod Unended
 pub mod OpenTicks
 pub mod TheOwner
 pub mod OwnerLaws
+pub mod Closing
 pub mod EndsSeen
 pub mod SeenTicks
 pub mod SeenRuns
@@ -47,3 +48,11 @@ pub mod RoundRuns
 pub mod CheckEnds
 pub mod RoundChecks
 pub mod MonitorLaw
+pub mod SourceEvents
+pub mod SourceParts
+pub mod SourceTicks
+pub mod SourceEnds
+pub mod InterruptLaws
+pub mod Openings
+pub mod Late
+pub mod Still

@@ -56,7 +56,7 @@ set_cases xs i j left =
     (λ (ne : j ≢ i). inr (get_or-set_other xs i j left [] ne))
     (cases_eq j i)
 
-place_cases : (xs : List Job) (i j : ℕ) (left : List Stmt) → ((job_at (with_left xs i left) j).left ≡ left)
+pub place_cases : (xs : List Job) (i j : ℕ) (left : List Stmt) → ((job_at (with_left xs i left) j).left ≡ left)
     ⊎ ((job_at (with_left xs i left) j).left ≡ (job_at xs j).left)
 place_cases xs i j left =
     ⊎_elim
@@ -82,7 +82,7 @@ pub each_leaving : (Test : List Stmt → Type 0) (w : World) (r : Runner) (left 
     → EachLeft Test (leaving w r left)
 each_leaving Test w r left t e q =
     ⊎_elim (λ (f : left_of (leaving w r left) q ≡ left). subst Test (sym f) t)
-        (λ (f : left_of (leaving w r left) q ≡ left_of w q). subst Test (sym f) (e q)) (leaving_cases w r q left)
+    (λ (f : left_of (leaving w r left) q ≡ left_of w q). subst Test (sym f) (e q)) (leaving_cases w r q left)
 
 -- ---- names
 
@@ -113,28 +113,28 @@ module _ (c : ConfigParts) (s : ScriptParts) (rules : IsConfig c) where
   body_named : (task : _) → Callees c (body_of c task)
   body_named task =
       ⊎_elim (λ (l : task.0 < length c.tasks).
-          (All-get_or (IsTask c) c.tasks task.0 no_task l rules.tasks).routine.is_body.callees)
+      (All-get_or (IsTask c) c.tasks task.0 no_task l rules.tasks).routine.is_body.callees)
       (λ (g : length c.tasks ≤ task.0). subst (λ x. Callees c x.body) (sym (get_or_past c.tasks task.0 no_task g)) refl)
-          (cases_lt task.0 (length c.tasks))
+      (cases_lt task.0 (length c.tasks))
 
   osek_named : (task : OsekNo) → Callees c (osek_body c task)
   osek_named task =
       ⊎_elim (λ (l : task.0 < length c.oseks).
-          (All-get_or (IsOsek c) c.oseks task.0 no_osek l rules.oseks).routine.is_body.callees)
+      (All-get_or (IsOsek c) c.oseks task.0 no_osek l rules.oseks).routine.is_body.callees)
       (λ (g : length c.oseks ≤ task.0). subst (λ x. Callees c x.body) (sym (get_or_past c.oseks task.0 no_osek g)) refl)
-          (cases_lt task.0 (length c.oseks))
+      (cases_lt task.0 (length c.oseks))
 
   routine_named : (source : Source) → Callees c (routine_of c source)
   routine_named (IsrSource i) =
       ⊎_elim (λ (l : i.0 < length c.isrs).
-          (All-get_or (IsIsr c) c.isrs i.0 no_isr l rules.isrs).routine.is_body.callees)
+      (All-get_or (IsIsr c) c.isrs i.0 no_isr l rules.isrs).routine.is_body.callees)
       (λ (g : length c.isrs ≤ i.0). subst (λ x. Callees c x.body) (sym (get_or_past c.isrs i.0 no_isr g)) refl)
-          (cases_lt i.0 (length c.isrs))
+      (cases_lt i.0 (length c.isrs))
   routine_named (OisrSource i) =
       ⊎_elim (λ (l : i.0 < length c.oisrs).
-          (All-get_or (IsOisr c) c.oisrs i.0 no_oisr l rules.oisrs).routine.is_body.callees)
+      (All-get_or (IsOisr c) c.oisrs i.0 no_oisr l rules.oisrs).routine.is_body.callees)
       (λ (g : length c.oisrs ≤ i.0). subst (λ x. Callees c x.body) (sym (get_or_past c.oisrs i.0 no_oisr g)) refl)
-          (cases_lt i.0 (length c.oisrs))
+      (cases_lt i.0 (length c.oisrs))
 
   -- ---- services
 
@@ -159,18 +159,18 @@ module _ (c : ConfigParts) (s : ScriptParts) (rules : IsConfig c) where
   service_named r (call.Activate task) left w b n t =
       cond_both (is_suspended w task) _ _ NamedAnswer
       (λ _. record { world = leaving_named c w (runner.Osek task) (osek_body c task) (osek_named task) n; left = t })
-          (λ _. record { world = n; left = t })
+      (λ _. record { world = n; left = t })
   service_named r (call.Chain task) left w b n t =
       cond_both (is_caller r task) _ _ NamedAnswer
       (λ _. record { world = n; left = osek_named task })
       (λ _. cond_both (is_suspended w task) _ _ NamedAnswer
       (λ _. record { world = leaving_named c w (runner.Osek task) (osek_body c task) (osek_named task) n; left = refl })
-          (λ _. record { world = n; left = t }))
+      (λ _. record { world = n; left = t }))
   service_named r call.Terminate left w b n t = record { world = n; left = refl }
 
   -- ---- a tick
 
-  abbrev EffectsNamed : List Effect → Type 0
+  abbrev pub EffectsNamed : List Effect → Type 0
   EffectsNamed [] = Unit {0}
   EffectsNamed (effect.Out value ∷ rest) = EffectsNamed rest
   EffectsNamed (effect.Service k ∷ rest) = (names_below (length c.modes) (length c.oseks) k ≡ true) × EffectsNamed rest
@@ -187,15 +187,15 @@ module _ (c : ConfigParts) (s : ScriptParts) (rules : IsConfig c) where
   tick_named left w (Stmt-F.If expr first second) rest h = tt
   tick_named left w (Stmt-F.Repeat n body) rest h = tt
 
-  effects_named : (w : World) (left : List Stmt) → Callees c left → EffectsNamed (state_after c s w left).effects
+  pub effects_named : (w : World) (left : List Stmt) → Callees c left → EffectsNamed (state_after c s w left).effects
   unfolding tick
   effects_named w [] t = tt
   effects_named w (front ∷ rest) t =
       let test = has_callee {A = Bool} (length c.modes) (length c.oseks) in
       let here = sym (fold_out-Stmt Bool (λ y. test y && inner_pass y) front)
-          ∙ (and_parts (each_of test front) _ t).0 in
+      ∙ (and_parts (each_of test front) _ t).0 in
       tick_named (front ∷ rest) w (out-Stmt front) rest
-          (and_parts (test (map-Stmt Stmt Bool (each_of test) (out-Stmt front))) _ here).0
+      (and_parts (test (map-Stmt Stmt Bool (each_of test) (out-Stmt front))) _ here).0
 
   callees_last : LastsThroughTicks (supply_of c.demands s.values) (has_callee (length c.modes) (length c.oseks))
   callees_last = record { work = λ n e. refl; repeat = λ n body e. refl; take = λ demand used n is e. refl }
@@ -210,7 +210,7 @@ module _ (c : ConfigParts) (s : ScriptParts) (rules : IsConfig c) where
   effected_named r (effect.Service k ∷ rest) who left w es f n t =
       let a = service_named r k left w f.0 n t in
       cond_both (is_shutdown k) _ _ (Holds (Named c) es) (λ _. tt)
-          (λ _. leaving_named c (service c s r k left w).world r (service c s r k left w).left a.left a.world)
+      (λ _. leaving_named c (service c s r k left w).world r (service c s r k left w).left a.left a.world)
 
   pub step_named : Leads (Alone (Named c)) (Alone (Named c)) Anything (step c s)
   unfolding step
@@ -219,9 +219,9 @@ module _ (c : ConfigParts) (s : ScriptParts) (rules : IsConfig c) where
       let who = owner_of c w r in
       let state = state_after c s w (left_of w r) in
       followed_leads (Alone (Named c)) (Alone (Named c)) Anything es
-          (preceded (run_line w who) (runner_tick c s r who w).move) _
+      (preceded (run_line w who) (runner_tick c s r who w).move) _
       (effected_named r state.effects who state.left _ es (effects_named w (left_of w r) (n.lefts r))
-          (record { mode = n.mode; wanted = n.wanted; lefts = n.lefts }) (ticked_named w (left_of w r) (n.lefts r)))
+      (record { mode = n.mode; wanted = n.wanted; lefts = n.lefts }) (ticked_named w (left_of w r) (n.lefts r)))
       (λ v ds p. record { mode = p.mode; wanted = p.wanted; lefts = p.lefts })
 
   -- ---- the opening
@@ -252,7 +252,7 @@ module _ (c : ConfigParts) (s : ScriptParts) (rules : IsConfig c) where
   round_end_named w es n =
       cond_both (is_length w.latched (offset_of w)) _ _ (Holds (Named c) es)
       (λ _. followed_leads (Alone (Named c)) (Alone (Named c)) Anything es (monitored c (is_at_end (offset_of w)) w)
-          (next_round s) (monitored_holds (Named c) c _ w es (λ _. n)) next_round_named)
+      (next_round s) (monitored_holds (Named c) c _ w es (λ _. n)) next_round_named)
       (λ _. n)
 
   acceptance_named : (source : Source) → Leads (Alone (Named c)) (Alone (Named c)) Anything (acceptance c source)
@@ -260,13 +260,13 @@ module _ (c : ConfigParts) (s : ScriptParts) (rules : IsConfig c) where
   acceptance_named (IsrSource i) w es n =
       cond_both (is_accepted w (IsrSource i)) _ _ (Holds (Named c) es)
       (λ _. leaving_named c (disabling (holding w (IsrSource i) false) (IsrSource i)) (runner.Isr i)
-          (routine_of c (IsrSource i)) (routine_named (IsrSource i))
-          (record { mode = n.mode; wanted = n.wanted; lefts = n.lefts })) (λ _. n)
+      (routine_of c (IsrSource i)) (routine_named (IsrSource i))
+      (record { mode = n.mode; wanted = n.wanted; lefts = n.lefts })) (λ _. n)
   acceptance_named (OisrSource i) w es n =
       cond_both (is_accepted w (OisrSource i)) _ _ (Holds (Named c) es)
       (λ _. leaving_named c (disabling (holding w (OisrSource i) false) (OisrSource i)) (runner.Oisr i)
-          (routine_of c (OisrSource i)) (routine_named (OisrSource i))
-          (record { mode = n.mode; wanted = n.wanted; lefts = n.lefts })) (λ _. n)
+      (routine_of c (OisrSource i)) (routine_named (OisrSource i))
+      (record { mode = n.mode; wanted = n.wanted; lefts = n.lefts })) (λ _. n)
 
   arrived_named : (held : Bool) (source : Source) (w : World) (es : List Event) → Named c w
       → Holds (Named c) es (arrived held source w)
@@ -278,7 +278,7 @@ module _ (c : ConfigParts) (s : ScriptParts) (rules : IsConfig c) where
   unfolding arrival
   arrival_named source w es n =
       cond_both (list_any (λ (tick : ℕ). tick == w.tick) (arrivals_of s source)) _ _ (Holds (Named c) es)
-          (λ _. arrived_named (is_held w source) source w es n) (λ _. n)
+      (λ _. arrived_named (is_held w source) source w es n) (λ _. n)
 
   -- a new activation
   more_left : (w : World) (entry : ℕ) (left : List Stmt) → Callees c left → EachLeft (Callees c) w
@@ -289,9 +289,9 @@ module _ (c : ConfigParts) (s : ScriptParts) (rules : IsConfig c) where
       (λ (l : place < length (w.jobs ++ y ∷ [])).
       ⊎_elim (λ (old : IsOldPlace w.jobs y place). subst (λ x. Callees c x.left) (sym old.1) (e (runner.Job place)))
       (λ (new : IsNewPlace w.jobs y place). subst (λ x. Callees c x.left) (sym new.1) t)
-          (place_of_more w.jobs y place l))
+      (place_of_more w.jobs y place l))
       (λ (g : length (w.jobs ++ y ∷ []) ≤ place). subst (λ (x : Job). Callees c x.left)
-          (sym (get_or_past (w.jobs ++ y ∷ []) place no_job g)) refl)
+      (sym (get_or_past (w.jobs ++ y ∷ []) place no_job g)) refl)
       (cases_lt place (length (w.jobs ++ y ∷ [])))
   more_left w entry left t e (runner.Isr i) = e (runner.Isr i)
   more_left w entry left t e (runner.Oisr i) = e (runner.Oisr i)
@@ -339,14 +339,14 @@ module _ (c : ConfigParts) (s : ScriptParts) (rules : IsConfig c) where
       subst (Callees c) (sym (get_or-map (λ (task : OsekDef). if task.auto then task.body else []) c.oseks i no_osek))
       (⊎_elim (λ (l : i < length c.oseks). auto_named _ (All-get_or (IsOsek c) c.oseks i no_osek l rules.oseks))
       (λ (g : length c.oseks ≤ i). subst (λ (x : OsekDef). Callees c (if x.auto then x.body else []))
-          (sym (get_or_past c.oseks i no_osek g)) refl) (cases_lt i (length c.oseks)))
+      (sym (get_or_past c.oseks i no_osek g)) refl) (cases_lt i (length c.oseks)))
 
   none_of : (n i : ℕ) → Callees c (get_or (replicate {A = List Stmt} n []) i [])
   none_of n i =
       ⊎_elim (λ (l : i < n). subst (Callees c) (sym (get_or-replicate {A = List Stmt} n i [] [] l)) refl)
       (λ (g : n ≤ i). subst (Callees c) (sym
-          (get_or_past (replicate {A = List Stmt} n []) i []
-          (let e = length-replicate {A = List Stmt} n [] in omega arith))) refl) (cases_lt i n)
+      (get_or_past (replicate {A = List Stmt} n []) i []
+      (let e = length-replicate {A = List Stmt} n [] in omega arith))) refl) (cases_lt i n)
 
   first_lefts : EachLeft (Callees c) (first_world c s)
   first_lefts (runner.Isr i) = none_of (length c.isrs) i.0

@@ -1,27 +1,24 @@
 -- The law of checks: each round has the checks of the points that it reaches, up to the first that is missed, and no
 -- others.
-use Rattle.std.proofs.Common.{ℕ, suc, ◌≡◌, ◌<◌, ◌≤◌, ◌+◌, ◌-◌, List, [], ◌∷◌, ◌++◌, Bool, true, false, Option, None, Some, refl, ap, sym, ◌∙◌, subst, arith, ◌⊎◌, ⊎_elim}
-use Rattle.std.specs.Prelude.{IfSome, filter, not, ◌||◌, is_some}
-use Rattle.std.specs.List.{list_any}
+use Rattle.std.proofs.Common.{ℕ, ◌≡◌, ◌<◌, ◌≤◌, ◌-◌, List, [], ◌∷◌, Bool, true, false, Option, None, Some, refl, sym, ◌∙◌, subst, ⊎_elim}
+use Rattle.std.specs.Prelude.{IfSome, filter}
 use Rattle.std.proofs.lemmas.Bool.{cases_lt, false≢true}
 use Rattle.tt_base.specs.declared.event.Event.{Event}
 use Rattle.tt_world.specs.declared.config.ConfigParts.{ConfigParts}
 use Rattle.tt_world.specs.declared.script.ScriptParts.{ScriptParts}
-use Rattle.tt_world.specs.declared.world.Point.{Point}
 use Rattle.tt_world.specs.ConfigRules.{IsConfig}
 use Rattle.tt_world.specs.ScriptRules.{IsScript}
-use Rattle.tt_world.specs.Monitoring.{is_at, is_at_end}
 use Rattle.tt_world.specs.Schedule.{IsLast, events_before, last_instant, schedule}
-use Rattle.tt_world.specs.Status.{Status, Done, Missed, Shut, status_of, last_stamp}
+use Rattle.tt_world.specs.Status.{Status, status_of, last_stamp}
 use Rattle.tt_world.specs.Readings.{RoundStart, round_of, until_round, seen_at}
-use Rattle.tt_world.specs.EventLaws.{EachRound, next_start, start_or, is_last_round, is_check_at, HasChecks, ChecksAtEnd, ChecksMonitor}
+use Rattle.tt_world.specs.EventLaws.{EachRound, next_start, is_last_round, is_check_at, ChecksAtEnd, ChecksMonitor}
 use Rattle.tt_world.specs.RunLaws.{ChecksLaw}
 use Rattle.tt_world.proofs.Parts.{GoesOnBefore}
 use Rattle.tt_world.proofs.Ends.{are_bounded, last_is}
 use Rattle.tt_world.proofs.Through.{each_more}
 use Rattle.tt_world.proofs.Fates.{last_stamp_at}
 use Rattle.tt_world.proofs.Violations.{violations, error_hooks}
-use Rattle.tt_world.proofs.RoundFolds.{Present, present_after, ByLast, OfLast, OfRound, each_has}
+use Rattle.tt_world.proofs.RoundFolds.{ByLast, OfLast, OfRound, each_has, last_start}
 use Rattle.tt_world.proofs.RoundChecks.{rows_of, Monitored, Has, Finally, checks_ended}
 use Rattle.tt_world.proofs.CheckEnds.{SameEnds, seen_ends}
 
@@ -38,19 +35,6 @@ each_all : {X : Type 0} (P : X → RoundStart → List Event → Type 0) (es : L
 each_all P [] h = tt
 each_all P (e ∷ es) h =
     (all_or (λ x round. P x round es) (round_of e) (λ x. (h x).0), each_all P es (λ x. (h x).1))
-
--- after the last round none begins
-no_start : (end : ℕ) (o : Option RoundStart) (others : Bool) (next : ℕ) → not (is_some o || others) ≡ true
-    → (not others ≡ true → next ≡ end) → start_or next o ≡ end
-no_start end None others next e h = h e
-no_start end (Some round) others next e h = cc
-
-last_start : (end : ℕ) (rest : List Event) → is_last_round rest ≡ true → next_start end rest ≡ end
-unfolding next_start
-last_start end [] e = refl
-last_start end (event ∷ rest) e =
-    no_start end (round_of event) (list_any (λ (x : Event). is_some (round_of x)) rest) (next_start end rest) e
-    (last_start end rest)
 
 -- ---- a round
 

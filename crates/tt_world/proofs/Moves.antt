@@ -103,9 +103,9 @@ pub gives_more : {X : Type 0} (part : X → World → Moved) (xs : List X) (i : 
 gives_more part xs i x a b d u v w l here g h =
     let e : take (i + 1) xs ≡ take i xs ++ x ∷ [] = take_more xs i x l ∙ ap (λ y. take i xs ++ y ∷ []) here in
     let f : map part (take (i + 1) xs) ≡ map part (take i xs) ++ part x ∷ [] = ap (map part) e
-        ∙ map-append part (take i xs) (x ∷ []) in
+    ∙ map-append part (take i xs) (x ∷ []) in
     let k = gives_next a b d v w None (chain (map part (take i xs)) u) (chain (part x ∷ [])) g
-        (one_part (part x) b d v w h) in
+    (one_part (part x) b d v w h) in
     subst (Gives a d w None) (sym (ap (λ ps. chain ps u) f ∙ chain_both (map part (take i xs)) (part x ∷ []) u)) k
 
 pub gives_all : {X : Type 0} (part : X → World → Moved) (xs : List X) (i : ℕ) (a b : List Event) (u w : World)

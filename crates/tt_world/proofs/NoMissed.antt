@@ -73,13 +73,13 @@ if_met false check others a b = b
 
 pub checked_met : (at : ℕ) (mode : ModeDef) (is_due : Point → Bool) (xs : List Job)
     → ((place : ℕ) → place < length xs → is_due (point_of mode (row_of mode (job_at xs place).entry)) ≡ true
-        → is_done (job_at xs place).left ≡ true) → AreMet (checked at mode is_due xs)
+    → is_done (job_at xs place).left ≡ true) → AreMet (checked at mode is_due xs)
 unfolding checked
 checked_met at mode is_due [] h = record { clean = tt; missed = refl }
 checked_met at mode is_due (x ∷ xs) h =
     let rest = checked_met at mode is_due xs (λ place l d. h (suc place) (omega arith) d) in
     if_met (is_due (point_of mode (row_of mode x.entry))) _ (checked at mode is_due xs)
-        (λ d. then_met at _ (is_done x.left) _ (h 0 (omega arith) d) rest) rest
+    (λ d. then_met at _ (is_done x.left) _ (h 0 (omega arith) d) rest) rest
 
 after_clean : (c : ConfigParts) (fs : List Event) (missed : Option TaskNo) (w : World) → missed ≡ None → Of IsNoMiss fs
     → Of IsNoMiss (after_checks c fs missed w).events
@@ -100,11 +100,11 @@ deadline_low c mode entry rows =
     let row = row_of mode entry in
     let h = list_all_get (is_activation c) mode.activations entry no_row rows.activations l in
     let later = both_right (nat_lt row.task.0 (length c.tasks))
-        (nat_lt row.offset row.deadline && nat_le row.deadline (c.round - c.adjust)) h in
+    (nat_lt row.offset row.deadline && nat_le row.deadline (c.round - c.adjust)) h in
     leb-true row.deadline (c.round - c.adjust)
-        (both_right (nat_lt row.offset row.deadline) (nat_le row.deadline (c.round - c.adjust)) later))
+    (both_right (nat_lt row.offset row.deadline) (nat_le row.deadline (c.round - c.adjust)) later))
     (λ (g : length mode.activations ≤ entry). let z =
-        ap (λ (row : Activation). row.deadline) (get_or_past mode.activations entry no_row g) in omega arith)
+    ap (λ (row : Activation). row.deadline) (get_or_past mode.activations entry no_row g) in omega arith)
     (cases_lt entry (length mode.activations))
 
 at_offset : (deadline offset : ℕ) (p : Point) → IsFrom deadline p → is_at offset p ≡ true → deadline ≤ offset
@@ -136,7 +136,7 @@ module _ (c : ConfigParts) (s : ScriptParts) (rules : IsConfig c) (bounded : IsB
   safe_leads A B es m p q a b =
       leads_by (λ v fs. (A v × B v) × Of IsNoMiss fs) Clean es m
       (λ e.
-          ((led_on (Alone A) Anything es m e a, led_on (Alone B) Anything es m e b), all_more IsNoMiss es m.events p q))
+      ((led_on (Alone A) Anything es m e a, led_on (Alone B) Anything es m e b), all_more IsNoMiss es m.events p q))
       (λ e. all_more IsNoMiss es m.events p q)
 
   pub early : OpeningKeeps c s (λ _. Alone Early) Anything
@@ -185,8 +185,8 @@ module _ (c : ConfigParts) (s : ScriptParts) (rules : IsConfig c) (bounded : IsB
       (λ e.
       let met = end_met w p q e in
       followed_all IsNoMiss (monitored c (is_at_end (offset_of w)) w) (next_round s)
-          (after_clean c _ (checked w.tick (mode_of c w) (is_at_end (offset_of w)) w.jobs).missed w met.missed
-          met.clean)
+      (after_clean c _ (checked w.tick (mode_of c w) (is_at_end (offset_of w)) w.jobs).missed w met.missed
+      met.clean)
       (next_round_all IsNoMiss s (λ _. refl) (λ _ _ _. refl)))
       (λ _. tt)
 
@@ -231,14 +231,14 @@ module _ (c : ConfigParts) (s : ScriptParts) (rules : IsConfig c) (bounded : IsB
   step_clean : Leads (SafeAt Activated) (λ v fs. Of IsNoMiss fs) Clean (step c s)
   step_clean w es p =
       let now = all_more IsNoMiss es (step c s w).events p.1
-          (step_all IsNoMiss hooks c s (λ _ _. refl) (λ _ _. refl) (λ _ _ _ _. refl) w) in
+      (step_all IsNoMiss hooks c s (λ _ _. refl) (λ _ _. refl) (λ _ _ _ _. refl) w) in
       leads_by (λ v fs. Of IsNoMiss fs) Clean es (step c s w) (λ _. now) (λ _. now)
 
   pub instant_clean : (w : World) → Each c (IsEarly c T) T w → Timed Before c s w → Of IsNoMiss (instant c s w).events
   instant_clean w p q =
       let led = instant_leads c s SafeAt Clean opening_clean (λ v fs. Of IsNoMiss fs) step_clean w [] ((p, q), tt) in
       ⊎_elim (λ (e : is_over (instant c s w).end ≡ true). led_over (λ v fs. Of IsNoMiss fs) Clean []
-          (instant c s w) e led)
+      (instant c s w) e led)
       (λ (e : is_over (instant c s w).end ≡ false). led_on (λ v fs. Of IsNoMiss fs) Clean [] (instant c s w) e led)
       (cases_Bool (is_over (instant c s w).end))
 
@@ -253,7 +253,7 @@ module _ (c : ConfigParts) (s : ScriptParts) (rules : IsConfig c) (script : IsSc
       let g : GoesOnBefore c s n = λ k j. (last_is c s bounded).first k (omega arith) in
       all_more IsNoMiss (events_before c s n) (instant c s (world_at c s n)).events (clean_before n (omega arith))
       (instant_clean c s rules bounded n (world_at c s n) (early_at c s rules script bounds responds n g)
-          (timed_at c s bounded n g))
+      (timed_at c s bounded n g))
 
   pub none_is_missed : (task : TaskNo) (tick : ℕ) → status_of (schedule c s) ≡ Missed task tick → ⊥
   unfolding schedule

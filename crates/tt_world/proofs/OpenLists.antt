@@ -78,16 +78,16 @@ module _ {X : Type 0} (who : X → Owner) (item : Event → Option X) where
       → unended (seen ++ e ∷ []) es ≡ unended seen es
   still_unended seen es e n =
       same_unended seen (seen ++ e ∷ []) es
-          (λ at x. ended_more at (who x) seen e
-          ∙ ap (λ (b : Bool). has_ended at (who x) seen || b) (no_end at (who x) e n)
-          ∙ or_false (has_ended at (who x) seen))
+      (λ at x. ended_more at (who x) seen e
+      ∙ ap (λ (b : Bool). has_ended at (who x) seen || b) (no_end at (who x) e n)
+      ∙ or_false (has_ended at (who x) seen))
 
   -- one more event that begins nothing
   pub more_none : (seen es : List Event) (e : Event) → item e ≡ None → unended seen (es ++ e ∷ []) ≡ unended seen es
   more_none seen es e n =
       flat_map-append (λ (d : Event). open_if who (stamp_of d) seen (item d)) es (e ∷ [])
       ∙ ap (λ (o : Option X). unended seen es ++ (open_if who (stamp_of e) seen o ++ [])) n
-          ∙ append-nil (unended seen es)
+      ∙ append-nil (unended seen es)
 
   -- one more event that begins something
   pub more_some : (seen es : List Event) (e : Event) (x : X) → item e ≡ Some x → Of (λ d. stamp_of d ≤ stamp_of e) seen
@@ -116,11 +116,11 @@ module _ {X : Type 0} (who : X → Owner) (item : Event → Option X) where
   end_if at t other seen None l = refl
   end_if at t other seen (Some x) l =
       let now : is_end_after at (who x) (End t other) ≡ same_owner (who x) other =
-          ap (λ (b : Bool). same_owner (who x) other && b) (lt-ltb at t l) ∙ and_true (same_owner (who x) other) in
+      ap (λ (b : Bool). same_owner (who x) other && b) (lt-ltb at t l) ∙ and_true (same_owner (who x) other) in
       ap (λ (b : Bool). cond b [] (x ∷ []))
-          (ended_more at (who x) seen (End t other) ∙ ap (λ (b : Bool). has_ended at (who x) seen || b) now)
+      (ended_more at (who x) seen (End t other) ∙ ap (λ (b : Bool). has_ended at (who x) seen || b) now)
       ∙ if_remains (has_ended at (who x) seen) (same_owner (who x) other) x
-          ∙ sym (filter_if (has_ended at (who x) seen) other x)
+      ∙ sym (filter_if (has_ended at (who x) seen) other x)
     where
       and_true : (a : Bool) → a && true ≡ a
       and_true true = refl
@@ -132,7 +132,7 @@ module _ {X : Type 0} (who : X → Owner) (item : Event → Option X) where
   end_unended seen (e ∷ es) t other p =
       ap (λ (xs : List X). xs ++ unended (seen ++ End t other ∷ []) es) (end_if (stamp_of e) t other seen (item e) p.0)
       ∙ ap (λ (xs : List X). filter (remains other) (open_if who (stamp_of e) seen (item e)) ++ xs)
-          (end_unended seen es t other p.1)
+      (end_unended seen es t other p.1)
       ∙ sym (filter-append (remains other) (open_if who (stamp_of e) seen (item e)) (unended seen es))
 
 -- ---- tasks and routines
@@ -190,7 +190,7 @@ unfolding after_round
 round_more kept [] e n = ap (λ o. after_if o (kept ++ e ∷ []) []) n
 round_more kept (d ∷ es) e n =
     ap (λ (xs : List Event). after_round xs (es ++ e ∷ [])) (sym (if_more (round_of d) kept es e))
-        ∙ round_more (after_if (round_of d) kept es) es e n
+    ∙ round_more (after_if (round_of d) kept es) es e n
 
 pub round_new : (kept es : List Event) (e : Event) (r : _) → round_of e ≡ Some r → after_round kept (es ++ e ∷ []) ≡ []
 unfolding after_round
@@ -234,7 +234,7 @@ tasks_quiet : (es : List Event) (e : Event) → round_of e ≡ None → ends e �
 tasks_quiet es e r n i =
     ap (λ (xs : List Event). unended owner.Task task_item (es ++ e ∷ []) xs) (round_more es es e r)
     ∙ more_none owner.Task task_item (es ++ e ∷ []) (present_round es) e i
-        ∙ still_unended owner.Task task_item es (present_round es) e n
+    ∙ still_unended owner.Task task_item es (present_round es) e n
 
 isrs_quiet : (es : List Event) (e : Event) → ends e ≡ false → isr_item e ≡ None → isrs_of (es ++ e ∷ []) ≡ isrs_of es
 isrs_quiet es e n i = more_none owner.Isr isr_item (es ++ e ∷ []) es e i ∙ still_unended owner.Isr isr_item es es e n
@@ -248,7 +248,7 @@ isrs_plain es e n = isrs_quiet es e (plain_end e n) (plain_isr e n)
 pub tasks_round : (es : List Event) (at number : ℕ) (mode : ModeNo) → tasks_of (es ++ Round at number mode ∷ []) ≡ []
 tasks_round es at number mode =
     ap (λ (xs : List Event). unended owner.Task task_item (es ++ Round at number mode ∷ []) xs)
-        (round_new (es ++ Round at number mode ∷ []) es (Round at number mode) _ refl)
+    (round_new (es ++ Round at number mode ∷ []) es (Round at number mode) _ refl)
 
 pub isrs_round : (es : List Event) (at number : ℕ) (mode : ModeNo)
     → isrs_of (es ++ Round at number mode ∷ []) ≡ isrs_of es
@@ -286,4 +286,4 @@ pub isrs_end : (es : List Event) (t : ℕ) (who : Owner) → Of (λ e. stamp_of 
     → isrs_of (es ++ End t who ∷ []) ≡ filter (λ (x : IsrNo). not (same_owner (owner.Isr x) who)) (isrs_of es)
 isrs_end es t who p =
     more_none owner.Isr isr_item (es ++ End t who ∷ []) es (End t who) refl
-        ∙ end_unended owner.Isr isr_item es es t who p
+    ∙ end_unended owner.Isr isr_item es es t who p

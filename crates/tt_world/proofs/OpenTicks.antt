@@ -36,6 +36,7 @@ use Rattle.tt_world.proofs.Deadlines.{IsFrom, IsUpTo, point_up_to}
 use Rattle.tt_world.proofs.TableRows.{mode_rows, rows_later, rows_apart}
 use Rattle.tt_world.proofs.Points.{Ahead}
 use Rattle.tt_world.proofs.Emits.{Of, all_more, event_if_all}
+use Rattle.tt_world.proofs.SourceEvents.{SourceLists, lists_of, lists_left}
 use Rattle.tt_world.proofs.JobLists.{entry_of_set}
 use Rattle.tt_world.proofs.TaskAccounts.{Says, runner_says, last_found_at}
 use Rattle.tt_world.proofs.IsrAccounts.{isr_runs, highest_undone}
@@ -72,7 +73,7 @@ module _ (c : ConfigParts) (rules : IsConfig c) (T : ℕ) (w : World) (es : List
       let late = (f.1.rows j l).1 in
       let t = f.0 in
       between (w.tick - w.start) (row_of mode d).offset _ (a.ahead i first u)
-          (point_up_to mode (row_of mode e) d (f.1.rows j l).0 dead) (omega arith)
+      (point_up_to mode (row_of mode e) d (f.1.rows j l).0 dead) (omega arith)
 
 -- ---- lists
 
@@ -103,7 +104,7 @@ module _ (mode : ModeDef) where
   keep_open t (x ∷ xs) h =
       filter-append (other_task t) (open_task mode x) (open_tasks mode xs)
       ∙ ap (λ ys. ys ++ filter (other_task t) (open_tasks mode xs))
-          (keep_one (is_done x.left) (task_of x) t (h 0 (omega arith)))
+      (keep_one (is_done x.left) (task_of x) t (h 0 (omega arith)))
       ∙ ap (λ ys. open_task mode x ++ ys) (keep_open t xs (λ p l u. h (suc p) (omega arith) u))
 
   drop_one : (b : Bool) (u t : TaskNo) → b ≡ false → u.0 ≡ t.0 → filter (other_task t) (cond b [] (u ∷ [])) ≡ []
@@ -114,7 +115,7 @@ module _ (mode : ModeDef) where
   pub close_open : (t : TaskNo) (xs : List Job) (q : ℕ) (y : Job) → q < length xs → is_done y.left ≡ true
       → is_done (job_at xs q).left ≡ false → (task_of (job_at xs q)).0 ≡ t.0
       → ((p : ℕ) → p < length xs → is_done (job_at xs p).left ≡ false → p ≢ q → (task_of (job_at xs p)).0 ≢ t.0)
-          → filter (other_task t) (open_tasks mode xs) ≡ open_tasks mode (slice_set xs q y)
+      → filter (other_task t) (open_tasks mode xs) ≡ open_tasks mode (slice_set xs q y)
   close_open t [] q y l d u e h = absurd (omega arith)
   close_open t (x ∷ xs) zero y l d u e h =
       filter-append (other_task t) (open_task mode x) (open_tasks mode xs)
@@ -124,9 +125,9 @@ module _ (mode : ModeDef) where
   close_open t (x ∷ xs) (suc q) y l d u e h =
       filter-append (other_task t) (open_task mode x) (open_tasks mode xs)
       ∙ ap (λ ys. ys ++ filter (other_task t) (open_tasks mode xs))
-          (keep_one (is_done x.left) (task_of x) t (λ v. h 0 (omega arith) v (λ z. absurd (omega arith))))
+      (keep_one (is_done x.left) (task_of x) t (λ v. h 0 (omega arith) v (λ z. absurd (omega arith))))
       ∙ ap (λ ys. open_task mode x ++ ys)
-          (close_open t xs q y (omega arith) d u e (λ p m v n. h (suc p) (omega arith) v (λ z. n (omega arith))))
+      (close_open t xs q y (omega arith) d u e (λ p m v n. h (suc p) (omega arith) v (λ z. n (omega arith))))
 
   pub same_open : (xs : List Job) (q : ℕ) (y : Job) → open_task mode y ≡ open_task mode (job_at xs q)
       → open_tasks mode (slice_set xs q y) ≡ open_tasks mode xs
@@ -149,14 +150,14 @@ without_same : (i : IsrNo) (xs : List IsrNo) → has i.0 (filter (other_isr i) x
 without_same i [] = refl
 without_same i (x ∷ xs) =
     cond_both (other_isr i x) _ _ (λ ys. has i.0 ys ≡ false)
-        (λ e. ap (λ (b : Bool). b || has i.0 (filter (other_isr i) xs)) (not_true (x.0 == i.0) e) ∙ without_same i xs)
-        (λ _. without_same i xs)
+    (λ e. ap (λ (b : Bool). b || has i.0 (filter (other_isr i) xs)) (not_true (x.0 == i.0) e) ∙ without_same i xs)
+    (λ _. without_same i xs)
 
 without_other : (i : IsrNo) (n : ℕ) (xs : List IsrNo) → i.0 ≢ n → has n (filter (other_isr i) xs) ≡ has n xs
 without_other i n [] h = refl
 without_other i n (x ∷ xs) h =
     cond_both (other_isr i x) _ _ (λ ys. has n ys ≡ has n (x ∷ xs))
-        (λ _. ap (λ (b : Bool). (x.0 == n) || b) (without_other i n xs h))
+    (λ _. ap (λ (b : Bool). (x.0 == n) || b) (without_other i n xs h))
     (λ e.
     let z = eqb-true x.0 i.0 (not_false (x.0 == i.0) e) in
     without_other i n xs h ∙ sym (ap (λ (b : Bool). b || has n xs) (ne_eqb x.0 n (λ y. h (sym z ∙ y)))))
@@ -171,10 +172,12 @@ abbrev left_isrs : Runner → List (List Stmt) → List Stmt → List (List Stmt
 left_isrs (runner.Isr i) xs after = slice_set xs i.0 after
 left_isrs r xs after = xs
 
-abbrev Ended : Runner → Bool → List Stmt → Type 0
+-- a runner but an OSEK task ends exactly where nothing is left of it
+abbrev pub Ended : Runner → Bool → List Stmt → Type 0
 Ended r ended after = IsOsek r ⊎ (ended ≡ is_done after)
 
-record Left (w : World) (r : Runner) (v : World) (ended : Bool) : Type 0 where
+-- what a tick leaves of a world, and of its runner
+pub record Left (w : World) (r : Runner) (v : World) (ended : Bool) : Type 0 where
   pub after : List Stmt
   pub start : v.start ≡ w.start
   pub mode : v.mode ≡ w.mode
@@ -182,23 +185,72 @@ record Left (w : World) (r : Runner) (v : World) (ended : Bool) : Type 0 where
   pub acts : v.jobs ≡ left_acts r w.jobs after
   pub isrs : v.isrs ≡ left_isrs r w.isrs after
   pub gates : v.isrs_held ≡ w.isrs_held
+  pub lists : lists_of v ≡ lists_left r (lists_of w) after
   pub ends : Ended r ended after
 
 leaving_left : (w : World) (r : Runner) (v : World) (after : List Stmt) (ended : Bool) → v.start ≡ w.start
-    → v.mode ≡ w.mode → v.tick ≡ w.tick → v.jobs ≡ w.jobs → v.isrs ≡ w.isrs → v.isrs_held ≡ w.isrs_held
-    → Ended r ended after → Left w r (leaving v r after) ended
-leaving_left w (runner.Isr i) v after ended a b t d x g e =
-    record { after = after; start = a; mode = b; tick = t; acts = d; isrs =
-    ap (λ (xs : List (List Stmt)). slice_set xs i.0 after) x; gates = g; ends = e }
-leaving_left w (runner.Job q) v after ended a b t d x g e =
-    record { after = after; start = a; mode = b; tick = t; acts = ap (λ (xs : List Job). with_left xs q after) d; isrs =
-    x; gates = g; ends = e }
-leaving_left w (runner.Oisr i) v after ended a b t d x g e =
-    record { after = after; start = a; mode = b; tick = t; acts = d; isrs = x; gates = g; ends = e }
-leaving_left w (runner.Osek i) v after ended a b t d x g e =
-    record { after = after; start = a; mode = b; tick = t; acts = d; isrs = x; gates = g; ends = e }
-leaving_left w runner.Nobody v after ended a b t d x g e =
-    record { after = after; start = a; mode = b; tick = t; acts = d; isrs = x; gates = g; ends = e }
+    → v.mode ≡ w.mode → v.tick ≡ w.tick → v.jobs ≡ w.jobs → lists_of v ≡ lists_of w → Ended r ended after
+    → Left w r (leaving v r after) ended
+leaving_left w (runner.Isr i) v after ended a b t d h e =
+    record {
+      after = after;
+      start = a;
+      mode = b;
+      tick = t;
+      acts = d;
+      isrs = ap (λ (l : SourceLists). slice_set l.isrs i.0 after) h;
+      gates = ap (λ (l : SourceLists). l.isrs_held) h;
+      lists = ap (λ (l : SourceLists). lists_left (runner.Isr i) l after) h;
+      ends = e;
+    }
+leaving_left w (runner.Job q) v after ended a b t d h e =
+    record {
+      after = after;
+      start = a;
+      mode = b;
+      tick = t;
+      acts = ap (λ (xs : List Job). with_left xs q after) d;
+      isrs = ap (λ (l : SourceLists). l.isrs) h;
+      gates = ap (λ (l : SourceLists). l.isrs_held) h;
+      lists = h;
+      ends = e;
+    }
+leaving_left w (runner.Oisr i) v after ended a b t d h e =
+    record {
+      after = after;
+      start = a;
+      mode = b;
+      tick = t;
+      acts = d;
+      isrs = ap (λ (l : SourceLists). l.isrs) h;
+      gates = ap (λ (l : SourceLists). l.isrs_held) h;
+      lists = ap (λ (l : SourceLists). lists_left (runner.Oisr i) l after) h;
+      ends = e;
+    }
+leaving_left w (runner.Osek i) v after ended a b t d h e =
+    record {
+      after = after;
+      start = a;
+      mode = b;
+      tick = t;
+      acts = d;
+      isrs = ap (λ (l : SourceLists). l.isrs) h;
+      gates = ap (λ (l : SourceLists). l.isrs_held) h;
+      lists = h;
+      ends = e;
+    }
+leaving_left w runner.Nobody v after ended a b t d h e =
+    record {
+      after = after;
+      start = a;
+      mode = b;
+      tick = t;
+      acts = d;
+      isrs = ap (λ (l : SourceLists). l.isrs) h;
+      gates = ap (λ (l : SourceLists). l.isrs_held) h;
+      lists = h;
+      ends = e;
+    }
 
 -- a service that ends another than an OSEK task leaves nothing of it
 abbrev Fine : Runner → Answer → Type 0
@@ -226,34 +278,34 @@ service_fine c s r (call.Activate task) left w =
     cond_both (is_suspended w task) _ _ (Fine r) (λ _. inr (λ e. cc)) (λ _. inr (λ e. cc))
 service_fine c s r (call.Chain task) left w =
     cond_both (is_caller r task) _ _ (Fine r) (λ e. inl (caller_osek r task e))
-        (λ _. cond_both (is_suspended w task) _ _ (Fine r) (λ _. inr (λ e. refl)) (λ _. inr (λ e. cc)))
+    (λ _. cond_both (is_suspended w task) _ _ (Fine r) (λ _. inr (λ e. refl)) (λ _. inr (λ e. cc)))
 service_fine c s r call.Terminate left w = inr (λ e. refl)
 
 or_same : (a b : Bool) → (a ≡ true → b ≡ true) → (a || b) ≡ b
 or_same true b h = sym (h refl)
 or_same false b h = refl
 
-effected_left : (c : ConfigParts) (s : ScriptParts) (r : Runner) (who : Owner) (effects : List Effect)
+pub effected_left : (c : ConfigParts) (s : ScriptParts) (r : Runner) (who : Owner) (effects : List Effect)
     (left : List Stmt) (w v : World) → v.start ≡ w.start → v.mode ≡ w.mode → v.tick ≡ w.tick → v.jobs ≡ w.jobs
-    → v.isrs ≡ w.isrs → v.isrs_held ≡ w.isrs_held
+    → lists_of v ≡ lists_of w
     → is_over (effected c s r who effects left v).move.end ≡ false
-        → Left w r (effected c s r who effects left v).move.world (effected c s r who effects left v).ended
-effected_left c s r who [] left w v a b t d x g on = leaving_left w r v left (is_done left) a b t d x g (inr refl)
-effected_left c s r who (effect.Out value ∷ rest) left w v a b t d x g on =
-    leaving_left w r v left (is_done left) a b t d x g (inr refl)
-effected_left c s r who (effect.Service k ∷ rest) left w v a b t d x g on =
+    → Left w r (effected c s r who effects left v).move.world (effected c s r who effects left v).ended
+effected_left c s r who [] left w v a b t d h on = leaving_left w r v left (is_done left) a b t d h (inr refl)
+effected_left c s r who (effect.Out value ∷ rest) left w v a b t d h on =
+    leaving_left w r v left (is_done left) a b t d h (inr refl)
+effected_left c s r who (effect.Service k ∷ rest) left w v a b t d e on =
     let answer = service c s r k left v in
     let h = (service_answers c s r k left v).world in
     let fine : Ended r (answer.ends || is_done answer.left) answer.left =
     ⊎_elim (λ (o : IsOsek r). inl o) (λ (n : answer.ends ≡ true → is_done answer.left ≡ true). inr
-        (or_same answer.ends (is_done answer.left) n)) (service_fine c s r k left v) in
+    (or_same answer.ends (is_done answer.left) n)) (service_fine c s r k left v) in
     cond_both (is_shutdown k) _ _ (λ (m : Moved). is_over m.end ≡ false
-        → Left w r m.world (answer.ends || is_done answer.left)) (λ _ on. cc)
+    → Left w r m.world (answer.ends || is_done answer.left)) (λ _ on. cc)
     (λ _ on.
     leaving_left w r answer.world answer.left (answer.ends || is_done answer.left)
-        (ap (λ (y : World). y.start) h.is ∙ a) (ap (λ (y : World). y.mode) h.is ∙ b)
-        (ap (λ (y : World). y.tick) h.is ∙ t) (ap (λ (y : World). y.jobs) h.is ∙ d)
-    (ap (λ (y : World). y.isrs) h.is ∙ x) (ap (λ (y : World). y.isrs_held) h.is ∙ g) fine)
+    (ap (λ (y : World). y.start) h.is ∙ a) (ap (λ (y : World). y.mode) h.is ∙ b)
+    (ap (λ (y : World). y.tick) h.is ∙ t) (ap (λ (y : World). y.jobs) h.is ∙ d)
+    (ap lists_of h.is ∙ e) fine)
     on
 
 -- ---- the tick is over
@@ -275,9 +327,9 @@ module _ (c : ConfigParts) (s : ScriptParts) (rules : IsConfig c) (T : ℕ) wher
   more_facts : (start mode : ℕ) (acts acts' : List Job) (isrs isrs' : List (List Stmt)) (held : ℕ) (ds gs : List Event)
       → Facts c T (T + 1) start mode acts isrs held ds → Of (λ e. stamp_of e ≤ T + 1) gs
       → length acts' ≡ length acts → ((p : ℕ) → p < length acts' → (job_at acts' p).entry ≡ (job_at acts p).entry)
-          → tasks_of (ds ++ gs) ≡ open_tasks (mode_at c mode) acts'
+      → tasks_of (ds ++ gs) ≡ open_tasks (mode_at c mode) acts'
       → ((n : ℕ) → has n (isrs_of (ds ++ gs)) ≡ not (is_done (get_or isrs' n []))) → length isrs' ≡ length isrs
-          → Facts c (T + 1) (T + 1) start mode acts' isrs' held (ds ++ gs)
+      → Facts c (T + 1) (T + 1) start mode acts' isrs' held (ds ++ gs)
   more_facts start mode acts acts' isrs isrs' held ds gs f low long same tasks runs sized =
       let begun = f.started in
       let offset : ℕ → ℕ = λ (entry : ℕ). (row_of (mode_at c mode) entry).offset in
@@ -289,9 +341,9 @@ module _ (c : ConfigParts) (s : ScriptParts) (rules : IsConfig c) (T : ℕ) wher
             × (start + (row_of (mode_at c mode) entry).offset < T + 1)) (sym (same p l)) (f.rows p (omega arith));
         up = λ i j k l.
             subst (λ (entry : ℕ). (row_of (mode_at c mode) entry).offset <
-                (row_of (mode_at c mode) (job_at acts' j).entry).offset) (sym (same i (omega arith)))
+            (row_of (mode_at c mode) (job_at acts' j).entry).offset) (sym (same i (omega arith)))
             (subst (λ (entry : ℕ). (row_of (mode_at c mode) (job_at acts i).entry).offset <
-                (row_of (mode_at c mode) entry).offset) (sym (same j l)) (f.up i j k (omega arith)));
+            (row_of (mode_at c mode) entry).offset) (sym (same j l)) (f.up i j k (omega arith)));
         tasks = tasks;
         runs = runs;
         sized = sized ∙ f.sized;
@@ -303,8 +355,8 @@ module _ (c : ConfigParts) (s : ScriptParts) (rules : IsConfig c) (T : ℕ) wher
   set_done xs i after d =
       ⊎_elim (λ (l : i < length xs). ap is_done (get_or-set_same xs i after [] l) ∙ d)
       (λ (g : length xs ≤ i). ap is_done
-          (get_or_past (slice_set xs i after) i [] (let n = length-set xs i after in omega arith)))
-          (cases_lt i (length xs))
+      (get_or_past (slice_set xs i after) i [] (let n = length-set xs i after in omega arith)))
+      (cases_lt i (length xs))
 
   module _ (w : World) (ds : List Event) (f : FactsOf c T (T + 1) w ds) (a : Ahead c 1 w) (ended : Bool)
       (after : List Stmt) where
@@ -323,9 +375,12 @@ module _ (c : ConfigParts) (s : ScriptParts) (rules : IsConfig c) (T : ℕ) wher
     over_other : (b : Bool) (who : Owner) → ((x : TaskNo) → same_owner (owner.Task x) who ≡ false)
         → ((x : IsrNo) → same_owner (owner.Isr x) who ≡ false)
         → (tasks_of (ds ++ event_if b (End (T + 1) who)) ≡ tasks_of ds)
-            × (isrs_of (ds ++ event_if b (End (T + 1) who)) ≡ isrs_of ds)
-    over_other b who h k = (tasks_if b ds (T + 1) who low
-        ∙ other_tasks b who h (tasks_of ds), isrs_if b ds (T + 1) who low ∙ other_isrs b who k (isrs_of ds))
+        × (isrs_of (ds ++ event_if b (End (T + 1) who)) ≡ isrs_of ds)
+    over_other b who h k = (
+      tasks_if b ds (T + 1) who low
+          ∙ other_tasks b who h (tasks_of ds),
+      isrs_if b ds (T + 1) who low ∙ other_isrs b who k (isrs_of ds),
+    )
       where
         none_tasks : (who : Owner) → ((x : TaskNo) → same_owner (owner.Task x) who ≡ false) → (xs : List TaskNo)
             → filter (λ (x : TaskNo). not (same_owner (owner.Task x) who)) xs ≡ xs
@@ -356,12 +411,12 @@ module _ (c : ConfigParts) (s : ScriptParts) (rules : IsConfig c) (T : ℕ) wher
     alone : (b : Bool) (who : Owner) → ((x : TaskNo) → same_owner (owner.Task x) who ≡ false)
         → ((x : IsrNo) → same_owner (owner.Isr x) who ≡ false)
         → Facts c (T + 1) (T + 1) w.start w.mode.0 w.jobs w.isrs (length w.isrs_held)
-            (ds ++ event_if b (End (T + 1) who))
+        (ds ++ event_if b (End (T + 1) who))
     alone b who h k =
         let o = over_other b who h k in
         more_facts w.start w.mode.0 w.jobs w.jobs w.isrs w.isrs (length w.isrs_held) ds
-            (event_if b (End (T + 1) who)) f.1
-            (event_if_all (λ e. stamp_of e ≤ T + 1) b (End (T + 1) who) (omega arith)) refl (λ p l. refl)
+        (event_if b (End (T + 1) who)) f.1
+        (event_if_all (λ e. stamp_of e ≤ T + 1) b (End (T + 1) who) (omega arith)) refl (λ p l. refl)
         (o.0 ∙ f.1.tasks) (λ n. ap (has n) o.1 ∙ f.1.runs n) refl
 
     over_task : (q : ℕ) → q < length w.jobs → is_done (job_at w.jobs q).left ≡ false → ended ≡ is_done after
@@ -372,7 +427,7 @@ module _ (c : ConfigParts) (s : ScriptParts) (rules : IsConfig c) (T : ℕ) wher
         let t = (row_of mode (job_at xs q).entry).task in
         let y : Job = record { entry = (job_at xs q).entry; left = after } in
         let closes : cond ended (filter (other_task t) (open_tasks mode xs)) (open_tasks mode xs) ≡ open_tasks mode
-            (with_left xs q after) =
+        (with_left xs q after) =
         ⊎_elim
         (λ (d : is_done after ≡ true).
         ap (λ (b : Bool). cond b (filter (other_task t) (open_tasks mode xs)) (open_tasks mode xs)) (e ∙ d)
@@ -380,51 +435,51 @@ module _ (c : ConfigParts) (s : ScriptParts) (rules : IsConfig c) (T : ℕ) wher
         (λ p m v n same.
         let is : (row_of mode (job_at xs p).entry).task ≡ t = ap (λ (k : ℕ). record { 0 = k }) same in
         ⊎_elim (λ (lt : p < q). one_of_task c rules T w ds f a p q lt l v is)
-            (λ (ge : q ≤ p). one_of_task c rules T w ds f a q p (omega (arith, n)) m u (sym is)) (cases_lt p q)))
+        (λ (ge : q ≤ p). one_of_task c rules T w ds f a q p (omega (arith, n)) m u (sym is)) (cases_lt p q)))
         (λ (d : is_done after ≡ false).
         ap (λ (b : Bool). cond b (filter (other_task t) (open_tasks mode xs)) (open_tasks mode xs)) (e ∙ d)
         ∙ sym (same_open mode xs q y (ap (λ (b : Bool). cond b [] (t ∷ [])) (d ∙ sym u))))
         (cases_Bool (is_done after)) in
         more_facts w.start w.mode.0 xs (with_left xs q after) w.isrs w.isrs (length w.isrs_held) ds
-            (event_if ended (End (T + 1) (owner.Task t))) f.1
-            (event_if_all (λ e. stamp_of e ≤ T + 1) ended (End (T + 1) (owner.Task t)) (omega arith))
+        (event_if ended (End (T + 1) (owner.Task t))) f.1
+        (event_if_all (λ e. stamp_of e ≤ T + 1) ended (End (T + 1) (owner.Task t)) (omega arith))
         (length-set xs q y) (λ p m. entry_of_set xs q after p m)
         (tasks_if ended ds (T + 1) (owner.Task t) low
-            ∙ ap (λ (ys : List TaskNo). cond ended (filter (other_task t) ys) ys) f.1.tasks ∙ closes)
+        ∙ ap (λ (ys : List TaskNo). cond ended (filter (other_task t) ys) ys) f.1.tasks ∙ closes)
         (λ n. ap (has n) (isrs_if ended ds (T + 1) (owner.Task t) low ∙ keep_if ended (isrs_of ds)) ∙ f.1.runs n) refl
 
     over_isr : (i : IsrNo) → is_done (get_or w.isrs i.0 []) ≡ false → ended ≡ is_done after → Over (runner.Isr i)
     over_isr i u e =
         let xs = w.isrs in
         let now : (n : ℕ) → has n (cond ended (filter (other_isr i) (isrs_of ds)) (isrs_of ds)) ≡ not
-            (is_done (get_or (slice_set xs i.0 after) n [])) = λ n.
+        (is_done (get_or (slice_set xs i.0 after) n [])) = λ n.
         ⊎_elim
         (λ (z : i.0 ≡ n).
         ⊎_elim
         (λ (d : is_done after ≡ true).
         ap (λ (b : Bool). has n (cond b (filter (other_isr i) (isrs_of ds)) (isrs_of ds))) (e ∙ d)
-            ∙ ap (λ (k : ℕ). has k (filter (other_isr i) (isrs_of ds))) (sym z) ∙ without_same i (isrs_of ds)
+        ∙ ap (λ (k : ℕ). has k (filter (other_isr i) (isrs_of ds))) (sym z) ∙ without_same i (isrs_of ds)
         ∙ sym (ap (λ (k : ℕ). not (is_done (get_or (slice_set xs i.0 after) k []))) (sym z)
-            ∙ ap not (set_done xs i.0 after d)))
+        ∙ ap not (set_done xs i.0 after d)))
         (λ (d : is_done after ≡ false).
         let here : i.0 < length xs = ⊎_elim (λ (l : i.0 < length xs). l)
-            (λ (g : length xs ≤ i.0). absurd (false≢true (sym u ∙ ap is_done (get_or_past xs i.0 [] g))))
-            (cases_lt i.0 (length xs)) in
+        (λ (g : length xs ≤ i.0). absurd (false≢true (sym u ∙ ap is_done (get_or_past xs i.0 [] g))))
+        (cases_lt i.0 (length xs)) in
         ap (λ (b : Bool). has n (cond b (filter (other_isr i) (isrs_of ds)) (isrs_of ds))) (e ∙ d) ∙ f.1.runs n
-            ∙ ap (λ (k : ℕ). not (is_done (get_or xs k []))) (sym z) ∙ ap not u
+        ∙ ap (λ (k : ℕ). not (is_done (get_or xs k []))) (sym z) ∙ ap not u
         ∙ sym (ap (λ (k : ℕ). not (is_done (get_or (slice_set xs i.0 after) k []))) (sym z)
-            ∙ ap (λ (ys : List Stmt). not (is_done ys)) (get_or-set_same xs i.0 after [] here) ∙ ap not d))
+        ∙ ap (λ (ys : List Stmt). not (is_done ys)) (get_or-set_same xs i.0 after [] here) ∙ ap not d))
         (cases_Bool (is_done after)))
         (λ (z : i.0 ≢ n).
         let kept : has n (cond ended (filter (other_isr i) (isrs_of ds)) (isrs_of ds)) ≡ has n (isrs_of ds) =
-            cond_both ended _ _ (λ ys. has n ys ≡ has n (isrs_of ds)) (λ _. without_other i n (isrs_of ds) z)
-            (λ _. refl) in
+        cond_both ended _ _ (λ ys. has n ys ≡ has n (isrs_of ds)) (λ _. without_other i n (isrs_of ds) z)
+        (λ _. refl) in
         kept ∙ f.1.runs n
-            ∙ sym (ap (λ (ys : List Stmt). not (is_done ys)) (get_or-set_other xs i.0 n after [] (λ d. z (sym d)))))
+        ∙ sym (ap (λ (ys : List Stmt). not (is_done ys)) (get_or-set_other xs i.0 n after [] (λ d. z (sym d)))))
         (cases_eq i.0 n) in
         more_facts w.start w.mode.0 w.jobs w.jobs xs (slice_set xs i.0 after) (length w.isrs_held) ds
-            (event_if ended (End (T + 1) (owner.Isr i))) f.1
-            (event_if_all (λ e. stamp_of e ≤ T + 1) ended (End (T + 1) (owner.Isr i)) (omega arith))
+        (event_if ended (End (T + 1) (owner.Isr i))) f.1
+        (event_if_all (λ e. stamp_of e ≤ T + 1) ended (End (T + 1) (owner.Isr i)) (omega arith))
         refl (λ p l. refl)
         (tasks_if ended ds (T + 1) (owner.Isr i) low ∙ keep_if ended (tasks_of ds) ∙ f.1.tasks)
         (λ n. ap (has n) (isrs_if ended ds (T + 1) (owner.Isr i) low) ∙ now n) (length-set xs i.0 after)
@@ -437,7 +492,7 @@ module _ (c : ConfigParts) (s : ScriptParts) (rules : IsConfig c) (T : ℕ) wher
         let last = last_found_at w.jobs q says in
         let z : q - 0 ≡ q = omega arith in
         over_task q (subst (λ (k : ℕ). k < length w.jobs) z last.within)
-            (subst (λ (k : ℕ). is_done (job_at w.jobs k).left ≡ false) z last.undone)
+        (subst (λ (k : ℕ). is_done (job_at w.jobs k).left ≡ false) z last.undone)
         (⊎_elim (λ (n : IsOsek (runner.Job q)). absurd n) (λ (h : ended ≡ is_done after). h) o)
     over_facts (runner.Oisr i) e says o = alone ended (owner.Oisr i) (λ x. refl) (λ x. refl)
     over_facts (runner.Osek i) e says o = alone ended (owner.Osek i) (λ x. refl) (λ x. refl)
@@ -456,9 +511,9 @@ module _ (c : ConfigParts) (s : ScriptParts) (rules : IsConfig c) (T : ℕ) wher
         f.0,
         facts_plains c T (T + 1) w.start w.mode.0 w.jobs w.isrs (length w.isrs_held) es (line ++ fs)
             (all_more (PlainAt T) line fs (event_if_all (PlainAt T) (not (ran_before w.last who)) (Run w.tick who)
-                (f.0, refl))
+            (f.0, refl))
             (each_of (StillAt w.tick) (PlainAt T) (λ e q. (q.0 ∙ f.0, still_plain e q.1)) fs
-                (served_still c s w r who))) f.1,
+            (served_still c s w r who))) f.1,
       )
 
   pub step_facts : (w : World) (es : List Event) → FactsOf c T (T + 1) w es → Ahead c 1 w
@@ -471,22 +526,22 @@ module _ (c : ConfigParts) (s : ScriptParts) (rules : IsConfig c) (T : ℕ) wher
       let tick = runner_tick c s r who w in
       let ds = es ++ (run_line w who ++ tick.move.events) in
       followed_at (FactsOf c (T + 1) (T + 1)) Anything es (preceded (run_line w who) tick.move)
-          (tick_over who (is_somebody r && tick.ended)) (λ _. tt)
+      (tick_over who (is_somebody r && tick.ended)) (λ _. tt)
       (λ on.
       let v = tick.move.world in
       let l : Left w r v tick.ended = effected_left c s r who state.effects state.left w
-          (record w { vars = state.vars; cursors = state.cursors }) refl refl refl refl refl refl on in
+      (record w { vars = state.vars; cursors = state.cursors }) refl refl refl refl refl on in
       let t : v.tick ≡ T = l.tick ∙ f.0 in
       let over = over_facts w ds (now_facts w es f) a tick.ended l.after r refl (runner_says c w) l.ends in
       let there = λ (k start mode : ℕ) (acts : List Job) (isrs : List (List Stmt)) (held : ℕ). Facts c (T + 1)
-          (T + 1) start mode acts isrs held (ds ++ event_if (is_somebody r && tick.ended) (End (k + 1) who)) in (
+      (T + 1) start mode acts isrs held (ds ++ event_if (is_somebody r && tick.ended) (End (k + 1) who)) in (
         ap (λ (k : ℕ). k + 1) t,
         subst (λ (k : ℕ). there k v.start v.mode.0 v.jobs v.isrs (length v.isrs_held)) (sym t)
             (subst (λ (k : ℕ). there T k v.mode.0 v.jobs v.isrs (length v.isrs_held)) (sym l.start)
             (subst (λ (k : _). there T w.start k.0 v.jobs v.isrs (length v.isrs_held)) (sym l.mode)
             (subst (λ (k : List Job). there T w.start w.mode.0 k v.isrs (length v.isrs_held)) (sym l.acts)
             (subst (λ (k : List (List Stmt)). there T w.start w.mode.0 (left_acts r w.jobs l.after) k
-                (length v.isrs_held)) (sym l.isrs)
+            (length v.isrs_held)) (sym l.isrs)
             (subst (λ (k : List Bool). there T w.start w.mode.0 (left_acts r w.jobs l.after)
-                (left_isrs r w.isrs l.after) (length k)) (sym l.gates) over))))),
+            (left_isrs r w.isrs l.after) (length k)) (sym l.gates) over))))),
       ))

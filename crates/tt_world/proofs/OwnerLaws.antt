@@ -20,7 +20,7 @@ use Rattle.tt_world.specs.Step.{runner_tick, step, run_line}
 use Rattle.tt_world.specs.Schedule.{IsBounded, instant, instant_at, world_at, events_before, last_instant, schedule}
 use Rattle.tt_world.specs.Status.{stamp_of, stamp_after, last_stamp, status_of, Shut}
 use Rattle.tt_world.specs.Readings.{after_round, seen_at, last_owner, owner_after, present_round, task_if, isr_if}
-use Rattle.tt_world.specs.EventLaws.{IsOwner, OwnersRun}
+use Rattle.tt_world.specs.EventLaws.{IsTaken, IsOwner, OwnersRun}
 use Rattle.tt_world.specs.RunLaws.{OwnersLaw}
 use Rattle.tt_world.proofs.Parts.{OfRun, Alone, Anything, LeadsTo, GoesOnBefore, leads_by, led_on, led_over, followed_leads, followed_on, followed_events}
 use Rattle.tt_world.proofs.Points.{Ahead, ahead_at, opening_ahead}
@@ -83,8 +83,12 @@ module _ (c : ConfigParts) (s : ScriptParts) (T : ℕ) (w : World) (t : w.tick �
       (λ (over : is_over begun.end ≡ true).
       let at = (led_over (AtTick c s T) (EndsAtTick c s T) [] begun over at_opening).0 in
       subst (Said T) (sym (followed_over begun (step c s) over))
-      (record { low = each_of (IsAt T) (λ e. T ≤ stamp_of e) (λ e q. omega arith) begun.events at; on =
-          λ on. absurd (false≢true (sym on ∙ over)); over = λ _. at }))
+      (record {
+        low = each_of (IsAt T) (λ e. T ≤ stamp_of e) (λ e q. omega arith) begun.events at;
+        on =
+            λ on. absurd (false≢true (sym on ∙ over));
+        over = λ _. at;
+      }))
       (λ (on : is_over begun.end ≡ false).
       let g = (goes on).1 in
       let r = reads on in
@@ -105,15 +109,15 @@ module _ (c : ConfigParts) (s : ScriptParts) (T : ℕ) (w : World) (t : w.tick �
   shut_on u h =
       ⊎_elim
       (λ (over : is_over begun.end ≡ true). absurd
-          ((led_over (AtTick c s T) (EndsAtTick c s T) [] begun over at_opening).1 u
-          (sym (ap (λ (m : Moved). status_of m.events) (followed_over begun (step c s) over)) ∙ h)))
+      ((led_over (AtTick c s T) (EndsAtTick c s T) [] begun over at_opening).1 u
+      (sym (ap (λ (m : Moved). status_of m.events) (followed_over begun (step c s) over)) ∙ h)))
       (λ (on : is_over begun.end ≡ false). on) (cases_Bool (is_over begun.end))
 
 all_done : (k i : ℕ) → is_done (get_or (replicate k []) i []) ≡ true
 all_done k i =
     ⊎_elim (λ (l : i < k). ap is_done (get_or-replicate k i [] [] l))
     (λ (g : k ≤ i). ap is_done (get_or_past (replicate k []) i []
-        (let n = length-replicate {A = List Stmt} k [] in omega arith))) (cases_lt i k)
+    (let n = length-replicate {A = List Stmt} k [] in omega arith))) (cases_lt i k)
 
 -- ---- a run
 
@@ -126,15 +130,18 @@ module _ (c : ConfigParts) (s : ScriptParts) (rules : IsConfig c) (script : IsSc
       → LeadsTo (λ v fs. FactsOf c n (n + 1) v fs × Ahead c 1 v) Anything es (opening c s w)
   opened n w es f a =
       leads_by (λ v fs. FactsOf c n (n + 1) v fs × Ahead c 1 v) Anything es (opening c s w)
-      (λ e. (led_on (FactsOf c n (n + 1)) Anything es (opening c s w) e (opening_facts c s rules n w es f), led_on
-          (Alone (Ahead c 1)) Anything es (opening c s w) e (opening_ahead c s rules w es a))) (λ _. tt)
+      (λ e. (
+        led_on (FactsOf c n (n + 1)) Anything es (opening c s w) e (opening_facts c s rules n w es f),
+        led_on
+            (Alone (Ahead c 1)) Anything es (opening c s w) e (opening_ahead c s rules w es a),
+      )) (λ _. tt)
 
   facts_next : (n : ℕ) (w : World) (es : List Event) → FactsOf c n n w es → Ahead c 0 w
       → LeadsTo (FactsOf c (n + 1) (n + 1)) Anything es (instant c s w)
   unfolding instant
   facts_next n w es f a =
       followed_leads (λ v fs. FactsOf c n (n + 1) v fs × Ahead c 1 v) (FactsOf c (n + 1) (n + 1)) Anything es
-          (opening c s w) (step c s) (opened n w es f a) (λ v ds p. step_facts c s rules n v ds p.0 p.1)
+      (opening c s w) (step c s) (opened n w es f a) (λ v ds p. step_facts c s rules n v ds p.0 p.1)
 
   pub state_at : (n : ℕ) → GoesOnBefore c s n → State n (world_at c s n) (events_before c s n)
   unfolding world_at events_before instant_at last_owner after_round
@@ -162,10 +169,13 @@ module _ (c : ConfigParts) (s : ScriptParts) (rules : IsConfig c) (script : IsSc
       let on = g n (omega arith) in
       let p = state_at n h in
       let f = led_on (FactsOf c (n + 1) (n + 1)) Anything es (instant c s w) on
-          (facts_next n w es p.0 (ahead_at c s rules n h)) in (
+      (facts_next n w es p.0 (ahead_at c s rules n h)) in (
         subst (λ (j : ℕ). FactsOf c j j (world_at c s (suc n)) (events_before c s (suc n))) z f,
-        (led_on LastRan Anything es (instant c s w) on (instant_ran c s w es p.1.0), all_more Mute es
-            (instant c s w).events p.1.1 ((said c s n w p.0.0).on on)),
+        (
+          led_on LastRan Anything es (instant c s w) on (instant_ran c s w es p.1.0),
+          all_more Mute es
+              (instant c s w).events p.1.1 ((said c s n w p.0.0).on on),
+        ),
       )
 
   abbrev n : ℕ
@@ -174,7 +184,7 @@ module _ (c : ConfigParts) (s : ScriptParts) (rules : IsConfig c) (script : IsSc
   bounded : IsBounded c s
   bounded = are_bounded c s rules script
 
-  before : (k : ℕ) → k ≤ n → GoesOnBefore c s k
+  pub before : (k : ℕ) → k ≤ n → GoesOnBefore c s k
   before k l j m = (last_is c s bounded).first j (omega arith)
 
   said_at : (k : ℕ) → k ≤ n → Said k (instant_at c s k)
@@ -191,11 +201,11 @@ module _ (c : ConfigParts) (s : ScriptParts) (rules : IsConfig c) (script : IsSc
       (λ (lt : u < j).
       let fs = (instant_at c s j).events in
       let none =
-          none_seen u fs (each_of (λ e. j ≤ stamp_of e) (λ e. u + 1 ≤ stamp_of e) (λ e q. omega arith) fs
-          (said_at j (omega arith)).low) in
+      none_seen u fs (each_of (λ e. j ≤ stamp_of e) (λ e. u + 1 ≤ stamp_of e) (λ e q. omega arith) fs
+      (said_at j (omega arith)).low) in
       filter-append (λ (event : Event). nat_le (stamp_of event) u) (events_before c s j) fs
-          ∙ ap (λ (xs : List Event). seen_at u (events_before c s j) ++ xs) none
-          ∙ append-nil (seen_at u (events_before c s j))
+      ∙ ap (λ (xs : List Event). seen_at u (events_before c s j) ++ xs) none
+      ∙ append-nil (seen_at u (events_before c s j))
       ∙ later_unseen u j (omega arith) (omega arith))
       (λ (ge : j ≤ u). let same : j ≡ u = omega arith in ap (λ (k : ℕ). seen_at u (events_before c s (suc k))) same)
       (cases_lt u j)
@@ -227,7 +237,8 @@ module _ (c : ConfigParts) (s : ScriptParts) (rules : IsConfig c) (script : IsSc
     abbrev state : State u first es
     state = state_at u (before u l)
 
-    seen_now : seen_at u (schedule c s) ≡ (es ++ o.events) ++ (line ++ now)
+    -- the events of a tick that the run takes: those before its instant, its opening, and its tick without the end
+    pub seen_now : seen_at u (schedule c s) ≡ (es ++ o.events) ++ (line ++ now)
     unfolding schedule events_before instant_at instant
     seen_now =
         let test = λ (event : Event). nat_le (stamp_of event) u in
@@ -239,12 +250,12 @@ module _ (c : ConfigParts) (s : ScriptParts) (rules : IsConfig c) (script : IsSc
         let part : filter test fs ≡ o.events ++ (line ++ now) =
         ap (filter test) split ∙ filter-append test o.events (step c s o.world).events
         ∙ ap (λ (xs : List Event). xs ++ filter test (step c s o.world).events)
-            (all_seen u o.events (each_of (MuteAt u) (λ e. stamp_of e ≤ u)
-            (λ e q. let z = q.0 in omega arith) o.events g))
+        (all_seen u o.events (each_of (MuteAt u) (λ e. stamp_of e ≤ u)
+        (λ e q. let z = q.0 in omega arith) o.events g))
         ∙ ap (λ (xs : List Event). o.events ++ xs) r.seen in
         later_unseen u (suc n) (omega arith) (omega arith)
         ∙ filter-append test es fs ∙ ap (λ (xs : List Event). xs ++ filter test fs) (all_seen u es st.1.stamps)
-            ∙ ap (λ (xs : List Event). es ++ xs) part
+        ∙ ap (λ (xs : List Event). es ++ xs) part
         ∙ sym (append_assoc es o.events (line ++ now))
 
     opened_now : FactsOf c u (u + 1) o.world (es ++ o.events)
@@ -256,9 +267,9 @@ module _ (c : ConfigParts) (s : ScriptParts) (rules : IsConfig c) (script : IsSc
     ran_now =
         let r = led_on LastRan Anything es o on (opening_ran c s first es state.1.0) in
         ap (last_owner None) (sym (append_assoc (es ++ o.events) line now))
-            ∙ owner-append None ((es ++ o.events) ++ line) now
+        ∙ owner-append None ((es ++ o.events) ++ line) now
         ∙ still_silent o.world.tick now (served_still c s o.world (runner_of c o.world) who) _
-            ∙ run_now c s o.world who (es ++ o.events) r
+        ∙ run_now c s o.world who (es ++ o.events) r
 
     owner_now : OwnerBy (seen_at u (schedule c s))
     owner_now =
@@ -266,9 +277,9 @@ module _ (c : ConfigParts) (s : ScriptParts) (rules : IsConfig c) (script : IsSc
         let is = is_owner c rules u (u + 1) o.world all (now_facts c s rules u o.world (es ++ o.events) opened_now) in
         subst OwnerBy (sym seen_now)
         (subst (λ who. IsOwner c who (flat_map (task_if all) (present_round all)) (flat_map (isr_if all) all))
-            (sym ran_now)
+        (sym ran_now)
         (subst (λ tasks. IsOwner c (Some who) tasks (flat_map (isr_if all) all)) (sym (tasks_are all))
-            (subst (λ isrs. IsOwner c (Some who) (tasks_of all) isrs) (sym (isrs_are all)) is)))
+        (subst (λ isrs. IsOwner c (Some who) (tasks_of all) isrs) (sym (isrs_are all)) is)))
 
   -- no stamp is later than the last instant
   last_low : last_stamp (schedule c s) ≤ n
@@ -278,30 +289,35 @@ module _ (c : ConfigParts) (s : ScriptParts) (rules : IsConfig c) (script : IsSc
       let last = (said_at n (omega arith)).over (last_is c s bounded).ends in
       let fs = (instant_at c s n).events in
       stamps_low n 0 (events_before c s n ++ fs) (omega arith)
-          (all_more (λ e. stamp_of e ≤ n) (events_before c s n) fs st.0.1.stamps
-          (each_of (IsAt n) (λ e. stamp_of e ≤ n) (λ e q. omega arith) fs last))
+      (all_more (λ e. stamp_of e ≤ n) (events_before c s n) fs st.0.1.stamps
+      (each_of (IsAt n) (λ e. stamp_of e ≤ n) (λ e q. omega arith) fs last))
 
   goes_on : (u : ℕ) → u < n → is_over (opening c s (world_at c s u)).end ≡ false
   unfolding instant_at instant
   goes_on u l = followed_on (opening c s (world_at c s u)) (step c s) ((last_is c s bounded).first u l)
 
-  taken : (u : ℕ) → u < last_stamp (schedule c s) → OwnerBy (seen_at u (schedule c s))
-  taken u l =
-      let m = last_low in
-      owner_now u (omega arith) (goes_on u (omega arith))
-
-  shut : (u : ℕ) → status_of (schedule c s) ≡ Shut u → OwnerBy (seen_at u (schedule c s))
+  -- the opening of a tick that the run takes goes on
+  pub taken : (u : ℕ) → IsTaken (schedule c s) u
+      → (u ≤ n) × (is_over (opening c s (world_at c s u)).end ≡ false)
   unfolding schedule events_before instant_at
-  shut u h =
+  taken u t =
+      ⊎_elim
+      (λ (l : u < last_stamp (schedule c s)).
+      let m = last_low in
+      let early : u < n = omega arith in (omega arith, goes_on u early))
+      (λ (h : status_of (schedule c s) ≡ Shut u).
       let st = state_at n (before n (omega arith)) in
       let tells = sym (status_after (events_before c s n) (instant_at c s n).events st.1.1) ∙ h in
       let same : u ≡ n = shut_at (instant_at c s n).events n u
-          ((said_at n (omega arith)).over (last_is c s bounded).ends) tells in
-      subst (λ (k : ℕ). OwnerBy (seen_at k (schedule c s))) (sym same)
-          (owner_now n (omega arith) (shut_on c s n (world_at c s n) st.0.0 u tells))
+      ((said_at n (omega arith)).over (last_is c s bounded).ends) tells in (
+        omega arith,
+        subst (λ (k : ℕ). is_over (opening c s (world_at c s k)).end ≡ false) (sym same)
+            (shut_on c s n (world_at c s n) st.0.0 u tells),
+      ))
+      t
 
   owners_run : OwnersRun c (schedule c s)
-  owners_run u t = ⊎_elim (λ l. taken u l) (λ h. shut u h) t
+  owners_run u t = let h = taken u t in owner_now u h.0 h.1
 
 -- each tick has the owner that the events before it tell
 pub owners_are_right : OwnersLaw

@@ -73,10 +73,10 @@ unfolding checked
 checked_silent at mode is_due [] = none_silent
 checked_silent at mode is_due (x ∷ xs) =
     if_silent (is_due (point_of mode (row_of mode x.entry))) _ _
-        (then_silent at _ (is_done x.left) _ (checked_silent at mode is_due xs)) (checked_silent at mode is_due xs)
+    (then_silent at _ (is_done x.left) _ (checked_silent at mode is_due xs)) (checked_silent at mode is_due xs)
 
 -- an owner that is the same is one
-owner_same : (a b : Owner) → same_owner a b ≡ true → a ≡ b
+pub owner_same : (a b : Owner) → same_owner a b ≡ true → a ≡ b
 owner_same (owner.Task a) (owner.Task b) e = ap (λ (n : ℕ). owner.Task (record { 0 = n })) (eqb-true a.0 b.0 e)
 owner_same (owner.Isr a) (owner.Isr b) e = ap (λ (n : ℕ). owner.Isr (record { 0 = n })) (eqb-true a.0 b.0 e)
 owner_same (owner.Osek a) (owner.Osek b) e = ap (λ (n : ℕ). owner.Osek (record { 0 = n })) (eqb-true a.0 b.0 e)
@@ -138,7 +138,7 @@ module _ (c : ConfigParts) (s : ScriptParts) where
   round_end_ran w es r =
       cond_both (is_length w.latched (offset_of w)) _ _ (LeadsTo LastRan Anything es)
       (λ _. followed_leads LastRan LastRan Anything es (monitored c (is_at_end (offset_of w)) w) (next_round s)
-          (monitored_ran _ w es r) next_round_ran)
+      (monitored_ran _ w es r) next_round_ran)
       (λ _. still_leads LastRan Anything es w r)
 
   head_ran : (w : World) (es : List Event) → w.tick ≡ 0 → LastRan w es → LeadsTo LastRan Anything es (head s w)
@@ -159,7 +159,7 @@ module _ (c : ConfigParts) (s : ScriptParts) where
   unfolding arrival
   arrival_ran source w es r =
       cond_both (list_any (λ (tick : ℕ). tick == w.tick) (arrivals_of s source)) _ _ (LeadsTo LastRan Anything es)
-          (λ _. arrived_ran (is_held w source) source w es r) (λ _. still_leads LastRan Anything es w r)
+      (λ _. arrived_ran (is_held w source) source w es r) (λ _. still_leads LastRan Anything es w r)
 
   acceptance_ran : (source : Source) → Leads LastRan LastRan Anything (acceptance c source)
   unfolding acceptance
@@ -200,7 +200,7 @@ module _ (c : ConfigParts) (s : ScriptParts) where
       (λ (e : ran_before w.last who ≡ true).
       let same : run_line w who ≡ [] = ap (λ (b : Bool). event_if (not b) (Run w.tick who)) e in
       subst (λ fs. Ran (Some who) (es ++ fs)) (sym same)
-          (silent_on (Some who) es [] none_silent (r ∙ ran_same w.last who e)))
+      (silent_on (Some who) es [] none_silent (r ∙ ran_same w.last who e)))
       (λ (e : ran_before w.last who ≡ false).
       let now : run_line w who ≡ Run w.tick who ∷ [] = ap (λ (b : Bool). event_if (not b) (Run w.tick who)) e in
       subst (λ fs. Ran (Some who) (es ++ fs)) (sym now) (ran_here es w.tick who))
@@ -218,7 +218,7 @@ module _ (c : ConfigParts) (s : ScriptParts) where
       silent_more who es (run_line v who) _ (correct_silent true _ (λ before. refl)) (run_now v who es l)
   effect_ran r who (effect.Service k ∷ rest) left w v es l =
       cond_both (is_shutdown k) _ _ (λ (m : Moved). LeadsTo (RanNow who) Anything es (preceded (run_line v who) m))
-          (λ _. tt)
+      (λ _. tt)
       (λ _. silent_more who es (run_line v who) _ (correct_silent true _ (λ before. refl)) (run_now v who es l))
 
   step_ran : Leads LastRan LastRan Anything (step c s)

@@ -1,6 +1,6 @@
 -- The rule for laws of a run: what holds of the world and of the events so far, part after part and instant after
 -- instant.
-use Rattle.std.proofs.Common.{ℕ, zero, suc, ◌≡◌, ◌<◌, ◌+◌, List, [], ◌∷◌, ◌++◌, Bool, true, false, refl, ap, sym, ◌∙◌, subst, eqb, arith, append_assoc, append-nil}
+use Rattle.std.proofs.Common.{ℕ, zero, suc, ◌≡◌, ◌<◌, ◌+◌, List, [], ◌∷◌, ◌++◌, length, get_or, Bool, true, false, refl, ap, sym, ◌∙◌, subst, eqb, arith, append_assoc, append-nil}
 use Rattle.std.specs.Prelude.{map}
 use Rattle.std.proofs.lemmas.Bool.{cond_both, eqb-true, false≢true}
 use Rattle.tt_base.specs.declared.event.Event.{Event}
@@ -67,8 +67,8 @@ continued_leads : (P R : OfRun) (Q : OfEnd) (es : List Event) (over : Bool) (m :
     → ((v : World) (ds : List Event) → P v ds → LeadsTo R Q ds (next v)) → LeadsTo R Q es (continued over m next)
 continued_leads P R Q es false m next e p h =
     subst (λ xs. by_end (is_over (next m.world).end) (R (next m.world).world xs)
-        (Q (next m.world).end (next m.world).world xs)) (append_assoc es m.events (next m.world).events)
-        (h m.world (es ++ m.events) p)
+    (Q (next m.world).end (next m.world).world xs)) (append_assoc es m.events (next m.world).events)
+    (h m.world (es ++ m.events) p)
 continued_leads P R Q es true m next e p h =
     by_cases (is_over m.end) _ _ (λ f. absurd (false≢true (sym f ∙ e))) (λ _. p)
 
@@ -83,7 +83,7 @@ continued_at : (R : OfRun) (Q : OfEnd) (es : List Event) (over : Bool) (m : Move
     → (is_over m.end ≡ false → LeadsTo R Q (es ++ m.events) (next m.world)) → LeadsTo R Q es (continued over m next)
 continued_at R Q es false m next e q h =
     subst (λ xs. by_end (is_over (next m.world).end) (R (next m.world).world xs)
-        (Q (next m.world).end (next m.world).world xs)) (append_assoc es m.events (next m.world).events) (h e)
+    (Q (next m.world).end (next m.world).world xs)) (append_assoc es m.events (next m.world).events) (h e)
 continued_at R Q es true m next e q h = by_cases (is_over m.end) _ _ (λ f. absurd (false≢true (sym f ∙ e))) q
 
 pub followed_at : (R : OfRun) (Q : OfEnd) (es : List Event) (m : Moved) (next : World → Moved)
@@ -126,6 +126,16 @@ pub chain_each : {X : Type 0} (P : OfRun) (Q : OfEnd) (part : X → World → Mo
 chain_each P Q part [] h = chain_none P Q
 chain_each P Q part (x ∷ xs) h = chain_more P P P Q (part x) (map part xs) (h x) (chain_each P Q part xs h)
 
+-- parts that all keep P, of which one leads to R, which all keep too
+pub chain_at : {X : Type 0} (P R : OfRun) (Q : OfEnd) (part : X → World → Moved) (xs : List X) (k : ℕ) (d : X)
+    → k < length xs → ((x : X) → Leads P P Q (part x)) → Leads P R Q (part (get_or xs k d))
+    → ((x : X) → Leads R R Q (part x)) → Leads P R Q (chain (map part xs))
+chain_at P R Q part [] k d l each one later = absurd (omega arith)
+chain_at P R Q part (x ∷ xs) zero d l each one later =
+    chain_more P R R Q (part x) (map part xs) one (chain_each R Q part xs later)
+chain_at P R Q part (x ∷ xs) (suc k) d l each one later =
+    chain_more P P R Q (part x) (map part xs) (each x) (chain_at P R Q part xs k d (omega arith) each one later)
+
 -- where an instant stands: before its opening, and after each part of it
 pub data Phase : Type 0 where
   Before : Phase
@@ -163,7 +173,7 @@ module _ (c : ConfigParts) (s : ScriptParts) (P : Phase → OfRun) (Q : OfEnd) (
   later_leads : Leads (P Before) (P Activated) Q (chain (later_parts c s))
   later_leads =
       link Before Latched (latch c) (round_end c s ∷ due c s) k.latch_is
-          (link Latched Begun (round_end c s) (due c s) k.round_end_is due_leads)
+      (link Latched Begun (round_end c s) (due c s) k.round_end_is due_leads)
 
   first_leads : (w : World) (es : List Event) → w.tick ≡ 0 → P Before w es
       → LeadsTo (P Activated) Q es (chain (first_parts c s) w)
@@ -175,7 +185,7 @@ module _ (c : ConfigParts) (s : ScriptParts) (P : Phase → OfRun) (Q : OfEnd) (
   unfolding opening
   opening_leads w es p =
       cond_both (eqb w.tick 0) _ _ (LeadsTo (P Activated) Q es) (λ e. first_leads w es (eqb-true w.tick 0 e) p)
-          (λ _. later_leads w es p)
+      (λ _. later_leads w es p)
 
   pub instant_leads : (R : OfRun) → Leads (P Activated) R Q (step c s) → (w : World) (es : List Event) → P Before w es
       → LeadsTo R Q es (instant c s w)
@@ -190,7 +200,7 @@ GoesOnBefore c s n = (k : ℕ) → k < n → ends_at c s k ≡ false
 -- m
 module _ (c : ConfigParts) (s : ScriptParts) (P : ℕ → OfRun) (Q : OfEnd) (m : ℕ)
     (each : (k : ℕ) → GoesOnBefore c s (m + k) → P k (world_at c s (m + k)) (events_between c s m k)
-        → LeadsTo (P (k + 1)) Q (events_between c s m k) (instant c s (world_at c s (m + k)))) where
+    → LeadsTo (P (k + 1)) Q (events_between c s m k) (instant c s (world_at c s (m + k)))) where
   next_kept : (k : ℕ) → P k (world_at c s (m + k)) (events_between c s m k) → GoesOnBefore c s (m + suc k)
       → P (suc k) (world_at c s (m + suc k)) (events_between c s m (suc k))
   unfolding events_between instant_at world_at
@@ -198,7 +208,7 @@ module _ (c : ConfigParts) (s : ScriptParts) (P : ℕ → OfRun) (Q : OfEnd) (m 
       let z : suc (m + k) ≡ m + suc k = omega arith in
       let y : k + 1 ≡ suc k = omega arith in
       let led = led_on (P (k + 1)) Q (events_between c s m k) (instant c s (world_at c s (m + k)))
-          (g (m + k) (omega arith)) (each k (λ j l. g j (omega arith)) p) in
+      (g (m + k) (omega arith)) (each k (λ j l. g j (omega arith)) p) in
       subst (λ (j : ℕ). P (suc k) (world_at c s j) (events_between c s m (suc k))) z
       (subst (λ (j : ℕ). P j (world_at c s (suc (m + k))) (events_between c s m (suc k))) y led)
 
@@ -223,4 +233,4 @@ module _ (c : ConfigParts) (s : ScriptParts) (P : World → Type 0) (first : P (
       let z : 0 + n ≡ n = omega arith in
       subst (λ (j : ℕ). P (world_at c s j)) z
       (kept_from c s (λ _. Alone P) Anything 0 (λ k _ p. each (world_at c s (0 + k)) (events_between c s 0 k) p) first n
-          (λ k l. g k (omega arith)))
+      (λ k l. g k (omega arith)))

@@ -41,10 +41,10 @@ pub none_found : (o : ℕ) (rows : List ActivationRow) (i : ℕ) → entry_at o 
 none_found o [] i e l h = absurd (omega arith)
 none_found o (a ∷ rest) zero e l h =
     eqb-false a.offset o (none_after (a.offset == o) (position_or_len (λ (row : ActivationRow). row.offset == o) rest)
-        (length rest) e).0 h
+    (length rest) e).0 h
 none_found o (a ∷ rest) (suc i) e l h =
     none_found o rest i (none_after (a.offset == o) (position_or_len (λ (row : ActivationRow). row.offset == o) rest)
-        (length rest) e).1 (omega arith) h
+    (length rest) e).1 (omega arith) h
 
 -- the activations so far are those of the rows with offsets below the present one: k is 0 before the activation of an
 -- instant, and 1
@@ -62,26 +62,32 @@ PlacedAt c Activated = Alone (Placed c 1)
 PlacedAt c phase = Alone (Placed c 0)
 
 module _ (c : ConfigParts) (s : ScriptParts) (rules : IsConfig c) where
-  latch_placed : Leads (Alone (Placed c 0)) (Alone (Placed c 0)) Anything (latch c)
+  pub latch_placed : Leads (Alone (Placed c 0)) (Alone (Placed c 0)) Anything (latch c)
   unfolding latch
   latch_placed w es p =
       cond_both (eqb (offset_of w) (c.round - c.adjust)) _ _ (Holds (Placed c 0) es)
-          (λ _. record { started = p.started; entries = p.entries; few = p.few; begun = p.begun; later = p.later })
-          (λ _. p)
+      (λ _. record { started = p.started; entries = p.entries; few = p.few; begun = p.begun; later = p.later })
+      (λ _. p)
 
   next_round_placed : (w : World) (es : List Event) → Placed c 0 w → Holds (Placed c 0) es (next_round s w)
   unfolding next_round
   next_round_placed w es p =
       cond_both (eqb w.number s.rounds) _ _ (Holds (Placed c 0) es) (λ _. tt)
-      (λ _. record { started = omega arith; entries = λ place l. absurd (omega arith); few = omega arith; begun =
-          λ i l. absurd (omega arith); later = λ i g l. omega arith })
+      (λ _. record {
+        started = omega arith;
+        entries = λ place l. absurd (omega arith);
+        few = omega arith;
+        begun =
+            λ i l. absurd (omega arith);
+        later = λ i g l. omega arith;
+      })
 
-  round_end_placed : Leads (Alone (Placed c 0)) (Alone (Placed c 0)) Anything (round_end c s)
+  pub round_end_placed : Leads (Alone (Placed c 0)) (Alone (Placed c 0)) Anything (round_end c s)
   unfolding round_end
   round_end_placed w es p =
       cond_both (is_length w.latched (offset_of w)) _ _ (Holds (Placed c 0) es)
       (λ _. followed_leads (Alone (Placed c 0)) (Alone (Placed c 0)) Anything es
-          (monitored c (is_at_end (offset_of w)) w) (next_round s)
+      (monitored c (is_at_end (offset_of w)) w) (next_round s)
       (monitored_holds (Placed c 0) c (is_at_end (offset_of w)) w es (λ _. p)) next_round_placed)
       (λ _. p)
 
@@ -97,8 +103,8 @@ module _ (c : ConfigParts) (s : ScriptParts) (rules : IsConfig c) where
       (λ (l : entry < length w.jobs). absurd (let b = p.begun entry l in omega arith))
       (λ (g : length w.jobs < entry).
       absurd (let low = p.later (length w.jobs) (omega arith) (omega arith) in
-          let up = rows_ascend c (mode_of c w) (length w.jobs) entry (mode_rows c w.mode.0 rules) g within in
-          omega arith)) o)
+      let up = rows_ascend c (mode_of c w) (length w.jobs) entry (mode_rows c w.mode.0 rules) g within in
+      omega arith)) o)
       (cases_order entry (length w.jobs))
 
   activated_placed : (w : World) (es : List Event) → Placed c 0 w → (found : Option ℕ)
@@ -113,7 +119,7 @@ module _ (c : ConfigParts) (s : ScriptParts) (rules : IsConfig c) where
             let b = p.later i g l in
             ⊎_elim (λ (lt : w.tick - w.start < (row_of (mode_of c w) i).offset). let m = lt in omega arith)
             (λ (ge : (row_of (mode_of c w) i).offset ≤ w.tick - w.start). absurd
-                (none_found (offset_of w) (mode_of c w).activations i e l (omega arith)))
+            (none_found (offset_of w) (mode_of c w).activations i e l (omega arith)))
             (cases_lt (w.tick - w.start) (row_of (mode_of c w) i).offset);
       }
   activated_placed w es p (Some entry) e =
@@ -134,7 +140,7 @@ module _ (c : ConfigParts) (s : ScriptParts) (rules : IsConfig c) where
         begun = λ i l.
             ⊎_elim (λ (lt : i < length w.jobs). let b = p.begun i lt in omega arith)
             (λ (ge : length w.jobs ≤ i). let same : i ≡ entry = omega arith in
-                let b = ap (λ (j : ℕ). (row_of (mode_of c w) j).offset) same in omega arith)
+            let b = ap (λ (j : ℕ). (row_of (mode_of c w) j).offset) same in omega arith)
             (cases_lt i (length w.jobs));
         later = λ i g l. let up = rows_ascend c (mode_of c w) entry i (mode_rows c w.mode.0 rules) (omega arith) l in
             omega arith;
@@ -152,14 +158,32 @@ module _ (c : ConfigParts) (s : ScriptParts) (rules : IsConfig c) where
     round_end_is = round_end_placed;
     checks_are = λ w es p. monitored_holds (Placed c 0) c (is_at (offset_of w)) w es (λ _. p);
     enables_are = enables_hold (Placed c 0)
-        (λ w _ _ _ _ _ p. record { started = p.started; entries = p.entries; few = p.few; begun = p.begun; later =
-        p.later }) c;
+        (λ w _ _ _ _ _ p. record {
+          started = p.started;
+          entries = p.entries;
+          few = p.few;
+          begun = p.begun;
+          later =
+              p.later;
+        }) c;
     arrivals_are = arrivals_hold (Placed c 0)
-        (λ w _ _ _ _ _ p. record { started = p.started; entries = p.entries; few = p.few; begun = p.begun; later =
-        p.later }) c s;
+        (λ w _ _ _ _ _ p. record {
+          started = p.started;
+          entries = p.entries;
+          few = p.few;
+          begun = p.begun;
+          later =
+              p.later;
+        }) c s;
     acceptances_are = acceptances_hold (Placed c 0)
-        (λ w _ _ _ _ _ p. record { started = p.started; entries = p.entries; few = p.few; begun = p.begun; later =
-        p.later }) c;
+        (λ w _ _ _ _ _ p. record {
+          started = p.started;
+          entries = p.entries;
+          few = p.few;
+          begun = p.begun;
+          later =
+              p.later;
+        }) c;
     activation_is = activation_placed;
   }
 
@@ -186,8 +210,14 @@ module _ (c : ConfigParts) (s : ScriptParts) (rules : IsConfig c) where
   step_keeps = record {
     free = λ w vars cursors wanted used oseks p.
         record { started = p.started; entries = p.entries; few = p.few; begun = p.begun; later = p.later };
-    synced = λ w global p. record { started = p.started; entries = p.entries; few = p.few; begun = p.begun; later =
-        p.later };
+    synced = λ w global p. record {
+      started = p.started;
+      entries = p.entries;
+      few = p.few;
+      begun = p.begun;
+      later =
+          p.later;
+    };
     left = λ w after p _. left_placed w (runner_of c w) after p;
     over = λ w last p.
         let l = p.started in
@@ -203,15 +233,21 @@ module _ (c : ConfigParts) (s : ScriptParts) (rules : IsConfig c) where
   instant_placed : (w : World) (es : List Event) → Placed c 0 w → Holds (Placed c 0) es (instant c s w)
   instant_placed w es p =
       instant_leads c s (PlacedAt c) Anything opening_keeps (Alone (Placed c 0))
-          (step_holds c s (Placed c 1) (Placed c 1) (Placed c 0) step_keeps) w es p
+      (step_holds c s (Placed c 1) (Placed c 1) (Placed c 0) step_keeps) w es p
 
   pub opening_placed : (w : World) (es : List Event) → Placed c 0 w → Holds (Placed c 1) es (opening c s w)
   opening_placed w es p = opening_leads c s (PlacedAt c) Anything opening_keeps w es p
 
   first_placed : Placed c 0 (world_at c s 0)
   unfolding world_at
-  first_placed = record { started = omega arith; entries = λ place l. absurd (omega arith); few = omega arith; begun =
-      λ i l. absurd (omega arith); later = λ i g l. omega arith }
+  first_placed = record {
+    started = omega arith;
+    entries = λ place l. absurd (omega arith);
+    few = omega arith;
+    begun =
+        λ i l. absurd (omega arith);
+    later = λ i g l. omega arith;
+  }
 
   pub placed_at : (n : ℕ) → GoesOnBefore c s n → Placed c 0 (world_at c s n)
   placed_at = kept_at c s (Placed c 0) first_placed instant_placed
@@ -233,18 +269,18 @@ module _ (c : ConfigParts) (s : ScriptParts) (rules : IsConfig c) where
       let inq = uq.within in
       let there : q < length mode.activations = omega arith in
       let one : (row_of mode p).task ≡ (row_of mode q).task = sym (ap (λ (i : ℕ). (row_of mode i).task) ep) ∙ same
-          ∙ ap (λ (i : ℕ). (row_of mode i).task) eq in
+      ∙ ap (λ (i : ℕ). (row_of mode i).task) eq in
       let apart = rows_apart c mode p q (mode_rows c w.mode.0 rules) l there one in
       passed (w.tick - w.start) (row_of mode q).offset (point_of mode (row_of mode p))
-          (point_up_to mode (row_of mode p) q there apart) (h.begun q inq)
+      (point_up_to mode (row_of mode p) q there apart) (h.begun q inq)
       (subst (λ (i : ℕ). IsFrom ((w.tick - w.start) + 1) (point_of mode (row_of mode i))) ep
-          (a.ahead p up.within up.undone))
+      (a.ahead p up.within up.undone))
 
   pub single : (w : World) → Ahead c 1 w → Placed c 1 w → AreTasksSingle c w
   single w a h p q up uq same =
       ⊎_elim (λ (e : p ≡ q). e)
       (λ o. ⊎_elim (λ (l : p < q). absurd (not_both w a h p q l up uq same))
-          (λ (l : q < p). absurd (not_both w a h q p l uq up (sym same))) o)
+      (λ (l : q < p). absurd (not_both w a h q p l uq up (sym same))) o)
       (cases_order p q)
 
 pub tasks_single : TasksAreSingle
@@ -255,6 +291,6 @@ tasks_single c s rules script n l e =
     let on : is_over (opening c s (world_at c s n)).end ≡ false = ap is_over e in
     single c s rules (opening c s (world_at c s n)).world
     (led_on (Alone (Ahead c 1)) Anything [] (opening c s (world_at c s n)) on
-        (opening_ahead c s rules (world_at c s n) [] (ahead_at c s rules n before)))
+    (opening_ahead c s rules (world_at c s n) [] (ahead_at c s rules n before)))
     (led_on (Alone (Placed c 1)) Anything [] (opening c s (world_at c s n)) on
-        (opening_placed c s rules (world_at c s n) [] (placed_at c s rules n before)))
+    (opening_placed c s rules (world_at c s n) [] (placed_at c s rules n before)))

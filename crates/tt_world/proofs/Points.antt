@@ -51,10 +51,10 @@ unfolding checked
 checked_done at mode is_due [] e place l d = absurd (omega arith)
 checked_done at mode is_due (x ∷ xs) e zero l d =
     (if_met (is_due (point_of mode (row_of mode x.entry))) at (row_of mode x.entry).task (is_done x.left)
-        (checked at mode is_due xs) e).0 d
+    (checked at mode is_due xs) e).0 d
 checked_done at mode is_due (x ∷ xs) e (suc place) l d =
     checked_done at mode is_due xs (if_met (is_due (point_of mode (row_of mode x.entry))) at (row_of mode x.entry).task
-        (is_done x.left) (checked at mode is_due xs) e).1 place (omega arith) d
+    (is_done x.left) (checked at mode is_due xs) e).1 place (omega arith) d
 
 -- ---- points that are still to come
 
@@ -97,7 +97,7 @@ pub points_ahead : (c : ConfigParts) (s : ScriptParts) (w : World) → Ahead c 1
     → ArePointsAhead c w
 points_ahead c s w a t place u =
     after_point c w.latched (offset_of w) (point_at c w place) (a.ahead place u.within u.undone)
-        (round_on c w.latched (offset_of w) t.stands)
+    (round_on c w.latched (offset_of w) t.stands)
 
 module _ (c : ConfigParts) (s : ScriptParts) (rules : IsConfig c) where
   head_ahead : (w : World) (es : List Event) → w.tick ≡ 0 → Ahead c 0 w → Holds (Ahead c 0) es (head s w)
@@ -108,7 +108,7 @@ module _ (c : ConfigParts) (s : ScriptParts) (rules : IsConfig c) where
   unfolding latch
   latch_ahead w es a =
       cond_both (eqb (offset_of w) (c.round - c.adjust)) _ _ (Holds (Ahead c 0) es)
-          (λ _. record { started = a.started; ahead = a.ahead }) (λ _. a)
+      (λ _. record { started = a.started; ahead = a.ahead }) (λ _. a)
 
   next_round_ahead : (w : World) (es : List Event) → Ahead c 0 w → Holds (Ahead c 0) es (next_round s w)
   unfolding next_round
@@ -121,7 +121,7 @@ module _ (c : ConfigParts) (s : ScriptParts) (rules : IsConfig c) where
   round_end_ahead w es a =
       cond_both (is_length w.latched (offset_of w)) _ _ (Holds (Ahead c 0) es)
       (λ _. followed_leads (Alone (Ahead c 0)) (Alone (Ahead c 0)) Anything es (monitored c (is_at_end (offset_of w)) w)
-          (next_round s)
+      (next_round s)
       (monitored_holds (Ahead c 0) c (is_at_end (offset_of w)) w es (λ _. a)) next_round_ahead)
       (λ _. a)
 
@@ -136,7 +136,7 @@ module _ (c : ConfigParts) (s : ScriptParts) (rules : IsConfig c) where
             (λ (d : is_at (offset_of w) (point_at c w place) ≡ true).
             absurd (false≢true (sym u ∙ checked_done w.tick (mode_of c w) (is_at (offset_of w)) w.jobs none place l d)))
             (λ (d : is_at (offset_of w) (point_at c w place) ≡ false). passed (offset_of w) (point_at c w place)
-                (a.ahead place l u) d)
+            (a.ahead place l u) d)
             (cases_Bool (is_at (offset_of w) (point_at c w place)));
       })
 
@@ -147,7 +147,7 @@ module _ (c : ConfigParts) (s : ScriptParts) (rules : IsConfig c) where
       let l = deadline_after c (mode_of c w) entry (mode_rows c w.mode.0 rules) found.0 in
       let here = found.1 in
       later_point (row_of (mode_of c w) entry).deadline _ (point_of (mode_of c w) (row_of (mode_of c w) entry))
-          (omega arith)
+      (omega arith)
       (point_is_from (mode_of c w) (row_of (mode_of c w) entry))
 
   activated_ahead : (w : World) (es : List Event) → Ahead c 1 w → (found : Option ℕ)
@@ -164,7 +164,7 @@ module _ (c : ConfigParts) (s : ScriptParts) (rules : IsConfig c) where
             (a.ahead place old.0 (sym (ap (λ x. is_done x.left) old.1) ∙ u)))
             (λ (new : IsNewPlace w.jobs y place).
             subst (λ x. IsFrom (offset_of w + 1) (point_of (mode_of c w) (row_of (mode_of c w) x.entry))) (sym new.1)
-                (new_point w entry e))
+            (new_point w entry e))
             (place_of_more w.jobs y place l);
       }
 
@@ -192,7 +192,7 @@ module _ (c : ConfigParts) (s : ScriptParts) (rules : IsConfig c) where
       (λ (e : after ≡ (state_after c s w (job_at w.jobs q).left).left). tick_undone c s w _ (sym (ap is_done e) ∙ u))
       (λ (o : (after ≡ []) ⊎ IsOsek (runner.Job q)).
       ⊎_elim (λ (e : after ≡ []). absurd (false≢true (sym u ∙ ap is_done e)))
-          (λ (o : IsOsek (runner.Job q)). absurd o) o)
+      (λ (o : IsOsek (runner.Job q)). absurd o) o)
       l
 
   left_ahead : (w : World) (r : Runner) (after : List Stmt) → Ahead c 1 w → IsLeftAfter c s w r after
@@ -205,7 +205,7 @@ module _ (c : ConfigParts) (s : ScriptParts) (rules : IsConfig c) where
             let undone = undone_before w.jobs q place after (left_undone w q after l) i u in
             let same = entry_of_set w.jobs q after place i in
             subst (λ (entry : ℕ). IsFrom ((w.tick - w.start) + 1) (point_of (mode_of c w) (row_of (mode_of c w) entry)))
-                (sym same) (a.ahead place within undone);
+            (sym same) (a.ahead place within undone);
       }
   left_ahead w (runner.Isr isr) after a l = record { started = a.started; ahead = a.ahead }
   left_ahead w (runner.Oisr oisr) after a l = record { started = a.started; ahead = a.ahead }
@@ -230,7 +230,7 @@ module _ (c : ConfigParts) (s : ScriptParts) (rules : IsConfig c) where
   pub instant_ahead : (w : World) (es : List Event) → Ahead c 0 w → Holds (Ahead c 0) es (instant c s w)
   instant_ahead w es a =
       instant_leads c s (AheadAt c) Anything opening_keeps (Alone (Ahead c 0))
-          (step_holds c s (Ahead c 1) (Ahead c 1) (Ahead c 0) step_keeps) w es a
+      (step_holds c s (Ahead c 1) (Ahead c 1) (Ahead c 0) step_keeps) w es a
 
   pub opening_ahead : (w : World) (es : List Event) → Ahead c 0 w → Holds (Ahead c 1) es (opening c s w)
   opening_ahead w es a = opening_leads c s (AheadAt c) Anything opening_keeps w es a

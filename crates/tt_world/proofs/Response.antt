@@ -52,7 +52,7 @@ sums_within f g n h =
     let m = length-range_with_len 0 n in
     sums_at f g (range_with_len 0 n)
     (λ i l. let z : 0 + i ≡ i = omega arith in let k : get_or (range_with_len 0 n) i 0 ≡ i =
-        get_or-range_with_len 0 n i 0 (omega arith) ∙ z in rw k (h i (omega arith)))
+    get_or-range_with_len 0 n i 0 (omega arith) ∙ z in rw k (h i (omega arith)))
 
 -- ---- more enables
 
@@ -70,7 +70,7 @@ isr_more isr d e ticks l = more_times isr.budget _ _ (begins_more isr.distance d
 abbrev pub Waits : ConfigParts → ℕ → OfEntry
 Waits c T start mode entry =
     (t : ℕ) → (row_of mode entry).offset < t → start + t ≤ T
-        → t - (row_of mode entry).offset < demand c mode (row_of mode entry).offset t
+    → t - (row_of mode entry).offset < demand c mode (row_of mode entry).offset t
 
 -- at tick T, the deadline is still to come
 abbrev pub IsEarly : ConfigParts → ℕ → OfEntry
@@ -99,13 +99,13 @@ module _ (c : ConfigParts) (s : ScriptParts) (rules : IsConfig c) (script : IsSc
   within_last n g =
       let last = last_is c s (are_bounded c s rules script) in
       ⊎_elim (λ (l : last_instant c s < n). absurd (false≢true (sym (g (last_instant c s) l) ∙ last.ends)))
-          (λ (l : n ≤ last_instant c s). l)
+      (λ (l : n ≤ last_instant c s). l)
       (cases_lt (last_instant c s) n)
 
   -- the ticks of all routines are within their demand
   isrs_within : (n : ℕ) → GoesOnBefore c s n → (from : ℕ) → (world_at c s n).start + from ≤ n
       → taken is_any_isr c s ((world_at c s n).start + from) n ≤ isrs_demand c (mode_of c (world_at c s n)) from
-          (n - (world_at c s n).start)
+      (n - (world_at c s n).start)
   isrs_within n g from l =
       let w = world_at c s n in
       let m = w.start + from in
@@ -115,27 +115,27 @@ module _ (c : ConfigParts) (s : ScriptParts) (rules : IsConfig c) (script : IsSc
       let last = within_last n g in
       let numbered = ticks_by_number c s m k (λ j i. g j (omega arith)) in
       let each : (isr : ℕ) → isr < length c.isrs
-          → ticks_of (is_isr isr) c s m k ≤ isr_demand (isr_of c isr) (enables_in (mode_of c w) isr from (n - w.start))
-          ((n - w.start) - from) = λ isr i.
+      → ticks_of (is_isr isr) c s m k ≤ isr_demand (isr_of c isr) (enables_in (mode_of c w) isr from (n - w.start))
+      ((n - w.start) - from) = λ isr i.
       let b = isr_bounded c s rules script bounds isr (omega arith) m k (omega arith) in
       let e = (enables_at_instant c s isr n g).within from l in
       let more = isr_more (isr_of c isr) (count_by (is_enable isr) (events_between c s m k))
-          (enables_in (mode_of c w) isr from (n - w.start)) k e in
+      (enables_in (mode_of c w) isr from (n - w.start)) k e in
       rw y (omega arith) in
       let sum = sums_within (λ (isr : ℕ). ticks_of (is_isr isr) c s m k)
-          (λ (isr : ℕ). isr_demand (isr_of c isr) (enables_in (mode_of c w) isr from (n - w.start))
-          ((n - w.start) - from)) (length c.isrs) each in
+      (λ (isr : ℕ). isr_demand (isr_of c isr) (enables_in (mode_of c w) isr from (n - w.start))
+      ((n - w.start) - from)) (length c.isrs) each in
       omega arith
 
   -- an unfinished activation has not had its demand
   not_yet : (n : ℕ) → GoesOnBefore c s n → (place : ℕ) → place < length (world_at c s n).jobs
       → is_done (job_at (world_at c s n).jobs place).left ≡ false
       → n -
-          ((world_at c s n).start + (row_of (mode_of c (world_at c s n))
-          (job_at (world_at c s n).jobs place).entry).offset)
+      ((world_at c s n).start + (row_of (mode_of c (world_at c s n))
+      (job_at (world_at c s n).jobs place).entry).offset)
       < demand c (mode_of c (world_at c s n))
-          (row_of (mode_of c (world_at c s n)) (job_at (world_at c s n).jobs place).entry).offset
-          (n - (world_at c s n).start)
+      (row_of (mode_of c (world_at c s n)) (job_at (world_at c s n).jobs place).entry).offset
+      (n - (world_at c s n).start)
   unfolding demand
   not_yet n g place i u =
       let w = world_at c s n in
@@ -179,7 +179,7 @@ module _ (c : ConfigParts) (s : ScriptParts) (rules : IsConfig c) (script : IsSc
   unfolding world_at instant_at
   next_waits n g p =
       led_on (Alone (Each c (Waits c n) (n + 1))) Anything [] (instant c s (world_at c s n)) (g n (omega arith))
-          (instant_each c s rules (Waits c n) n (waits_new n) (world_at c s n) [] p)
+      (instant_each c s rules (Waits c n) n (waits_new n) (world_at c s n) [] p)
 
   pub waits_at : (n : ℕ) → GoesOnBefore c s n → Each c (Waits c n) n (world_at c s n)
   waits_at zero g = first_waits
@@ -188,14 +188,14 @@ module _ (c : ConfigParts) (s : ScriptParts) (rules : IsConfig c) (script : IsSc
       let h : GoesOnBefore c s (n + 1) = λ k l. g k (omega arith) in
       let q = next_waits n h (waits_at n (goes_on_less c s n g)) in
       subst (λ (j : ℕ). Each c (Waits c j) j (world_at c s j)) (sym z)
-          (waits_more n h (subst (λ (j : ℕ). Each c (Waits c n) (n + 1) (world_at c s j)) z q))
+      (waits_more n h (subst (λ (j : ℕ). Each c (Waits c n) (n + 1) (world_at c s j)) z q))
 
   module _ (responds : EachResponds c) where
     mode_there : (number entry : ℕ) → entry < length (mode_at c number).activations → number < length c.modes
     mode_there number entry l =
         ⊎_elim (λ (h : number < length c.modes). h)
         (λ (h : length c.modes ≤ number). let z : mode_at c number ≡ no_mode = get_or_past c.modes number no_mode h in
-            absurd (let x = ap (λ (mode : ModeDef). length mode.activations) z in omega arith))
+        absurd (let x = ap (λ (mode : ModeDef). length mode.activations) z in omega arith))
         (cases_lt number (length c.modes))
 
     -- the deadline of each unfinished activation is still to come, before an instant and after its opening

@@ -33,7 +33,21 @@ abbrev pub ByLast : Bool → Type 0 → Type 0 → Type 0
 ByLast true Last Over = Last
 ByLast false Last Over = Over
 
+no_start : (end : ℕ) (o : Option RoundStart) (others : Bool) (next : ℕ) → not (is_some o || others) ≡ true
+    → (not others ≡ true → next ≡ end) → start_or next o ≡ end
+no_start end None others next e h = h e
+no_start end (Some round) others next e h = cc
+
+-- after the last round none begins
+pub last_start : (end : ℕ) (rest : List Event) → is_last_round rest ≡ true → next_start end rest ≡ end
+unfolding next_start
+last_start end [] e = refl
+last_start end (event ∷ rest) e =
+    no_start end (round_of event) (list_any (λ (x : Event). is_some (round_of x)) rest) (next_start end rest) e
+    (last_start end rest)
+
 module _ (test : Event → Bool) where
+  -- the present round after one event
   abbrev pub present_by : Option Present → Event → Option Present
   present_by o e = begun_or (round_of e) (with_more o (event_if (test e) e))
 
@@ -42,6 +56,7 @@ module _ (test : Event → Bool) where
   present_after o [] = o
   present_after o (e ∷ es) = present_after (present_by o e) es
 
+  -- after one list and another
   pub present_more : (o : Option Present) (es fs : List Event)
       → present_after o (es ++ fs) ≡ present_after (present_after o es) fs
   present_more o [] fs = refl
@@ -67,6 +82,12 @@ module _ (test : Event → Bool) where
   with_none (Some p) =
       ap (λ (xs : List Event). Some (record { round = p.round; kept = xs })) (sym (append-nil p.kept))
 
+  -- events of another kind
+  pub none_such : (es : List Event) → Of (λ e. test e ≡ false) es → filter test es ≡ []
+  none_such [] q = refl
+  none_such (e ∷ es) q =
+      ap (λ (b : Bool). cond b (e ∷ filter test es) (filter test es)) q.0 ∙ none_such es q.1
+
   -- events that begin no round
   pub same_round : (o : Option Present) (es : List Event) → Of NoRound es
       → present_after o es ≡ with_more o (filter test es)
@@ -77,14 +98,17 @@ module _ (test : Event → Bool) where
 
   -- what a round that is over has: of its start, of the start of the next round, and of its events of the kind
   module _ (Has : RoundStart → ℕ → List Event → Type 0) where
+    -- the present round has that, where the next one begins so
     abbrev pub OverBy : Option Present → Option RoundStart → Type 0
     OverBy None next = Unit {0}
     OverBy (Some p) next = IfSome next (λ (round : RoundStart). Has p.round round.start p.kept)
 
+    -- each round that these events end has that
     abbrev pub RoundsOver : Option Present → List Event → Type 0
     RoundsOver o [] = Unit {0}
     RoundsOver o (e ∷ es) = OverBy o (round_of e) × RoundsOver (present_by o e) es
 
+    -- of one list and another
     pub rounds_more : (o : Option Present) (es fs : List Event) → RoundsOver o es → RoundsOver (present_after o es) fs
         → RoundsOver o (es ++ fs)
     rounds_more o [] fs p q = q
@@ -94,16 +118,19 @@ module _ (test : Event → Bool) where
     over_none None = tt
     over_none (Some p) = tt
 
+    -- events that begin no round end none
     pub none_over : (o : Option Present) (es : List Event) → Of NoRound es → RoundsOver o es
     none_over o [] q = tt
     none_over o (e ∷ es) q = (subst (OverBy o) (sym q.0) (over_none o), none_over (present_by o e) es q.1)
 
     -- what the last round has: of its start, and of its events of the kind
     module _ (Last : RoundStart → List Event → Type 0) (end : ℕ) where
+      -- the present round has that, as the last one
       abbrev pub OfLast : Option Present → Type 0
       OfLast None = Unit {0}
       OfLast (Some p) = Last p.round p.kept
 
+      -- a round has that, whose events of the kind are these and those up to the next round
       abbrev pub OfRound : RoundStart → List Event → List Event → Type 0
       OfRound round kept rest =
           let all = kept ++ filter test (until_round rest) in

@@ -1,31 +1,41 @@
 -- The rule for laws of rounds: what the present round has had so far, part after part and instant after instant.
 use Rattle.std.proofs.Common.{ℕ, zero, suc, ◌≡◌, ◌≤◌, ◌+◌, List, [], ◌∷◌, ◌++◌, Bool, true, false, Option, None, Some, refl, ap, sym, ◌∙◌, subst, eqb, arith, append-nil}
-use Rattle.std.specs.Prelude.{ℤ, filter, cond}
-use Rattle.std.proofs.lemmas.Bool.{cond_both, eqb-false, false≢true}
+use Rattle.std.specs.Prelude.{ℤ, filter}
+use Rattle.std.proofs.lemmas.Bool.{cond_both, eqb-false}
+use Rattle.std.proofs.lemmas.List.Elements.{filter-append}
 use Rattle.tt_base.specs.declared.number.IsrNo.{IsrNo}
+use Rattle.tt_base.specs.declared.number.ModeNo.{ModeNo}
 use Rattle.tt_base.specs.declared.number.TaskNo.{TaskNo}
 use Rattle.tt_base.specs.declared.event.Call.{Call}
 use Rattle.tt_base.specs.declared.event.Owner.{Owner}
+use Rattle.tt_base.specs.declared.event.Owner.TheVariants as owner
 use Rattle.tt_base.specs.declared.event.Event.{Event}
-use Rattle.tt_base.specs.declared.event.Event.TheVariants.{OsStart, Round, Correct, Enable, Arrive, Merge, Accept, Run, End, Out, Called, ErrorHook, ShutdownHook, Shutdown, Stop}
+use Rattle.tt_base.specs.declared.event.Event.TheVariants.{OsStart, Round, Correct, Check, Enable, Arrive, Merge, Accept, Activate, Run, End, Out, Called, ErrorHook, ShutdownHook, Shutdown, Stop}
 use Rattle.tt_world.specs.declared.config.ConfigParts.{ConfigParts}
 use Rattle.tt_world.specs.declared.script.ScriptParts.{ScriptParts}
+use Rattle.tt_world.specs.declared.world.Point.{Point}
 use Rattle.tt_world.specs.World.{World}
-use Rattle.tt_world.specs.Moved.{Moved, is_over, chain}
-use Rattle.tt_world.specs.Rounds.{head, latch, round_end}
+use Rattle.tt_world.specs.Hooks.{vars_after, outs_of, misses}
+use Rattle.tt_world.specs.Rows.{offset_of, mode_of, entry_at}
+use Rattle.tt_world.specs.Correction.{is_length}
+use Rattle.tt_world.specs.Monitoring.{checked, monitored, after_checks, is_at, is_at_end}
+use Rattle.tt_world.specs.Moved.{Moved, chain}
+use Rattle.tt_world.specs.Rounds.{head, latch, next_round, round_end}
 use Rattle.tt_world.specs.Gates.{enables, arrivals, acceptances}
-use Rattle.tt_world.specs.Opening.{checks, activation, due, first_parts, opening}
+use Rattle.tt_world.specs.Opening.{checks, activated, activation, due, opening}
 use Rattle.tt_world.specs.Step.{step}
 use Rattle.tt_world.specs.Schedule.{IsLast, instant, instant_at, world_at, events_before}
-use Rattle.tt_world.specs.Status.{Status, Shut, status_of}
+use Rattle.tt_world.specs.Status.{Status, Done, Missed, Shut, status_of}
 use Rattle.tt_world.specs.Readings.{RoundStart}
-use Rattle.tt_world.proofs.Parts.{OfRun, OfEnd, Phase, Before, Latched, Begun, Checked, Accepted, Activated, OpeningKeeps, Alone, Anything, LeadsTo, Leads, leads_by, led_on, led_over, followed_leads, due_leads, instant_leads, GoesOnBefore}
-use Rattle.tt_world.proofs.Emits.{Of, all_more, OfHooks, latch_all, enables_all, arrivals_all, acceptances_all, step_all}
-use Rattle.tt_world.proofs.Fates.{round_in, EndsAt, ends_after, Forward, step_forward}
+use Rattle.tt_world.proofs.Parts.{OfRun, OfEnd, Phase, Before, Latched, Begun, Checked, Accepted, Activated, OpeningKeeps, Alone, Anything, LeadsTo, Leads, leads_by, led_on, led_over, still_leads, followed_leads, due_leads, instant_leads, GoesOnBefore}
+use Rattle.tt_world.proofs.Emits.{Of, all_more, OfHooks, checked_all, after_all, latch_all, enables_all, arrivals_all, acceptances_all, step_all}
+use Rattle.tt_world.proofs.Fates.{round_in, EndsAt, ends_after, shut_at, Forward, step_forward}
 use Rattle.tt_world.proofs.FateParts.{Never}
 use Rattle.tt_world.proofs.SameRounds.{SameRound, latch_same, enables_same, arrivals_same, acceptances_same, OneLater, step_later}
-use Rattle.tt_world.proofs.Calm.{IsCalm, calm_status, step_tells}
-use Rattle.tt_world.proofs.RoundFolds.{Present, with_more, NoRound, present_after, present_more, same_round, RoundsOver, rounds_more, none_over}
+use Rattle.tt_world.proofs.Stamps.{each_of}
+use Rattle.tt_world.proofs.Calm.{IsCalm, calm_status, ChecksTell, checked_tell, step_tells}
+use Rattle.tt_world.proofs.RoundFolds.{Present, with_more, NoRound, present_after, present_more, same_round, none_such, OverBy, RoundsOver, rounds_more, none_over}
+use Rattle.tt_world.specs.declared.world.RunEnd.TheVariants as ending
 
 -- nothing has told of an end, and a shutdown is told
 abbrev CalmSoFar : OfRun
@@ -33,6 +43,12 @@ CalmSoFar w es = Of IsCalm es
 
 abbrev TellsShut : OfEnd
 TellsShut end w es = (tick : ℕ) × (status_of es ≡ Shut tick)
+
+-- whether an event is a check or an activation: what the rows that activate have
+abbrev pub is_of_row : Event → Bool
+is_of_row (Check at task met) = true
+is_of_row (Activate at task) = true
+is_of_row event = false
 
 -- what holds of a round, and of its events of a kind so far
 abbrev pub OfPresent : Type 1
@@ -72,7 +88,7 @@ module _ (c : ConfigParts) (s : ScriptParts) (test : Event → Bool) (Has : Roun
       rounds_more test Has None es fs p (none_over test Has (present_after test None es) fs q)
 
   -- the run goes on
-  pub goes : (T T2 : ℕ) (D D2 : OfPresent) (w v : World) (es fs : List Event) → v.tick ≡ T2 → w.start ≤ T2
+  goes : (T T2 : ℕ) (D D2 : OfPresent) (w v : World) (es fs : List Event) → v.tick ≡ T2 → w.start ≤ T2
       → v.start ≡ w.start → v.mode ≡ w.mode → Of NoRound fs → Of IsCalm fs → (p : Going T D w es)
       → D2 (round_in w) (p.kept ++ filter test fs) → Going T2 D2 v (es ++ fs)
   goes T T2 D D2 w v es fs t l a b q k p d =
@@ -91,7 +107,7 @@ module _ (c : ConfigParts) (s : ScriptParts) (test : Event → Bool) (Has : Roun
       }
 
   -- the run ends
-  pub stops : (T : ℕ) (D : OfPresent) (L : Status → OfPresent) (w : World) (es fs : List Event) → Of NoRound fs
+  stops : (T : ℕ) (D : OfPresent) (L : Status → OfPresent) (w : World) (es fs : List Event) → Of NoRound fs
       → EndsAt T fs → (p : Going T D w es) → L (status_of fs) (round_in w) (p.kept ++ filter test fs)
       → Ended T L (es ++ fs)
   stops T D L w es fs q l p d =
@@ -106,154 +122,266 @@ module _ (c : ConfigParts) (s : ScriptParts) (test : Event → Bool) (Has : Roun
 
   -- ---- events that begin no round and are not of the kind
 
-  abbrev pub Silent : Event → Type 0
+  abbrev Silent : Event → Type 0
   Silent e = NoRound e × (test e ≡ false)
 
-  pub silent_rounds : (es : List Event) → Of Silent es → Of NoRound es
-  silent_rounds [] q = tt
-  silent_rounds (e ∷ es) q = (q.0.0, silent_rounds es q.1)
+  silent_rounds : (es : List Event) → Of Silent es → Of NoRound es
+  silent_rounds es q = each_of Silent NoRound (λ e p. p.0) es q
 
-  pub silent_none : (es : List Event) → Of Silent es → filter test es ≡ []
-  silent_none [] q = refl
-  silent_none (e ∷ es) q =
-      ap (λ (b : Bool). cond b (e ∷ filter test es) (filter test es)) q.0.1 ∙ silent_none es q.1
+  silent_none : (es : List Event) → Of Silent es → filter test es ≡ []
+  silent_none es q = none_such test es (each_of Silent (λ e. test e ≡ false) (λ e p. p.1) es q)
 
   none_more : (D : OfPresent) (round : RoundStart) (kept es : List Event) → Of Silent es → D round kept
       → D round (kept ++ filter test es)
   none_more D round kept es q d =
       subst (D round) (sym (ap (λ (xs : List Event). kept ++ xs) (silent_none es q) ∙ append-nil kept)) d
 
-  pub silent_goes : (T T2 : ℕ) (D : OfPresent) (w v : World) (es fs : List Event) → v.tick ≡ T2 → w.start ≤ T2
+  silent_goes : (T T2 : ℕ) (D : OfPresent) (w v : World) (es fs : List Event) → v.tick ≡ T2 → w.start ≤ T2
       → v.start ≡ w.start → v.mode ≡ w.mode → Of Silent fs → Of IsCalm fs → Going T D w es → Going T2 D v (es ++ fs)
   silent_goes T T2 D w v es fs t l a b q k p =
       goes T T2 D D w v es fs t l a b (silent_rounds fs q) k p (none_more D (round_in w) p.kept fs q p.due)
 
-  -- no event that such parts write is of the kind
-  pub record IsElsewhere : Type 0 where
-    pub correct : (at : ℕ) (by : ℤ) → test (Correct at by) ≡ false
-    pub enable : (at : ℕ) (isr : IsrNo) → test (Enable at isr) ≡ false
-    pub arrive : (at : ℕ) (who : Owner) → test (Arrive at who) ≡ false
-    pub merge : (at : ℕ) (who : Owner) → test (Merge at who) ≡ false
-    pub accept : (at : ℕ) (who : Owner) → test (Accept at who) ≡ false
-    pub run : (at : ℕ) (who : Owner) → test (Run at who) ≡ false
-    pub end : (at : ℕ) (who : Owner) → test (End at who) ≡ false
-    pub called : (at : ℕ) (who : Owner) (call : Call) (result : ℕ) → test (Called at who call result) ≡ false
-    pub error : (at : ℕ) (task : TaskNo) → test (ErrorHook at task) ≡ false
-    pub out : (at : ℕ) (who : Owner) (value : ℤ) → test (Out at who value) ≡ false
-    pub hook : (at : ℕ) → test (ShutdownHook at) ≡ false
-    pub shutdown : (at : ℕ) → test (Shutdown at) ≡ false
-    pub stop : (at : ℕ) → test (Stop at) ≡ false
+  -- events of the kind are checks or activations
+  abbrev pub IsOfRows : Type 0
+  IsOfRows = (e : Event) → is_of_row e ≡ false → test e ≡ false
 
-  module _ (x : IsElsewhere) where
-    pub hooks : OfHooks Silent
+  module _ (of_rows : IsOfRows) where
+    hooks : OfHooks Silent
     hooks = record {
-      error = λ at task. (refl, x.error at task);
-      out = λ at who value. (refl, x.out at who value);
-      hook = λ at. (refl, x.hook at);
-      shutdown = λ at. (refl, x.shutdown at);
+      error = λ at task. (refl, of_rows (ErrorHook at task) refl);
+      out = λ at who value. (refl, of_rows (Out at who value) refl);
+      hook = λ at. (refl, of_rows (ShutdownHook at) refl);
+      shutdown = λ at. (refl, of_rows (Shutdown at) refl);
     }
 
     -- ---- the parts of the instant at tick T
 
-    -- of the present round DB holds before the checks, DC after them, and DA after the activation; L where the run
-    -- ends; and X of the world
-    module _ (T : ℕ) (DB DC DA : OfPresent) (L : Status → OfPresent) (X : Phase → World → Type 0) where
+    -- of the present round D holds before the checks, E after those at its end, C after those at the offset, and A
+    -- after the activation; L where the run ends; and X of the world
+    module _ (T : ℕ) (D E C A : OfPresent) (L : Status → OfPresent) (X : Phase → World → Type 0) where
+      -- what holds after each part of the instant
       abbrev pub P : Phase → OfRun
-      P Before w es = (1 ≤ T) × Going T DB w es × X Before w
-      P Latched w es = (1 ≤ T) × Going T DB w es × X Latched w
-      P Begun w es = Going T DB w es × X Begun w
-      P Activated w es = Going T DA w es
-      P phase w es = Going T DC w es
+      P Before w es = (1 ≤ T) × Going T D w es × X Before w
+      P Latched w es = (1 ≤ T) × Going T D w es × X Latched w
+      P Begun w es = Going T D w es × X Begun w
+      P Activated w es = Going T A w es
+      P phase w es = Going T C w es
 
+      -- and where the run ends
       abbrev pub Q : OfEnd
       Q end w es = Ended T L es
 
-      -- the parts that begin a round or write events of the kind
+      -- with the events of the kind among these
+      abbrev pub With : OfPresent → World → List Event → List Event → Type 0
+      With F w fs kept = F (round_in w) (kept ++ filter test fs)
+
+      -- where a check is missed, the run ends
+      abbrev pub MayMiss : OfPresent → World → Type 0
+      MayMiss F w =
+          (kept : List Event) (task : TaskNo) (tick : ℕ) → F (round_in w) kept → L (Missed task tick) (round_in w) kept
+
+      -- the round of this world can end at this tick
+      pub record CanEnd (w : World) : Type 0 where
+        pub tick : w.tick ≡ T
+        pub started : w.start ≤ T
+        pub world : X Latched w
+        pub length : is_length w.latched (offset_of w) ≡ true
+
+      -- what is to be shown of the parts that begin a round or write events of the kind
       pub record RoundParts : Type 0 where
+        -- the latch
         pub latch_is : (w : World) → X Before w → X Latched (latch c w).world
-        pub round_end_is : Leads (P Latched) (P Begun) Q (round_end c s)
-        pub checks_are : Leads (P Begun) (P Checked) Q (checks c)
-        pub activation_is : Leads (P Accepted) (P Activated) Q (activation c)
-        pub shut : (tick : ℕ) (round : RoundStart) (kept : List Event) → round.start ≤ T → DA round kept
+        -- the end of a round: its checks; the round is over, or the run stops; and the next round
+        pub end_checks : (w : World) → CanEnd w → (kept : List Event) → D (round_in w) kept
+            → With E w (checked w.tick (mode_of c w) (is_at_end (offset_of w)) w.jobs).events kept
+        pub end_missed : (w : World) → CanEnd w → MayMiss E w
+        pub over : (round : RoundStart) (kept : List Event) → E round kept → Has round T kept
+        pub stop : (round : RoundStart) (kept : List Event) → E round kept → L Done round kept
+        pub begin : (mode : ModeNo) → D (record { start = T; mode = mode }) []
+        pub fresh : (w : World) → w.tick ≡ T → w.start ≡ w.tick → w.jobs ≡ [] → X Begun w
+        -- no end of a round
+        pub still : (w : World) → w.tick ≡ T → is_length w.latched (offset_of w) ≡ false → X Latched w → X Begun w
+        -- the checks at the offset, the activation, and a ttShutdownOS
+        pub checks : (w : World) → w.tick ≡ T → w.start ≤ T → X Begun w → (kept : List Event) → D (round_in w) kept
+            → With C w (checked w.tick (mode_of c w) (is_at (offset_of w)) w.jobs).events kept
+        pub missed : (w : World) → w.start ≤ T → X Begun w → MayMiss C w
+        pub activation : (w : World) → w.tick ≡ T → w.start ≤ T → (kept : List Event) → C (round_in w) kept
+            → With A w (activated c (entry_at (offset_of w) (mode_of c w).activations) w).events kept
+        pub shut : (round : RoundStart) (kept : List Event) (tick : ℕ) → round.start ≤ T → A round kept
             → L (Shut tick) round kept
+
+      -- ---- each part
 
       same_as : (w : World) → SameRound w w
       same_as w = record { tick = refl; start = refl; mode = refl }
 
-      silent_part : (D : OfPresent) (w : World) (es : List Event) (m : Moved) → Going T D w es → Of Silent m.events
-          → Of IsCalm m.events → LeadsTo (λ v fs. SameRound w v) Never es m → LeadsTo (Going T D) Q es m
-      silent_part D w es m p q k h =
-          leads_by (Going T D) Q es m
+      silent_part : (F : OfPresent) (w : World) (es : List Event) (m : Moved) → Going T F w es → Of Silent m.events
+          → Of IsCalm m.events → LeadsTo (λ v fs. SameRound w v) Never es m → LeadsTo (Going T F) Q es m
+      silent_part F w es m p q k h =
+          leads_by (Going T F) Q es m
           (λ on.
           let same = led_on (λ v fs. SameRound w v) Never es m on h in
-          silent_goes T T D w m.world es m.events (same.tick ∙ p.tick) p.started same.start same.mode q k p)
+          silent_goes T T F w m.world es m.events (same.tick ∙ p.tick) p.started same.start same.mode q k p)
           (λ over. absurd (led_over (λ v fs. SameRound w v) Never es m over h))
+
+      -- checks, and what follows from a missed one
+      after_leads : (F G : OfPresent) (fs : List Event) (missed : Option TaskNo) (w : World) (es : List Event)
+          → (p : Going T F w es) → ChecksTell w.tick fs missed → Of NoRound fs → With G w fs p.kept → MayMiss G w
+          → LeadsTo (Going T G) Q es (after_checks c fs missed w)
+      after_leads F G fs None w es p tell q d miss = goes T T F G w w es fs p.tick p.started refl refl q tell p d
+      after_leads F G fs (Some task) w es p tell q d miss =
+          let ms = (misses c task w).events in
+          let outs = outs_of w.tick owner.ErrorHook w.vars c.error_hook in
+          let silent : Of Silent ms = after_all Silent hooks c [] (Some task) w tt in
+          let v = record w { vars = vars_after w.vars c.error_hook } in
+          let last = shut_at c s (Some (ending.Missed task)) v (ErrorHook w.tick task ∷ outs) in
+          let kept_is : filter test (fs ++ ms) ≡ filter test fs =
+          filter-append test fs ms ∙ ap (λ (xs : List Event). filter test fs ++ xs) (silent_none ms silent)
+          ∙ append-nil (filter test fs) in
+          stops T F L w es (fs ++ ms) (all_more NoRound fs ms q (silent_rounds ms silent))
+          (subst (λ (t : ℕ). EndsAt t (fs ++ ms)) p.tick (ends_after w.tick fs ms last)) p
+          (subst (λ (status : Status). L status (round_in w) (p.kept ++ filter test (fs ++ ms))) (sym (tell ms))
+          (subst (λ (xs : List Event). L (Missed task w.tick) (round_in w) (p.kept ++ xs)) (sym kept_is)
+          (miss (p.kept ++ filter test fs) task w.tick d)))
+
+      monitored_leads : (F G : OfPresent) (is_due : Point → Bool) (w : World) (es : List Event) → (p : Going T F w es)
+          → With G w (checked w.tick (mode_of c w) is_due w.jobs).events p.kept → MayMiss G w
+          → LeadsTo (Going T G) Q es (monitored c is_due w)
+      monitored_leads F G is_due w es p d miss =
+          let all = checked w.tick (mode_of c w) is_due w.jobs in
+          after_leads F G all.events all.missed w es p (checked_tell w.tick (mode_of c w) is_due w.jobs)
+          (checked_all NoRound w.tick (mode_of c w) is_due w.jobs (λ _ _ _. refl)) d miss
 
       module _ (k : RoundParts) where
         latch_leads : Leads (P Before) (P Latched) Q (latch c)
         latch_leads w es p =
             let m = latch c w in
-            let h = silent_part DB w es m p.1 (latch_all Silent c (λ at by. (refl, x.correct at by)) w)
+            let h = silent_part D w es m p.1 (latch_all Silent c (λ at by. (refl, of_rows (Correct at by) refl)) w)
             (latch_all IsCalm c (λ _ _ _. refl) w) (latch_same c s w w es (same_as w)) in
-            leads_by (P Latched) Q es m (λ on. (p.0, led_on (Going T DB) Q es m on h, k.latch_is w p.2))
-            (λ over. led_over (Going T DB) Q es m over h)
+            leads_by (P Latched) Q es m (λ on. (p.0, led_on (Going T D) Q es m on h, k.latch_is w p.2))
+            (λ over. led_over (Going T D) Q es m over h)
 
-        enables_lead : Leads (Going T DC) (Going T DC) Q (enables c)
+        next_leads : Leads (Going T E) (P Begun) Q (next_round s)
+        unfolding next_round
+        next_leads w es p =
+            cond_both (eqb w.number s.rounds) _ _ (LeadsTo (P Begun) Q es)
+            (λ _.
+            let fs = Stop w.tick ∷ [] in
+            stops T E L w es fs (refl, tt) ([], Stop w.tick, refl, p.tick) p
+            (none_more (L Done) (round_in w) p.kept fs ((refl, of_rows (Stop w.tick) refl), tt)
+            (k.stop (round_in w) p.kept p.due)))
+            (λ _.
+            let begin = Round w.tick (w.number + 1) w.wanted ∷ [] in
+            let v =
+            record w { start = w.tick; number = w.number + 1; mode = w.wanted; latched = None; jobs = [] } in
+            let over : OverBy test Has (present_after test None es) (Some (round_in v)) =
+            subst (λ (o : Option Present). OverBy test Has o (Some (round_in v))) (sym p.now)
+            (subst (λ (t : ℕ). Has (round_in w) t p.kept) (sym p.tick) (k.over (round_in w) p.kept p.due)) in
+            let tick = p.tick in (
+              record {
+                tick = p.tick;
+                started = omega arith;
+                kept = [];
+                now = present_more test None es begin;
+                over = rounds_more test Has None es begin p.over (over, tt);
+                due = subst (λ (t : ℕ). D (record { start = t; mode = w.wanted }) []) (sym p.tick) (k.begin w.wanted);
+                calm = all_more IsCalm es begin p.calm (λ _. refl, tt);
+              },
+              k.fresh v p.tick refl refl,
+            ))
+
+        round_end_leads : Leads (P Latched) (P Begun) Q (round_end c s)
+        unfolding round_end
+        round_end_leads w es p =
+            let going = p.1 in
+            cond_both (is_length w.latched (offset_of w)) _ _ (LeadsTo (P Begun) Q es)
+            (λ e.
+            let can : CanEnd w = record { tick = going.tick; started = going.started; world = p.2; length = e } in
+            followed_leads (Going T E) (P Begun) Q es (monitored c (is_at_end (offset_of w)) w) (next_round s)
+            (monitored_leads D E (is_at_end (offset_of w)) w es going (k.end_checks w can going.kept going.due)
+            (k.end_missed w can))
+            next_leads)
+            (λ e. still_leads (P Begun) Q es w (going, k.still w going.tick e p.2))
+
+        checks_lead : Leads (P Begun) (P Checked) Q (checks c)
+        unfolding checks
+        checks_lead w es p =
+            let going = p.0 in
+            monitored_leads D C (is_at (offset_of w)) w es going
+            (k.checks w going.tick going.started p.1 going.kept going.due) (k.missed w going.started p.1)
+
+        enables_lead : Leads (Going T C) (Going T C) Q (enables c)
         enables_lead w es p =
-            silent_part DC w es (enables c w) p (enables_all Silent c (λ at isr. (refl, x.enable at isr)) w)
+            silent_part C w es (enables c w) p (enables_all Silent c (λ at isr. (refl, of_rows (Enable at isr) refl)) w)
             (enables_all IsCalm c (λ _ _ _. refl) w) (enables_same c s w w es (same_as w))
 
-        arrivals_lead : Leads (Going T DC) (Going T DC) Q (arrivals c s)
+        arrivals_lead : Leads (Going T C) (Going T C) Q (arrivals c s)
         arrivals_lead w es p =
-            silent_part DC w es (arrivals c s w) p
-            (arrivals_all Silent c s (λ at who. (refl, x.arrive at who)) (λ at who. (refl, x.merge at who)) w)
+            silent_part C w es (arrivals c s w) p
+            (arrivals_all Silent c s (λ at who. (refl, of_rows (Arrive at who) refl))
+            (λ at who. (refl, of_rows (Merge at who) refl)) w)
             (arrivals_all IsCalm c s (λ _ _ _. refl) (λ _ _ _. refl) w) (arrivals_same c s w w es (same_as w))
 
-        acceptances_lead : Leads (Going T DC) (Going T DC) Q (acceptances c)
+        acceptances_lead : Leads (Going T C) (Going T C) Q (acceptances c)
         acceptances_lead w es p =
-            silent_part DC w es (acceptances c w) p (acceptances_all Silent c (λ at who. (refl, x.accept at who)) w)
+            silent_part C w es (acceptances c w) p
+            (acceptances_all Silent c (λ at who. (refl, of_rows (Accept at who) refl)) w)
             (acceptances_all IsCalm c (λ _ _ _. refl) w) (acceptances_same c s w w es (same_as w))
+
+        activated_leads : (found : Option ℕ) (w : World) (es : List Event) → (p : Going T C w es)
+            → With A w (activated c found w).events p.kept → LeadsTo (Going T A) Q es (activated c found w)
+        activated_leads None w es p d = goes T T C A w w es [] p.tick p.started refl refl tt tt p d
+        activated_leads (Some entry) w es p d =
+            let m = activated c (Some entry) w in
+            goes T T C A w m.world es m.events p.tick p.started refl refl (refl, tt) (λ _. refl, tt) p d
+
+        activation_leads : Leads (P Accepted) (P Activated) Q (activation c)
+        unfolding activation
+        activation_leads w es p =
+            activated_leads (entry_at (offset_of w) (mode_of c w).activations) w es p
+            (k.activation w p.tick p.started p.kept p.due)
 
         opening_keeps : OpeningKeeps c s P Q
         opening_keeps = record {
           head_is = λ w es z p. absurd (let t = p.1.tick in let l = p.0 in omega arith);
           latch_is = latch_leads;
-          round_end_is = k.round_end_is;
-          checks_are = k.checks_are;
+          round_end_is = round_end_leads;
+          checks_are = checks_lead;
           enables_are = enables_lead;
           arrivals_are = arrivals_lead;
           acceptances_are = acceptances_lead;
-          activation_is = k.activation_is;
+          activation_is = activation_leads;
         }
 
-        step_leads : Leads (Going T DA) (Going (T + 1) DA) Q (step c s)
+        step_leads : Leads (Going T A) (Going (T + 1) A) Q (step c s)
         step_leads w es p =
             let m = step c s w in
-            let silent = step_all Silent hooks c s (λ at who. (refl, x.run at who)) (λ at who. (refl, x.end at who))
-            (λ at who call result. (refl, x.called at who call result)) w in
-            leads_by (Going (T + 1) DA) Q es m
+            let silent = step_all Silent hooks c s (λ at who. (refl, of_rows (Run at who) refl))
+            (λ at who. (refl, of_rows (End at who) refl))
+            (λ at who call result. (refl, of_rows (Called at who call result) refl)) w in
+            leads_by (Going (T + 1) A) Q es m
             (λ on.
             let later = led_on (Alone (OneLater c s w)) Anything es m on (step_later c s w es) in
             let started = p.started in
-            silent_goes T (T + 1) DA w m.world es m.events (later.tick ∙ ap (λ (t : ℕ). t + 1) p.tick) (omega arith)
+            silent_goes T (T + 1) A w m.world es m.events (later.tick ∙ ap (λ (t : ℕ). t + 1) p.tick) (omega arith)
             later.start later.mode silent
             (led_on CalmSoFar TellsShut [] m on (step_tells c s w)) p)
             (λ over.
             let shut = led_over CalmSoFar TellsShut [] m over (step_tells c s w) in
-            stops T DA L w es m.events (silent_rounds m.events silent)
+            stops T A L w es m.events (silent_rounds m.events silent)
             (subst (λ (t : ℕ). EndsAt t m.events) p.tick
             (led_over (λ v fs. Forward c w v fs) (λ end v fs. EndsAt w.tick fs) [] m over (step_forward c s w))) p
             (subst (λ (status : Status). L status (round_in w) (p.kept ++ filter test m.events)) (sym shut.1)
             (none_more (L (Shut shut.0)) (round_in w) p.kept m.events silent
-            (k.shut shut.0 (round_in w) p.kept p.started p.due))))
+            (k.shut (round_in w) p.kept shut.0 p.started p.due))))
 
         -- an instant after the first
-        pub later_leads : (w : World) (es : List Event) → 1 ≤ T → Going T DB w es → X Before w
-            → LeadsTo (Going (T + 1) DA) Q es (instant c s w)
-        later_leads w es l p y = instant_leads c s P Q opening_keeps (Going (T + 1) DA) step_leads w es (l, p, y)
+        pub later_leads : (w : World) (es : List Event) → 1 ≤ T → Going T D w es → X Before w
+            → LeadsTo (Going (T + 1) A) Q es (instant c s w)
+        later_leads w es l p y = instant_leads c s P Q opening_keeps (Going (T + 1) A) step_leads w es (l, p, y)
 
         head_leads : (w : World) → w.tick ≡ T → w.start ≡ w.tick → w.mode ≡ s.start
-            → DB (record { start = w.tick; mode = s.start }) [] → X Begun w → LeadsTo (P Begun) Q [] (head s w)
+            → D (record { start = w.tick; mode = s.start }) [] → X Begun w → LeadsTo (P Begun) Q [] (head s w)
         unfolding head
         head_leads w t a b d y =
             let same : record { start = w.tick; mode = s.start } ≡ round_in w =
@@ -265,7 +393,7 @@ module _ (c : ConfigParts) (s : ScriptParts) (test : Event → Bool) (Has : Roun
                 kept = [];
                 now = ap (λ (r : RoundStart). Some (record { round = r; kept = [] })) same;
                 over = (tt, (tt, tt));
-                due = subst (λ (r : RoundStart). DB r []) same d;
+                due = subst (λ (r : RoundStart). D r []) same d;
                 calm = (λ _. refl, (λ _. refl, tt));
               },
               y,
@@ -283,17 +411,17 @@ module _ (c : ConfigParts) (s : ScriptParts) (test : Event → Bool) (Has : Roun
 
         -- the first instant
         pub first_leads : (w : World) → w.tick ≡ T → T ≡ 0 → w.start ≡ w.tick → w.mode ≡ s.start
-            → DB (record { start = w.tick; mode = s.start }) [] → X Begun w
-            → LeadsTo (Going (T + 1) DA) Q [] (instant c s w)
+            → D (record { start = w.tick; mode = s.start }) [] → X Begun w
+            → LeadsTo (Going (T + 1) A) Q [] (instant c s w)
         unfolding instant
         first_leads w t z a b d y =
-            followed_leads (P Activated) (Going (T + 1) DA) Q [] (opening c s w) (step c s)
+            followed_leads (P Activated) (Going (T + 1) A) Q [] (opening c s w) (step c s)
             (opening_first w (t ∙ z) (head_leads w t a b d y)) step_leads
 
     -- ---- a run
 
-    module _ (D DC : ℕ → OfPresent) (L : ℕ → Status → OfPresent) (X : ℕ → Phase → World → Type 0)
-        (parts : (T : ℕ) → RoundParts T (D T) (DC T) (D (T + 1)) (L T) (X T))
+    module _ (D E C : ℕ → OfPresent) (L : ℕ → Status → OfPresent) (X : ℕ → Phase → World → Type 0)
+        (parts : (T : ℕ) → RoundParts T (D T) (E T) (C T) (D (T + 1)) (L T) (X T))
         (ready : (n : ℕ) → 1 ≤ n → GoesOnBefore c s n → X n Before (world_at c s n))
         (ready_first : X 0 Begun (world_at c s 0))
         (first_due : D 0 (record { start = 0; mode = s.start }) []) where
@@ -307,7 +435,7 @@ module _ (c : ConfigParts) (s : ScriptParts) (test : Event → Bool) (Has : Roun
           → LeadsTo (Next n) (Over n) (events_before c s n) (instant c s (world_at c s n))
       unfolding world_at events_before instant_at
       instant_led zero g =
-          first_leads 0 (D 0) (DC 0) (D 1) (L 0) (X 0) (parts 0) (world_at c s 0) refl refl refl refl first_due
+          first_leads 0 (D 0) (E 0) (C 0) (D 1) (L 0) (X 0) (parts 0) (world_at c s 0) refl refl refl refl first_due
           ready_first
       instant_led (suc n) g =
           let z : n + 1 ≡ suc n = omega arith in
@@ -315,7 +443,8 @@ module _ (c : ConfigParts) (s : ScriptParts) (test : Event → Bool) (Has : Roun
           let es = events_before c s n in
           let going =
           led_on (Next n) (Over n) es (instant c s (world_at c s n)) (g n (omega arith)) (instant_led n before) in
-          later_leads (suc n) (D (suc n)) (DC (suc n)) (D (suc n + 1)) (L (suc n)) (X (suc n)) (parts (suc n))
+          later_leads (suc n) (D (suc n)) (E (suc n)) (C (suc n)) (D (suc n + 1)) (L (suc n)) (X (suc n))
+          (parts (suc n))
           (world_at c s (suc n)) (events_before c s (suc n)) (omega arith)
           (subst (λ (j : ℕ). Going j (D j) (world_at c s (suc n)) (events_before c s (suc n))) z going)
           (ready (suc n) (omega arith) g)

@@ -30,6 +30,7 @@ module _ (c : ConfigParts) (s : ScriptParts) (w : World) where
   abbrev pub S : OfRun
   S v es = SameRound w v
 
+  -- each of these parts keeps them, and never ends the run
   pub latch_same : Leads S S Never (latch c)
   unfolding latch
   latch_same v es p =
@@ -100,6 +101,7 @@ module _ (c : ConfigParts) (s : ScriptParts) (w : World) where
     over = λ u _ p. record { tick = ap (λ (t : ℕ). t + 1) p.tick; start = p.start; mode = p.mode };
   }
 
+  -- one tick later in the same round
   pub step_later : (es : List Event) → LeadsTo (Alone OneLater) Anything es (step c s w)
   unfolding Now
   step_later es = step_holds c s Now Now OneLater step_now w es (record { tick = refl; start = refl; mode = refl })

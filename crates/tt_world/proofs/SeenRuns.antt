@@ -47,7 +47,7 @@ event_later : (from : ℕ) (who : Owner) (e : Event) → is_end_after from who e
 event_later from who (End at other) n =
     ⊎_elim (λ (d : same_owner who other ≡ false). and_left (same_owner who other) (nat_lt (from + 1) at) d)
     (λ (d : nat_lt from at ≡ false). let l = ltb-false from at d in
-        and_right (same_owner who other) (nat_lt (from + 1) at) (le-ltb (from + 1) at (omega arith)))
+    and_right (same_owner who other) (nat_lt (from + 1) at) (le-ltb (from + 1) at (omega arith)))
     (and_cases (same_owner who other) (nat_lt from at) n)
 event_later from who event n = refl
 
@@ -57,7 +57,7 @@ later_too from who [] n = refl
 later_too from who (e ∷ es) n =
     let k = or_parts (is_end_after from who e) (has_ended from who es) n in
     or_from (is_end_after (from + 1) who e) (has_ended (from + 1) who es) (event_later from who e k.0)
-        (later_too from who es k.1)
+    (later_too from who es k.1)
 
 some_undone : (body : List Stmt) → 1 ≤ length body → is_done body ≡ false
 some_undone [] l = absurd (omega arith)
@@ -98,8 +98,8 @@ module _ (c : ConfigParts) (s : ScriptParts) (rules : IsConfig c) (T : ℕ) wher
   latch_told w es p =
       cond_both (eqb (offset_of w) (c.round - c.adjust)) _ _ (LeadsTo Told Anything es)
       (λ _. quiet_told w _ es (event_if (not (is_no_change w.pending)) (Correct w.tick w.pending))
-          (record { tick = refl; start = refl; mode = refl; acts = refl })
-          (event_if_all NoEnd (not (is_no_change w.pending)) (Correct w.tick w.pending) refl) p)
+      (record { tick = refl; start = refl; mode = refl; acts = refl })
+      (event_if_all NoEnd (not (is_no_change w.pending)) (Correct w.tick w.pending) refl) p)
       (λ _. still_leads Told Anything es w p)
 
   monitored_told : (is_due : Point → Bool) → Leads Told Told Anything (monitored c is_due)
@@ -123,7 +123,7 @@ module _ (c : ConfigParts) (s : ScriptParts) (rules : IsConfig c) (T : ℕ) wher
   round_end_told w es p =
       cond_both (is_length w.latched (offset_of w)) _ _ (LeadsTo Told Anything es)
       (λ _. followed_leads Told Told Anything es (monitored c (is_at_end (offset_of w)) w) (next_round s)
-          (monitored_told (is_at_end (offset_of w)) w es p) next_told)
+      (monitored_told (is_at_end (offset_of w)) w es p) next_told)
       (λ _. still_leads Told Anything es w p)
 
   row_task : (number entry : ℕ) → entry < length (mode_at c number).activations
@@ -131,10 +131,10 @@ module _ (c : ConfigParts) (s : ScriptParts) (rules : IsConfig c) (T : ℕ) wher
   row_task number entry l =
       let row = row_of (mode_at c number) entry in
       let h = list_all_get (is_activation c) (mode_at c number).activations entry no_row
-          (mode_rows c number rules).activations l in
+      (mode_rows c number rules).activations l in
       let within = ltb-true row.task.0 (length c.tasks) (both_left (nat_lt row.task.0 (length c.tasks)) _ h) in
       some_undone (body_of c row.task) (All-get_or
-          (IsTask c) c.tasks row.task.0 no_task within rules.tasks).routine.some
+      (IsTask c) c.tasks row.task.0 no_task within rules.tasks).routine.some
 
   activated_told : (found : Option ℕ) (w : World) (es : List Event)
       → entry_at (offset_of w) (mode_of c w).activations ≡ found → Told w es
@@ -146,16 +146,16 @@ module _ (c : ConfigParts) (s : ScriptParts) (rules : IsConfig c) (T : ℕ) wher
       let fs = Activate w.tick task ∷ [] in
       let row = row_found (offset_of w) entry (mode_of c w) e in
       let Goal : Job → Type 0 = λ (i : Job). is_done i.left ≡ has_ended
-          (w.start + (row_of (mode_of c w) i.entry).offset) (owner.Task (row_of (mode_of c w) i.entry).task)
-          (es ++ fs) in
+      (w.start + (row_of (mode_of c w) i.entry).offset) (owner.Task (row_of (mode_of c w) i.entry).task)
+      (es ++ fs) in
       let more = seen_more c w.start w.mode.0 w.jobs es fs (refl, tt) p.seen in
       let here = row.1 in
       let tick = p.tick in
       let started = p.started in
       let now : w.start + (row_of (mode_of c w) entry).offset ≡ T = omega arith in
       let fresh : Goal y = row_task w.mode.0 entry row.0
-          ∙ sym (ap (λ (x : ℕ). has_ended x (owner.Task task) (es ++ fs)) now
-          ∙ ended_same T (owner.Task task) es fs (refl, tt) ∙ p.late (owner.Task task)) in
+      ∙ sym (ap (λ (x : ℕ). has_ended x (owner.Task task) (es ++ fs)) now
+      ∙ ended_same T (owner.Task task) es fs (refl, tt) ∙ p.late (owner.Task task)) in
       record {
         tick = p.tick;
         started = p.started;
@@ -204,9 +204,9 @@ module _ (c : ConfigParts) (s : ScriptParts) (rules : IsConfig c) (T : ℕ) wher
       let tick = runner_tick c s r who w in
       let line = run_line w who ++ tick.move.events in
       let quiet = all_more NoEnd (run_line w who) tick.move.events (event_if_all NoEnd _ (Run w.tick who) refl)
-          (effected_no_end c s r who state.effects state.left v) in
+      (effected_no_end c s r who state.effects state.left v) in
       followed_at Clock Anything es (preceded (run_line w who) tick.move) (tick_over who (is_somebody r && tick.ended))
-          (λ over. tt)
+      (λ over. tt)
       (λ on.
       let mid = effected_mid c s r who state.effects state.left w v refl refl refl refl on in
       let t = mid.tick in
@@ -217,9 +217,9 @@ module _ (c : ConfigParts) (s : ScriptParts) (rules : IsConfig c) (T : ℕ) wher
         omega arith,
         λ (other : Owner).
             ended_more (T + 1) other (es ++ line)
-                (event_if (is_somebody r && tick.ended) (End (tick.move.world.tick + 1) who))
+            (event_if (is_somebody r && tick.ended) (End (tick.move.world.tick + 1) who))
             ∙ or_from (has_ended (T + 1) other (es ++ line))
-                (has_ended (T + 1) other (event_if (is_somebody r && tick.ended) (End (tick.move.world.tick + 1) who)))
+            (has_ended (T + 1) other (event_if (is_somebody r && tick.ended) (End (tick.move.world.tick + 1) who)))
             (ended_same (T + 1) other es line quiet ∙ later_too T other es (p.late other))
             (early_end (T + 1) (tick.move.world.tick + 1) other who (is_somebody r && tick.ended) (omega arith)),
       ))
@@ -234,7 +234,7 @@ module _ (c : ConfigParts) (s : ScriptParts) (rules : IsConfig c) where
       (λ on.
       let ds = es ++ m.events in
       let told = led_on (Told c s rules T) Anything es m on
-          (opening_leads c s (λ _. Told c s rules T) Anything (opening_told c s rules T) w es p) in
+      (opening_leads c s (λ _. Told c s rules T) Anything (opening_told c s rules T) w es p) in
       let placed = led_on (Alone (Placed c 1)) Anything es m on (opening_placed c s rules w es h) in
       let ahead = led_on (Alone (Ahead c 1)) Anything es m on (opening_ahead c s rules w es a) in
       let next = step c s m.world in
@@ -252,15 +252,20 @@ module _ (c : ConfigParts) (s : ScriptParts) (rules : IsConfig c) where
 
   pub told_at : (n : ℕ) → GoesOnBefore c s n → Told c s rules n (world_at c s n) (events_before c s n)
   unfolding world_at events_before instant_at
-  told_at zero g = record { tick = refl; started = omega arith; late = λ who. refl; seen =
-      λ place l. absurd (omega arith) }
+  told_at zero g = record {
+    tick = refl;
+    started = omega arith;
+    late = λ who. refl;
+    seen =
+        λ place l. absurd (omega arith);
+  }
   told_at (suc n) g =
       let z : n + 1 ≡ suc n = omega arith in
       let h : GoesOnBefore c s n = λ k l. g k (omega arith) in
       subst (λ (j : ℕ). Told c s rules j (world_at c s (suc n)) (events_before c s (suc n))) z
       (led_on (Told c s rules (n + 1)) Anything (events_before c s n) (instant c s (world_at c s n)) (g n (omega arith))
-          (instant_told n (world_at c s n) (events_before c s n) (placed_at c s rules n h) (ahead_at c s rules n h)
-          (told_at n h)))
+      (instant_told n (world_at c s n) (events_before c s n) (placed_at c s rules n h) (ahead_at c s rules n h)
+      (told_at n h)))
 
   -- nothing is left of an activation exactly where its task has an end among the events so far
   pub ends_are_seen : (n : ℕ) → GoesOnBefore c s n → (is_due : Point → Bool)
@@ -270,14 +275,14 @@ module _ (c : ConfigParts) (s : ScriptParts) (rules : IsConfig c) where
       let entry = (placed_at c s rules n g).entries i l in
       (told_at n g).seen i l
       ∙ ap (λ (j : ℕ). has_ended (w.start + (row_of (mode_of c w) j).offset) (owner.Task (row_of (mode_of c w) j).task)
-          (events_before c s n)) entry
+      (events_before c s n)) entry
 
   -- at each instant the checks at the present offset are those of the rows whose points are this offset, read from the
   -- events so far
   pub checks_at : (n : ℕ) → GoesOnBefore c s n → let w = world_at c s n in
       (checked w.tick (mode_of c w) (is_at (offset_of w)) w.jobs).events ≡ checked_rows
-          (events_before c s n) w.tick w.start (mode_of c w) (is_at (offset_of w)) (mode_of c w).activations
+      (events_before c s n) w.tick w.start (mode_of c w) (is_at (offset_of w)) (mode_of c w).activations
   checks_at n g =
       let w = world_at c s n in
       checks_at_offset c rules w (events_before c s n) (placed_at c s rules n g)
-          (ends_are_seen n g (is_at (offset_of w)))
+      (ends_are_seen n g (is_at (offset_of w)))

@@ -1,7 +1,7 @@
 -- The ends that are seen, after a tick.
-use Rattle.std.proofs.Common.{ℕ, ◌≡◌, ◌≢◌, ◌<◌, ◌+◌, ◌-◌, List, [], ◌∷◌, ◌++◌, Bool, true, false, Option, Some, refl, ap, sym, ◌∙◌, subst, arith, length, ⊎_elim}
+use Rattle.std.proofs.Common.{ℕ, ◌≡◌, ◌≢◌, ◌<◌, ◌+◌, ◌-◌, List, ◌++◌, Bool, true, false, Option, Some, refl, ap, sym, ◌∙◌, subst, arith, length, ⊎_elim}
 use Rattle.std.specs.Prelude.{◌&&◌, ◌||◌, ◌==◌}
-use Rattle.std.proofs.lemmas.Bool.{cond_both, cases_Bool, cases_eq, eqb-true}
+use Rattle.std.proofs.lemmas.Bool.{cases_Bool, cases_eq, eqb-true}
 use Rattle.std.proofs.lemmas.List.{length-set}
 use Rattle.tt_base.specs.declared.number.TaskNo.{TaskNo}
 use Rattle.tt_base.specs.declared.event.Event.{Event}
@@ -10,49 +10,46 @@ use Rattle.tt_base.specs.declared.event.Owner.{Owner}
 use Rattle.tt_base.specs.declared.event.Owner.TheVariants as owner
 use Rattle.task_lang.specs.declared.syntax.Stmt.{Stmt}
 use Rattle.task_lang.specs.declared.tick.Effect.{Effect}
-use Rattle.task_lang.specs.declared.tick.Effect.TheVariants as effect
 use Rattle.tt_world.specs.declared.config.Activation.{Activation as ActivationRow}
 use Rattle.tt_world.specs.declared.config.ConfigParts.{ConfigParts}
 use Rattle.tt_world.specs.declared.script.ScriptParts.{ScriptParts}
 use Rattle.tt_world.specs.declared.world.Runner.{Runner}
 use Rattle.tt_world.specs.declared.world.Runner.TheVariants as runner
 use Rattle.tt_world.specs.World.{World, Job}
-use Rattle.tt_world.specs.Moved.{Moved, is_over, preceded, event_if}
+use Rattle.tt_world.specs.Moved.{is_over, preceded, event_if}
 use Rattle.tt_world.specs.Rows.{mode_at, mode_of, row_of}
-use Rattle.tt_world.specs.Runners.{job_at, is_done, with_left, left_of, leaving, runner_of, owner_of, same_owner}
-use Rattle.tt_world.specs.Services.{service, is_shutdown}
+use Rattle.tt_world.specs.Runners.{job_at, is_done, with_left, left_of, runner_of, owner_of, same_owner}
 use Rattle.tt_world.specs.Step.{state_after, effected, runner_tick, is_somebody, run_line, tick_over, step}
 use Rattle.tt_world.specs.Readings.{has_ended}
 use Rattle.tt_world.specs.RunLaws.{AreTasksSingle}
 use Rattle.tt_world.proofs.Parts.{Anything, LeadsTo, followed_at}
 use Rattle.tt_world.proofs.JobLists.{at_set, at_other}
 use Rattle.tt_world.proofs.TaskAccounts.{Says, runner_says, last_found_at}
-use Rattle.tt_world.proofs.Emits.{Of, OfHooks, all_more, event_if_all, shuts_down_all}
+use Rattle.tt_world.proofs.Emits.{Of, OfHooks, all_more, event_if_all, effected_all}
 use Rattle.tt_world.proofs.Fates.{Mid, effected_mid}
 use Rattle.tt_world.proofs.Places.{Placed}
 use Rattle.tt_world.proofs.EndsSeen.{NoEnd, ended_more, ended_same, other_end, own_end, ActTick, act_tick}
-use Rattle.tt_world.specs.declared.world.RunEnd.TheVariants as ending
 
 -- of each activation of a round: nothing is left of it exactly where its task has an end later than its offset
 abbrev pub Seen : ConfigParts → (start number : ℕ) → List Job → List Event → Type 0
 Seen c start number acts es =
     (place : ℕ) → place < length acts
     → is_done (job_at acts place).left ≡ has_ended
-        (start + (row_of (mode_at c number) (job_at acts place).entry).offset)
-        (owner.Task (row_of (mode_at c number) (job_at acts place).entry).task) es
+    (start + (row_of (mode_at c number) (job_at acts place).entry).offset)
+    (owner.Task (row_of (mode_at c number) (job_at acts place).entry).task) es
 
 pub seen_same : (c : ConfigParts) (w v : World) (es : List Event) → v.start ≡ w.start → v.mode ≡ w.mode
     → v.jobs ≡ w.jobs → Seen c w.start w.mode.0 w.jobs es → Seen c v.start v.mode.0 v.jobs es
 seen_same c w v es a b d p =
     subst (λ (x : ℕ). Seen c x v.mode.0 v.jobs es) (sym a)
     (subst (λ m. Seen c w.start m.0 v.jobs es) (sym b)
-        (subst (λ (xs : List Job). Seen c w.start w.mode.0 xs es) (sym d) p))
+    (subst (λ (xs : List Job). Seen c w.start w.mode.0 xs es) (sym d) p))
 
 pub seen_more : (c : ConfigParts) (start number : ℕ) (acts : List Job) (es fs : List Event) → Of NoEnd fs
     → Seen c start number acts es → Seen c start number acts (es ++ fs)
 seen_more c start number acts es fs q p place l =
     let row = row_of (mode_at c number) (job_at acts place).entry in
-        p place l ∙ sym (ended_same (start + row.offset) (owner.Task row.task) es fs q)
+    p place l ∙ sym (ended_same (start + row.offset) (owner.Task row.task) es fs q)
 
 pub no_end_hooks : OfHooks NoEnd
 no_end_hooks = record { error = λ _ _. refl; out = λ _ _ _. refl; hook = λ _. refl; shutdown = λ _. refl }
@@ -64,13 +61,7 @@ or_none false e b = refl
 module _ (c : ConfigParts) (s : ScriptParts) where
   pub effected_no_end : (r : Runner) (who : Owner) (effects : List Effect) (left : List Stmt) (w : World)
       → Of NoEnd (effected c s r who effects left w).move.events
-  effected_no_end r who [] left w = tt
-  effected_no_end r who (effect.Out value ∷ rest) left w = (refl, tt)
-  effected_no_end r who (effect.Service k ∷ rest) left w =
-      let answer = service c s r k left w in
-      cond_both (is_shutdown k) _ _ (λ (m : Moved). Of NoEnd m.events)
-          (λ _. (refl, shuts_down_all NoEnd no_end_hooks c (Some ending.Shutdown) (leaving answer.world r answer.left)))
-          (λ _. (refl, tt))
+  effected_no_end r who effects left w = effected_all NoEnd no_end_hooks c s (λ _ _ _ _. refl) r who effects left w
 
   abbrev ActOf : Runner → World → World → Bool → Type 0
   ActOf (runner.Job q) w v ended = ActTick c s q w v ended
@@ -96,9 +87,9 @@ module _ (c : ConfigParts) (s : ScriptParts) where
       let row = row_of (mode_at c w.mode.0) (job_at w.jobs place).entry in
       let from = w.start + row.offset in
       p place l ∙ sym (ended_more from (owner.Task row.task) es (event_if b (End at who))
-          ∙ ap (λ (e : Bool). has_ended from (owner.Task row.task) es || e)
-          (other_end from at (owner.Task row.task) who b (n row.task))
-          ∙ or_false (has_ended from (owner.Task row.task) es)))
+      ∙ ap (λ (e : Bool). has_ended from (owner.Task row.task) es || e)
+      (other_end from at (owner.Task row.task) who b (n row.task))
+      ∙ or_false (has_ended from (owner.Task row.task) es)))
     where
       or_false : (a : Bool) → a || false ≡ a
       or_false true = refl
@@ -109,20 +100,20 @@ module _ (c : ConfigParts) (s : ScriptParts) where
       → AreTasksSingle c w → q < length w.jobs → is_done (job_at w.jobs q).left ≡ false → ended ≡ is_done after
       → Seen c w.start w.mode.0 w.jobs es
       → Seen c w.start w.mode.0 (with_left w.jobs q after)
-          (es ++ event_if ended (End (w.tick + 1) (owner.Task (row_of (mode_of c w) (job_at w.jobs q).entry).task)))
+      (es ++ event_if ended (End (w.tick + 1) (owner.Task (row_of (mode_of c w) (job_at w.jobs q).entry).task)))
   act_seen w es q after ended h one within undone ends p place l =
       let xs = w.jobs in
       let mode = mode_of c w in
       let fs = event_if ended (End (w.tick + 1) (owner.Task (row_of mode (job_at xs q).entry).task)) in
       let Goal : Job → Type 0 = λ (i : Job). is_done i.left ≡ has_ended (w.start + (row_of mode i.entry).offset)
-          (owner.Task (row_of mode i.entry).task) (es ++ fs) in
+      (owner.Task (row_of mode i.entry).task) (es ++ fs) in
       let n = length-set xs q (record { entry = (job_at xs q).entry; left = after }) in
       let long : place < length xs = omega arith in
       ⊎_elim
       (λ (e : place ≡ q).
       let y : Job = record { entry = (job_at xs q).entry; left = after } in
       let at : job_at (with_left xs q after) place ≡ y = ap (job_at (with_left xs q after)) e
-          ∙ at_set xs q after within in
+      ∙ at_set xs q after within in
       subst Goal (sym at) here)
       (λ (ne : place ≢ q). subst Goal (sym (at_other xs q place after ne)) (there place long ne))
       (cases_eq place q)
@@ -145,7 +136,7 @@ module _ (c : ConfigParts) (s : ScriptParts) where
           let who = owner.Task row_q.task in
           let not_yet : has_ended from who es ≡ false = sym (p q within) ∙ undone in
           sym (ended_more from who es (event_if ended (End (w.tick + 1) who))
-              ∙ or_none (has_ended from who es) not_yet (has_ended from who (event_if ended (End (w.tick + 1) who)))
+          ∙ or_none (has_ended from who es) not_yet (has_ended from who (event_if ended (End (w.tick + 1) who)))
           ∙ by_end ended ∙ ends)
         where
           by_end : (b : Bool) → has_ended (w.start + row_q.offset) (owner.Task row_q.task)
@@ -155,9 +146,9 @@ module _ (c : ConfigParts) (s : ScriptParts) where
 
       there : (place : ℕ) → place < length w.jobs → place ≢ q
           → is_done (job_at w.jobs place).left ≡ has_ended
-              (w.start + (row_of (mode_of c w) (job_at w.jobs place).entry).offset)
-              (owner.Task (row_of (mode_of c w) (job_at w.jobs place).entry).task)
-              (es ++ event_if ended (End (w.tick + 1) (owner.Task row_q.task)))
+          (w.start + (row_of (mode_of c w) (job_at w.jobs place).entry).offset)
+          (owner.Task (row_of (mode_of c w) (job_at w.jobs place).entry).task)
+          (es ++ event_if ended (End (w.tick + 1) (owner.Task row_q.task)))
       there place long ne =
           let row = row_of (mode_of c w) (job_at w.jobs place).entry in
           let from = w.start + row.offset in
@@ -167,17 +158,17 @@ module _ (c : ConfigParts) (s : ScriptParts) where
           let more = ended_more from who es fs in
           ⊎_elim
           (λ (d : is_done (job_at w.jobs place).left ≡ true). d
-              ∙ sym (more ∙ ap (λ (b : Bool). b || has_ended from who fs) (sym known ∙ d)))
+          ∙ sym (more ∙ ap (λ (b : Bool). b || has_ended from who fs) (sym known ∙ d)))
           (λ (d : is_done (job_at w.jobs place).left ≡ false).
           let others : same_owner who (owner.Task row_q.task) ≡ false =
           ⊎_elim
           (λ (t : (row.task.0 == row_q.task.0) ≡ true).
           absurd
-              (ne (one place q (record { within = long; undone = d }) (record { within = within; undone = undone })
-              (ap (λ (n : ℕ). record { 0 = n }) (eqb-true row.task.0 row_q.task.0 t)))))
+          (ne (one place q (record { within = long; undone = d }) (record { within = within; undone = undone })
+          (ap (λ (n : ℕ). record { 0 = n }) (eqb-true row.task.0 row_q.task.0 t)))))
           (λ (t : (row.task.0 == row_q.task.0) ≡ false). t) (cases_Bool (row.task.0 == row_q.task.0)) in
           d ∙ sym (more ∙ or_none (has_ended from who es) (sym known ∙ d) (has_ended from who fs)
-              ∙ other_end from (w.tick + 1) who (owner.Task row_q.task) ended others))
+          ∙ other_end from (w.tick + 1) who (owner.Task row_q.task) ended others))
           (cases_Bool (is_done (job_at w.jobs place).left))
 
   tick_seen : (w : World) (r : Runner) (v : World) (ended : Bool) (es : List Event) (last : Option Owner)
@@ -199,9 +190,9 @@ module _ (c : ConfigParts) (s : ScriptParts) where
       let u : World = record w { jobs = with_left w.jobs q k.after } in
       seen_same c u v (es ++ event_if ended (End (v.tick + 1) who)) m.start m.mode k.acts
       (subst (λ (t : ℕ). Seen c w.start w.mode.0 (with_left w.jobs q k.after) (es ++ event_if ended (End (t + 1) who)))
-          (sym m.tick)
+      (sym m.tick)
       (act_seen w es q k.after ended h one (let i = found.within in omega arith)
-          (subst (λ (j : ℕ). is_done (job_at w.jobs j).left ≡ false) z found.undone) k.ends p))
+      (subst (λ (j : ℕ). is_done (job_at w.jobs j).left ≡ false) z found.undone) k.ends p))
 
   -- a tick keeps the ends that are seen
   pub step_seen : (w : World) (es : List Event) → Placed c 1 w → AreTasksSingle c w → Seen c w.start w.mode.0 w.jobs es
@@ -215,11 +206,11 @@ module _ (c : ConfigParts) (s : ScriptParts) where
       let tick = runner_tick c s r who w in
       let line = run_line w who ++ tick.move.events in
       followed_at (λ v fs. Seen c v.start v.mode.0 v.jobs fs) Anything es (preceded (run_line w who) tick.move)
-          (tick_over who (is_somebody r && tick.ended))
+      (tick_over who (is_somebody r && tick.ended))
       (λ over. tt)
       (λ on. tick_seen w r tick.move.world tick.ended (es ++ line) (Some who) (runner_says c w)
-          (effected_mid c s r who state.effects state.left w v refl refl refl refl on)
-          (act_of r who state.effects state.left w v refl on) h one
+      (effected_mid c s r who state.effects state.left w v refl refl refl refl on)
+      (act_of r who state.effects state.left w v refl on) h one
       (seen_more c w.start w.mode.0 w.jobs es line
-          (all_more NoEnd (run_line w who) tick.move.events (event_if_all NoEnd _ (Run w.tick who) refl)
-          (effected_no_end r who state.effects state.left v)) p))
+      (all_more NoEnd (run_line w who) tick.move.events (event_if_all NoEnd _ (Run w.tick who) refl)
+      (effected_no_end r who state.effects state.left v)) p))

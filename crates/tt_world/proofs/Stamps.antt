@@ -1,12 +1,12 @@
 -- The stamps of an instant's events, and that an opening never ends the run as a ttShutdownOS does.
-use Rattle.std.proofs.Common.{ℕ, ◌≡◌, ◌≤◌, ◌+◌, ◌-◌, List, [], ◌∷◌, ◌++◌, Bool, true, false, Option, None, Some, refl, ap, sym, ◌∙◌, subst, eqb, arith, append-nil, ⊎_elim}
+use Rattle.std.proofs.Common.{ℕ, ◌≡◌, ◌≤◌, ◌+◌, ◌-◌, List, [], ◌∷◌, ◌++◌, Bool, true, false, Option, None, Some, refl, ap, sym, ◌∙◌, subst, eqb, arith, append-nil, append_assoc, ⊎_elim}
 use Rattle.std.specs.Prelude.{ℤ, cond, ◌==◌, ◌&&◌, not, nat_le, filter}
 use Rattle.std.specs.List.{list_any}
 use Rattle.std.proofs.lemmas.Bool.{cond_both, cases_Bool, false≢true, le-leb, lt-leb}
 use Rattle.std.proofs.lemmas.List.Elements.{filter-append}
 use Rattle.tt_base.specs.declared.number.TaskNo.{TaskNo}
 use Rattle.tt_base.specs.declared.event.Event.{Event}
-use Rattle.tt_base.specs.declared.event.Event.TheVariants.{Round, Check, Accept, Activate, Run, End, Shutdown, Stop}
+use Rattle.tt_base.specs.declared.event.Event.TheVariants.{Round, Check, Accept, Activate, Run, End, Called, ErrorHook, ShutdownHook, Shutdown, Stop}
 use Rattle.tt_base.specs.declared.event.Owner.{Owner}
 use Rattle.tt_base.specs.declared.event.Owner.TheVariants as owner
 use Rattle.task_lang.specs.declared.syntax.Stmt.{Stmt, out-Stmt}
@@ -33,7 +33,7 @@ use Rattle.tt_world.specs.Opening.{checks, activated, activation, opening}
 use Rattle.tt_world.specs.Runners.{is_done, left_of, leaving, runner_of, owner_of, ran_before}
 use Rattle.tt_world.specs.Services.{service, is_shutdown}
 use Rattle.tt_world.specs.Step.{effected, state_after, runner_tick, step, run_line, tick_over, is_somebody}
-use Rattle.tt_world.specs.Status.{stamp_of, status_of, Done, Shut as ShutAt}
+use Rattle.tt_world.specs.Status.{stamp_of, status_of, status_by, last_event, IsLastEvent, Done, Missed as MissedAt, Shut as ShutAt}
 use Rattle.tt_world.proofs.Parts.{OfRun, OfEnd, OpeningKeeps, LeadsTo, Leads, followed_leads, still_leads, chain_each, opening_leads}
 use Rattle.tt_world.proofs.Keeps.{service_answers}
 use Rattle.tt_world.proofs.Emits.{Of, all_more, event_if_all}
@@ -95,32 +95,37 @@ unfolding outs_of
 outs_at at hook vars [] = tt
 outs_at at hook vars (stmt ∷ rest) =
     all_more (IsAt at) (outs_by at hook vars (out-Stmt stmt)) (outs_of at hook (vars_by vars (out-Stmt stmt)) rest)
-        (outs_by_at at hook vars (out-Stmt stmt)) (outs_at at hook (vars_by vars (out-Stmt stmt)) rest)
+    (outs_by_at at hook vars (out-Stmt stmt)) (outs_at at hook (vars_by vars (out-Stmt stmt)) rest)
 
 shuts_at : (c : ConfigParts) (end : Outcome) (w : World) → Of (IsAt w.tick) (shuts_down c end w).events
-shuts_at c end w =
-    (refl, all_more (IsAt w.tick) (outs_of w.tick owner.ShutdownHook w.vars c.shutdown_hook) (Shutdown w.tick ∷ [])
-        (outs_at w.tick owner.ShutdownHook w.vars c.shutdown_hook) (refl, tt))
+shuts_at c end w = (
+  refl,
+  all_more (IsAt w.tick) (outs_of w.tick owner.ShutdownHook w.vars c.shutdown_hook) (Shutdown w.tick ∷ [])
+      (outs_at w.tick owner.ShutdownHook w.vars c.shutdown_hook) (refl, tt),
+)
 
 misses_at : (c : ConfigParts) (task : TaskNo) (w : World) → Of (IsAt w.tick) (misses c task w).events
 misses_at c task w =
-    let v = record w { vars = vars_after w.vars c.error_hook } in
-    (refl, all_more (IsAt w.tick) (outs_of w.tick owner.ErrorHook w.vars c.error_hook)
-        (shuts_down c (Some (ending.Missed task)) v).events (outs_at w.tick owner.ErrorHook w.vars c.error_hook)
-        (shuts_at c (Some (ending.Missed task)) v))
+    let v = record w { vars = vars_after w.vars c.error_hook } in (
+      refl,
+      all_more (IsAt w.tick) (outs_of w.tick owner.ErrorHook w.vars c.error_hook)
+          (shuts_down c (Some (ending.Missed task)) v).events (outs_at w.tick owner.ErrorHook w.vars c.error_hook)
+          (shuts_at c (Some (ending.Missed task)) v),
+    )
 
 -- ---- checks
 
-abbrev OnMissed : Option TaskNo → List Event → Type 0
-OnMissed None es = Of Mute es
-OnMissed (Some task) es = (rest : List Event) → NoShut (es ++ rest)
+abbrev OnMissed : ℕ → Option TaskNo → List Event → Type 0
+OnMissed at None es = Of Mute es
+OnMissed at (Some task) es = (rest : List Event) → status_of (es ++ rest) ≡ MissedAt task at
 
-more_missed : (o : Option TaskNo) (e : Event) (es : List Event) → tells e ≡ false → OnMissed o es → OnMissed o (e ∷ es)
-more_missed None e es n p = (n, p)
-more_missed (Some task) e es n p = λ rest u q. p rest u (sym (mute_head e (es ++ rest) n) ∙ q)
+more_missed : (at : ℕ) (o : Option TaskNo) (e : Event) (es : List Event) → tells e ≡ false → OnMissed at o es
+    → OnMissed at o (e ∷ es)
+more_missed at None e es n p = (n, p)
+more_missed at (Some task) e es n p = λ rest. mute_head e (es ++ rest) n ∙ p rest
 
 abbrev Told : ℕ → Checked → Type 0
-Told at all = Of (IsAt at) all.events × OnMissed all.missed all.events
+Told at all = Of (IsAt at) all.events × OnMissed at all.missed all.events
 
 if_told : (at : ℕ) (due : Bool) (check others : Checked) → Told at check → Told at others
     → Told at (check_if due check others)
@@ -129,8 +134,11 @@ if_told at false check others a b = b
 
 then_told : (at : ℕ) (task : TaskNo) (met : Bool) (others : Checked) → Told at others
     → Told at (check_then at task met others)
-then_told at task true others p = ((refl, p.0), more_missed others.missed (Check at task true) others.events refl p.1)
-then_told at task false others p = ((refl, tt), λ rest u q. cc)
+then_told at task true others p = (
+  (refl, p.0),
+  more_missed at others.missed (Check at task true) others.events refl p.1,
+)
+then_told at task false others p = ((refl, tt), λ rest. refl)
 
 checked_told : (at : ℕ) (mode : ModeDef) (is_due : Point → Bool) (xs : List Job) → Told at (checked at mode is_due xs)
 unfolding checked
@@ -138,7 +146,7 @@ checked_told at mode is_due [] = (tt, tt)
 checked_told at mode is_due (x ∷ xs) =
     let rest = checked_told at mode is_due xs in
     if_told at (is_due (point_of mode (row_of mode x.entry))) _ (checked at mode is_due xs)
-        (then_told at _ (is_done x.left) _ rest) rest
+    (then_told at _ (is_done x.left) _ rest) rest
 
 -- the checks of a tick have its stamp
 pub checked_at : (at : ℕ) (mode : ModeDef) (is_due : Point → Bool) (xs : List Job)
@@ -172,12 +180,35 @@ unfolding outs_of
 outs_still at hook vars [] = tt
 outs_still at hook vars (stmt ∷ rest) =
     all_more (StillAt at) (outs_by at hook vars (out-Stmt stmt)) (outs_of at hook (vars_by vars (out-Stmt stmt)) rest)
-        (outs_by_still at hook vars (out-Stmt stmt)) (outs_still at hook (vars_by vars (out-Stmt stmt)) rest)
+    (outs_by_still at hook vars (out-Stmt stmt)) (outs_still at hook (vars_by vars (out-Stmt stmt)) rest)
 
 shuts_still : (c : ConfigParts) (end : Outcome) (w : World) → Of (StillAt w.tick) (shuts_down c end w).events
-shuts_still c end w =
-    ((refl, refl), all_more (StillAt w.tick) (outs_of w.tick owner.ShutdownHook w.vars c.shutdown_hook)
-        (Shutdown w.tick ∷ []) (outs_still w.tick owner.ShutdownHook w.vars c.shutdown_hook) ((refl, refl), tt))
+shuts_still c end w = (
+  (refl, refl),
+  all_more (StillAt w.tick) (outs_of w.tick owner.ShutdownHook w.vars c.shutdown_hook)
+      (Shutdown w.tick ∷ []) (outs_still w.tick owner.ShutdownHook w.vars c.shutdown_hook) ((refl, refl), tt),
+)
+
+-- ---- the last event
+
+-- these events say that the run has ended so at a tick
+abbrev pub EndsAs : Outcome → ℕ → List Event → Type 0
+EndsAs None T es = Unit {0}
+EndsAs (Some end) T es = (status_of es ≡ status_by end T) × IsLastEvent (last_event end T) es
+
+pub last_more : (xs es : List Event) (e : Event) → IsLastEvent e es → IsLastEvent e (xs ++ es)
+last_more xs es e p = (xs ++ p.0, ap (λ (ys : List Event). xs ++ ys) p.1 ∙ sym (append_assoc xs p.0 (e ∷ [])))
+
+pub shuts_last : (c : ConfigParts) (end : Outcome) (w : World)
+    → IsLastEvent (Shutdown w.tick) (shuts_down c end w).events
+shuts_last c end w = (ShutdownHook w.tick ∷ outs_of w.tick owner.ShutdownHook w.vars c.shutdown_hook, refl)
+
+misses_last : (c : ConfigParts) (task : TaskNo) (w : World) → IsLastEvent (Shutdown w.tick) (misses c task w).events
+misses_last c task w =
+    let v = record w { vars = vars_after w.vars c.error_hook } in
+    last_more (ErrorHook w.tick task ∷ outs_of w.tick owner.ErrorHook w.vars c.error_hook)
+    (shuts_down c (Some (ending.Missed task)) v).events (Shutdown w.tick)
+    (shuts_last c (Some (ending.Missed task)) v)
 
 -- ---- each part
 
@@ -187,7 +218,7 @@ module _ (c : ConfigParts) (s : ScriptParts) (T : ℕ) where
   AtTick w es = (w.tick ≡ T) × Of (MuteAt T) es
 
   abbrev pub EndsAtTick : OfEnd
-  EndsAtTick end w es = Of (IsAt T) es × NoShut es
+  EndsAtTick end w es = Of (IsAt T) es × NoShut es × EndsAs end T es
 
   at_of : (es : List Event) → Of (MuteAt T) es → Of (IsAt T) es
   at_of es p = each_of (MuteAt T) (IsAt T) (λ e q. q.0) es p
@@ -196,14 +227,21 @@ module _ (c : ConfigParts) (s : ScriptParts) (T : ℕ) where
   mute_of es p = each_of (MuteAt T) Mute (λ e q. q.1) es p
 
   after_told : (fs : List Event) (missed : Option TaskNo) (w : World) (es : List Event) → AtTick w es → Of (IsAt T) fs
-      → OnMissed missed fs → LeadsTo AtTick EndsAtTick es (after_checks c fs missed w)
+      → OnMissed w.tick missed fs → LeadsTo AtTick EndsAtTick es (after_checks c fs missed w)
   after_told fs None w es p a m = (p.0, all_more (MuteAt T) es fs p.1 (both_of (IsAt T) Mute fs a m))
-  after_told fs (Some task) w es p a m = (
-    all_more (IsAt T) es (fs ++ (misses c task w).events) (at_of es p.1)
-        (all_more (IsAt T) fs (misses c task w).events a
-        (subst (λ (t : ℕ). Of (IsAt t) (misses c task w).events) p.0 (misses_at c task w))),
-    λ u q. m (misses c task w).events u (sym (status_after es (fs ++ (misses c task w).events) (mute_of es p.1)) ∙ q),
-  )
+  after_told fs (Some task) w es p a m =
+      let more = fs ++ (misses c task w).events in
+      let is : status_of (es ++ more) ≡ MissedAt task w.tick = status_after es more (mute_of es p.1)
+      ∙ m (misses c task w).events in (
+        all_more (IsAt T) es more (at_of es p.1) (all_more (IsAt T) fs (misses c task w).events a
+            (subst (λ (t : ℕ). Of (IsAt t) (misses c task w).events) p.0 (misses_at c task w))),
+        λ u q. let z : MissedAt task w.tick ≡ ShutAt u = sym is ∙ q in cc,
+        subst (λ (t : ℕ). EndsAs (Some (ending.Missed task)) t (es ++ more)) p.0 (
+          is,
+          last_more es more (Shutdown w.tick)
+              (last_more fs (misses c task w).events (Shutdown w.tick) (misses_last c task w)),
+        ),
+      )
 
   monitored_at : (is_due : Point → Bool) → Leads AtTick AtTick EndsAtTick (monitored c is_due)
   monitored_at is_due w es p =
@@ -220,15 +258,19 @@ module _ (c : ConfigParts) (s : ScriptParts) (T : ℕ) where
   latch_at w es p =
       cond_both (eqb (offset_of w) (c.round - c.adjust)) _ _ (LeadsTo AtTick EndsAtTick es)
       (λ _. (p.0, all_more (MuteAt T) es _ p.1 (event_if_all (MuteAt T) (not (is_no_change w.pending)) _ (p.0, refl))))
-          (λ _. still_leads AtTick EndsAtTick es w p)
+      (λ _. still_leads AtTick EndsAtTick es w p)
 
   next_round_at : Leads AtTick AtTick EndsAtTick (next_round s)
   unfolding next_round
   next_round_at w es p =
       cond_both (eqb w.number s.rounds) _ _ (LeadsTo AtTick EndsAtTick es)
-      (λ _. let all = one w es _ refl refl p in
-          (at_of _ all, λ u q. let z : Done ≡ ShutAt u = sym (status_after es (Stop w.tick ∷ []) (mute_of es p.1))
-          ∙ q in cc))
+      (λ _.
+      let all = one w es _ refl refl p in
+      let is : status_of (es ++ Stop w.tick ∷ []) ≡ Done = status_after es (Stop w.tick ∷ []) (mute_of es p.1) in (
+        at_of _ all,
+        λ u q. let z : Done ≡ ShutAt u = sym is ∙ q in cc,
+        subst (λ (t : ℕ). EndsAs (Some ending.LastRound) t (es ++ Stop w.tick ∷ [])) p.0 (is, (es, refl)),
+      ))
       (λ _. (p.0, one w es _ refl refl p))
 
   round_end_at : Leads AtTick AtTick EndsAtTick (round_end c s)
@@ -236,7 +278,7 @@ module _ (c : ConfigParts) (s : ScriptParts) (T : ℕ) where
   round_end_at w es p =
       cond_both (is_length w.latched (offset_of w)) _ _ (LeadsTo AtTick EndsAtTick es)
       (λ _. followed_leads AtTick AtTick EndsAtTick es (monitored c (is_at_end (offset_of w)) w) (next_round s)
-          (monitored_at _ w es p) next_round_at)
+      (monitored_at _ w es p) next_round_at)
       (λ _. still_leads AtTick EndsAtTick es w p)
 
   head_at : (w : World) (es : List Event) → w.tick ≡ 0 → AtTick w es → LeadsTo AtTick EndsAtTick es (head s w)
@@ -257,7 +299,7 @@ module _ (c : ConfigParts) (s : ScriptParts) (T : ℕ) where
   unfolding arrival
   arrival_at source w es p =
       cond_both (list_any (λ (tick : ℕ). tick == w.tick) (arrivals_of s source)) _ _ (LeadsTo AtTick EndsAtTick es)
-          (λ _. arrived_at (is_held w source) source w es p) (λ _. still_leads AtTick EndsAtTick es w p)
+      (λ _. arrived_at (is_held w source) source w es p) (λ _. still_leads AtTick EndsAtTick es w p)
 
   acceptance_at : (source : Source) → Leads AtTick AtTick EndsAtTick (acceptance c source)
   unfolding acceptance
@@ -292,7 +334,7 @@ module _ (c : ConfigParts) (s : ScriptParts) (T : ℕ) where
 
 -- ---- the tick
 
-leaving_tick : (x : World) (r : Runner) (after : List Stmt) → (leaving x r after).tick ≡ x.tick
+pub leaving_tick : (x : World) (r : Runner) (after : List Stmt) → (leaving x r after).tick ≡ x.tick
 leaving_tick x (runner.Isr i) after = refl
 leaving_tick x (runner.Job q) after = refl
 leaving_tick x (runner.Oisr i) after = refl
@@ -314,12 +356,18 @@ serves_effect c s r who (effect.Service k ∷ rest) left v =
     let answer = service c s r k left v in
     let u = leaving answer.world r answer.left in
     let tick : u.tick ≡ v.tick = leaving_tick answer.world r answer.left
-        ∙ ap (λ (x : World). x.tick) (service_answers c s r k left v).world.is in
+    ∙ ap (λ (x : World). x.tick) (service_answers c s r k left v).world.is in
     cond_both (is_shutdown k) _ _ (Serves v.tick)
     (λ _.
-        record { still =
-        ((tick, refl), subst (λ (t : ℕ). Of (StillAt t) (shuts_down c (Some ending.Shutdown) u).events) tick
-        (shuts_still c (Some ending.Shutdown) u)); tick = tick; mute = λ e. cc })
+    record {
+      still = (
+        (tick, refl),
+        subst (λ (t : ℕ). Of (StillAt t) (shuts_down c (Some ending.Shutdown) u).events) tick
+            (shuts_still c (Some ending.Shutdown) u),
+      );
+      tick = tick;
+      mute = λ e. cc;
+    })
     (λ _. record { still = ((tick, refl), tt); tick = tick; mute = λ _. (refl, tt) })
 
 pub followed_go : (m : Moved) (next : World → Moved) → is_over m.end ≡ false
@@ -338,7 +386,7 @@ all_seen t [] p = refl
 all_seen t (e ∷ es) p =
     let rest = filter (λ (event : Event). nat_le (stamp_of event) t) es in
     ap (λ (b : Bool). cond b (e ∷ rest) rest) (le-leb (stamp_of e) t p.0)
-        ∙ ap (λ (xs : List Event). e ∷ xs) (all_seen t es p.1)
+    ∙ ap (λ (xs : List Event). e ∷ xs) (all_seen t es p.1)
 
 pub none_seen : (t : ℕ) (es : List Event) → Of (λ e. t + 1 ≤ stamp_of e) es
     → filter (λ (event : Event). nat_le (stamp_of event) t) es ≡ []
@@ -360,7 +408,7 @@ pub record Reads (T : ℕ) (m : Moved) (now : List Event) : Type 0 where
 
 pub step_reads : (c : ConfigParts) (s : ScriptParts) (w : World)
     → Reads w.tick (step c s w) (run_line w (owner_of c w (runner_of c w))
-        ++ (runner_tick c s (runner_of c w) (owner_of c w (runner_of c w)) w).move.events)
+    ++ (runner_tick c s (runner_of c w) (owner_of c w (runner_of c w)) w).move.events)
 unfolding step
 step_reads c s w =
     let r = runner_of c w in
@@ -371,17 +419,17 @@ step_reads c s w =
     let line = run_line w who in
     let fs = tick.move.events in
     let serves = serves_effect c s r who state.effects state.left
-        (record w { vars = state.vars; cursors = state.cursors }) in
+    (record w { vars = state.vars; cursors = state.cursors }) in
     let first = preceded line tick.move in
     let now = line ++ fs in
     let next = tick_over who (is_somebody r && tick.ended) in
     let run = run_at w who in
     let at : Of (IsAt T) now = all_more (IsAt T) line fs (each_of (MuteAt T) (IsAt T) (λ e q. q.0) line run)
-        (each_of (StillAt T) (IsAt T) (λ e q. q.0) fs serves.still) in
+    (each_of (StillAt T) (IsAt T) (λ e q. q.0) fs serves.still) in
     let le : Of (λ e. stamp_of e ≤ T) now = each_of (IsAt T) (λ e. stamp_of e ≤ T) (λ e q. omega arith) now at in
     let ge : Of (λ e. T ≤ stamp_of e) now = each_of (IsAt T) (λ e. T ≤ stamp_of e) (λ e q. omega arith) now at in
     let lo : Of (λ e. stamp_of e ≤ T + 1) now =
-        each_of (IsAt T) (λ e. stamp_of e ≤ T + 1) (λ e q. omega arith) now at in
+    each_of (IsAt T) (λ e. stamp_of e ≤ T + 1) (λ e q. omega arith) now at in
     let all = all_seen T now le in
     ⊎_elim
     (λ (over : is_over tick.move.end ≡ true).
@@ -391,15 +439,15 @@ step_reads c s w =
     let end = event_if (is_somebody r && tick.ended) (End (tick.move.world.tick + 1) who) in
     let z = serves.tick in
     let later : Of (λ e. stamp_of e ≡ T + 1) end =
-        event_if_all (λ e. stamp_of e ≡ T + 1) (is_somebody r && tick.ended) (End (tick.move.world.tick + 1) who)
-        (ap (λ (t : ℕ). t + 1) z) in
+    event_if_all (λ e. stamp_of e ≡ T + 1) (is_somebody r && tick.ended) (End (tick.move.world.tick + 1) who)
+    (ap (λ (t : ℕ). t + 1) z) in
     subst (λ (m : Moved). Reads T m now) (sym (followed_go first next on))
     (record {
       seen = filter-append (λ (event : Event). nat_le (stamp_of event) T) now end
           ∙ ap (λ (xs : List Event). xs ++ filter (λ (event : Event). nat_le (stamp_of event) T) end) all
           ∙ ap (λ (xs : List Event). now ++ xs)
-              (none_seen T end (each_of (λ e. stamp_of e ≡ T + 1) (λ e. T + 1 ≤ stamp_of e)
-              (λ e q. omega arith) end later))
+          (none_seen T end (each_of (λ e. stamp_of e ≡ T + 1) (λ e. T + 1 ≤ stamp_of e)
+          (λ e q. omega arith) end later))
           ∙ append-nil now;
       low = all_more (λ e. T ≤ stamp_of e) now end ge
           (each_of (λ e. stamp_of e ≡ T + 1) (λ e. T ≤ stamp_of e) (λ e q. omega arith) end later);

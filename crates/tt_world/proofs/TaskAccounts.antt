@@ -92,9 +92,9 @@ Says xs r = last_unfinished 0 xs ≡ None
 
 says : (xs : List Job) (i t o k : Option ℕ) → last_unfinished 0 xs ≡ t
     → Says xs
-        (first_runner (option_map (λ (n : ℕ). runner.Isr (record { 0 = n })) i ∷ option_map
-        (λ (n : ℕ). runner.Job n) t ∷ option_map (λ (n : ℕ). runner.Oisr (record { 0 = n })) o ∷ option_map
-        (λ (n : ℕ). runner.Osek (record { 0 = n })) k ∷ []))
+    (first_runner (option_map (λ (n : ℕ). runner.Isr (record { 0 = n })) i ∷ option_map
+    (λ (n : ℕ). runner.Job n) t ∷ option_map (λ (n : ℕ). runner.Oisr (record { 0 = n })) o ∷ option_map
+    (λ (n : ℕ). runner.Osek (record { 0 = n })) k ∷ []))
 says xs (Some n) t o k e = tt
 says xs None (Some q) o k e = e
 says xs None None (Some n) k e = e
@@ -117,9 +117,9 @@ owed_less c w p q left le within less =
     let f : Job → ℕ = λ (job : Job). worst_in c.demands job.left in
     let qi : q ≡ p + (q - p) = omega arith in
     let cut : drop p (set xs q y) ≡ set (drop p xs) (q - p) y = ap (λ k. drop p (set xs k y)) qi
-        ∙ drop-set-add p xs (q - p) y in
+    ∙ drop-set-add p xs (q - p) y in
     let got : get_or (drop p xs) (q - p) no_job ≡ get_or xs q no_job = get_or-drop p xs (q - p) no_job
-        ∙ ap (λ k. get_or xs k no_job) (sym qi) in
+    ∙ ap (λ k. get_or xs k no_job) (sym qi) in
     let sums = sum_by-set f (drop p xs) (q - p) y no_job (let d = length-drop p xs in omega arith) in
     let f1 : sum_by f (drop p (set xs q y)) ≡ sum_by f (set (drop p xs) (q - p) y) = ap (sum_by f) cut in
     let f2 : f (get_or (drop p xs) (q - p) no_job) ≡ f (get_or xs q no_job) = ap f got in
@@ -143,7 +143,7 @@ taken_next test c s from T l =
     let a : (T + 1) - from ≡ suc (T - from) = omega arith in
     let b : from + (T - from) ≡ T = omega arith in
     ap (λ (k : ℕ). ticks_of test c s from k) a
-        ∙ ap (λ (n : ℕ). ticks_of test c s from (T - from) + (if test (runner_at c s n) then 1 else 0)) b
+    ∙ ap (λ (n : ℕ). ticks_of test c s from (T - from) + (if test (runner_at c s n) then 1 else 0)) b
 
 -- of an unfinished activation of a round that began at `start`, where the activations before N and the ticks before T
 -- have happened
@@ -165,7 +165,7 @@ pub record Tasks (c : ConfigParts) (s : ScriptParts) (N T : ℕ) (w : World) : T
 -- one more tick was taken by an activation or by a time-triggered routine, and what is owed got less by it
 owed_tick : (c : ConfigParts) (s : ScriptParts) (N T start : ℕ) (mode : ModeDef) (entry owed less : ℕ) → N ≤ T + 1
     → ((if is_task (runner_at c s T) then 1 else 0) + (if is_any_isr (runner_at c s T) then 1 else 0) ≡ 1)
-        → less + (if is_task (runner_at c s T) then 1 else 0) ≤ owed
+    → less + (if is_task (runner_at c s T) then 1 else 0) ≤ owed
     → Owed c s N T start mode entry owed → Owed c s N (T + 1) start mode entry less
 owed_tick c s N T start mode entry owed less n one l o =
     let from = start + (row_of mode entry).offset in
@@ -194,13 +194,18 @@ module _ (c : ConfigParts) (s : ScriptParts) (rules : IsConfig c) (bounds : Keep
       let lower = lowers_worst supply state keeps numbers (undone_some old u) in
       let range = keeps_numbers supply state keeps rules.mosts numbers in
       ⊎_elim
-      (λ (e : after ≡ (state_after c s w old).left).
-      (subst AreNumbersInRange (sym e) range, subst
-          (λ (x : List Stmt). worst_in c.demands x + 1 ≤ worst_in c.demands old) (sym e) lower))
+      (λ (e : after ≡ (state_after c s w old).left). (
+        subst AreNumbersInRange (sym e) range,
+        subst
+            (λ (x : List Stmt). worst_in c.demands x + 1 ≤ worst_in c.demands old) (sym e) lower,
+      ))
       (λ (o : (after ≡ []) ⊎ IsOsek (runner.Job q)).
       ⊎_elim
-      (λ (e : after ≡ []). (subst AreNumbersInRange (sym e) refl, subst
-          (λ (x : List Stmt). worst_in c.demands x + 1 ≤ worst_in c.demands old) (sym e) (omega arith)))
+      (λ (e : after ≡ []). (
+        subst AreNumbersInRange (sym e) refl,
+        subst
+            (λ (x : List Stmt). worst_in c.demands x + 1 ≤ worst_in c.demands old) (sym e) (omega arith),
+      ))
       (λ (o : IsOsek (runner.Job q)). absurd o) o)
       l
 
@@ -223,10 +228,10 @@ module _ (c : ConfigParts) (s : ScriptParts) (rules : IsConfig c) (bounds : Keep
         → IsLeftAfter c s w r after → Tasks c s N T w → runner_at c s T ≡ r → Tasks c s N (T + 1) (leaving w r after)
     one_isr w said (runner.Isr j) e after l t r =
         let one : ◌≡◌ {A = ℕ} ((if is_task (runner_at c s T) then 1 else 0) +
-            (if is_any_isr (runner_at c s T) then 1 else 0)) 1 =
-            ap (λ (x : Runner). (if is_task x then 1 else 0) + (if is_any_isr x then 1 else 0)) r in
+        (if is_any_isr (runner_at c s T) then 1 else 0)) 1 =
+        ap (λ (x : Runner). (if is_task x then 1 else 0) + (if is_any_isr x then 1 else 0)) r in
         let none : ◌≡◌ {A = ℕ} (if is_task (runner_at c s T) then 1 else 0) 0 =
-            ap {B = ℕ} (λ (x : Runner). if is_task x then 1 else 0) r in
+        ap {B = ℕ} (λ (x : Runner). if is_task x then 1 else 0) r in
         record {
           numbers = t.numbers;
           each = λ place i u. owed_tick c s N T w.start (mode_of c w) _ (owed_from c w place)
@@ -234,10 +239,10 @@ module _ (c : ConfigParts) (s : ScriptParts) (rules : IsConfig c) (bounds : Keep
         }
     one_isr w said (runner.Job q) e after l t r =
         let one : ◌≡◌ {A = ℕ} ((if is_task (runner_at c s T) then 1 else 0) +
-            (if is_any_isr (runner_at c s T) then 1 else 0)) 1 =
-            ap (λ (x : Runner). (if is_task x then 1 else 0) + (if is_any_isr x then 1 else 0)) r in
+        (if is_any_isr (runner_at c s T) then 1 else 0)) 1 =
+        ap (λ (x : Runner). (if is_task x then 1 else 0) + (if is_any_isr x then 1 else 0)) r in
         let some : ◌≡◌ {A = ℕ} (if is_task (runner_at c s T) then 1 else 0) 1 =
-            ap {B = ℕ} (λ (x : Runner). if is_task x then 1 else 0) r in
+        ap {B = ℕ} (λ (x : Runner). if is_task x then 1 else 0) r in
         let found = last_found_at w.jobs q (subst (Says w.jobs) e said) in
         let zero_less : q - 0 ≡ q = omega arith in
         let within : q < length w.jobs = let x = found.within in omega arith in
@@ -251,26 +256,38 @@ module _ (c : ConfigParts) (s : ScriptParts) (rules : IsConfig c) (bounds : Keep
               let late = found.after place here before in
               let owed = owed_less c w place q after (omega arith) within h.1 in
               subst (λ (entry : ℕ). Owed c s N (T + 1) w.start (mode_of c w) entry
-                  (owed_from c (leaving w (runner.Job q) after) place)) (sym (entry_of_set w.jobs q after place i))
+              (owed_from c (leaving w (runner.Job q) after) place)) (sym (entry_of_set w.jobs q after place i))
               (owed_tick c s N T w.start (mode_of c w) _ (owed_from c w place)
-                  (owed_from c (leaving w (runner.Job q) after) place) n one (omega arith) (t.each place here before));
+              (owed_from c (leaving w (runner.Job q) after) place) n one (omega arith) (t.each place here before));
         }
     one_isr w said (runner.Oisr o) e after l t r =
-        record { numbers = t.numbers; each =
-            λ place i u. absurd (none_found w.jobs (subst (Says w.jobs) e said) place i u) }
+        record {
+          numbers = t.numbers;
+          each =
+              λ place i u. absurd (none_found w.jobs (subst (Says w.jobs) e said) place i u);
+        }
     one_isr w said (runner.Osek o) e after l t r =
-        record { numbers = t.numbers; each =
-            λ place i u. absurd (none_found w.jobs (subst (Says w.jobs) e said) place i u) }
+        record {
+          numbers = t.numbers;
+          each =
+              λ place i u. absurd (none_found w.jobs (subst (Says w.jobs) e said) place i u);
+        }
     one_isr w said runner.Nobody e after l t r =
-        record { numbers = t.numbers; each =
-            λ place i u. absurd (none_found w.jobs (subst (Says w.jobs) e said) place i u) }
+        record {
+          numbers = t.numbers;
+          each =
+              λ place i u. absurd (none_found w.jobs (subst (Says w.jobs) e said) place i u);
+        }
 
     step_keeps : StepKeeps c s Old (New T) (New (T + 1))
     unfolding Old New
     step_keeps = record {
       left =
-          λ w after p l. (leaving_tick w (runner_of c w) after p.1.0, one_isr w (runner_says c w)
-          (runner_of c w) refl after l p.1.1 p.0);
+          λ w after p l. (
+            leaving_tick w (runner_of c w) after p.1.0,
+            one_isr w (runner_says c w)
+                (runner_of c w) refl after l p.1.1 p.0,
+          );
       free = λ w vars cursors wanted used oseks p. (p.0, record { numbers = p.1.numbers; each = p.1.each });
       synced = λ w global p. (p.0, record { numbers = p.1.numbers; each = p.1.each });
       over = λ w last p. (omega (arith, p.0), record { numbers = p.1.numbers; each = p.1.each });

@@ -61,10 +61,10 @@ demand_found : (c : ConfigParts) (mode : ModeDef) (from to n : ℕ) → from ≤
     (row_of mode n) ≤ tasks_demand c mode from (to + 1)
 demand_found c mode from to n l h e =
     sum_by-le_at (λ (x : Activation). cond {A = ℕ} (is_within from to x.offset) (task_budget c x) 0)
-        (λ (x : Activation). cond {A = ℕ} (is_within from (to + 1) x.offset) (task_budget c x) 0) mode.activations n
-        (task_budget c (row_of mode n)) no_row h
+    (λ (x : Activation). cond {A = ℕ} (is_within from (to + 1) x.offset) (task_budget c x) 0) mode.activations n
+    (task_budget c (row_of mode n)) no_row h
     (λ (x : Activation). within_more (task_budget c x) from to x.offset)
-        (within_here (task_budget c (row_of mode n)) from to (row_of mode n).offset e l)
+    (within_here (task_budget c (row_of mode n)) from to (row_of mode n).offset e l)
 
 module _ (c : ConfigParts) (s : ScriptParts) (rules : IsConfig c) (T : ℕ) where
   -- what is due up to tick N, at tick T
@@ -80,16 +80,16 @@ module _ (c : ConfigParts) (s : ScriptParts) (rules : IsConfig c) (T : ℕ) wher
   body_worst : (task : TaskNo) → worst_in c.demands (body_of c task) ≡ (get_or c.tasks task.0 no_task).budget
   body_worst task =
       ⊎_elim (λ (l : task.0 < length c.tasks). sym
-          (All-get_or (IsTask c) c.tasks task.0 no_task l rules.tasks).routine.worst)
+      (All-get_or (IsTask c) c.tasks task.0 no_task l rules.tasks).routine.worst)
       (λ (g : length c.tasks ≤ task.0). rw (get_or_past c.tasks task.0 no_task g) refl)
-          (cases_lt task.0 (length c.tasks))
+      (cases_lt task.0 (length c.tasks))
 
   body_numbers : (task : TaskNo) → AreNumbersInRange (body_of c task)
   body_numbers task =
       ⊎_elim (λ (l : task.0 < length c.tasks).
-          (All-get_or (IsTask c) c.tasks task.0 no_task l rules.tasks).routine.is_body.numbers)
+      (All-get_or (IsTask c) c.tasks task.0 no_task l rules.tasks).routine.is_body.numbers)
       (λ (g : length c.tasks ≤ task.0). rw (get_or_past c.tasks task.0 no_task g) refl)
-          (cases_lt task.0 (length c.tasks))
+      (cases_lt task.0 (length c.tasks))
 
   not_activated : (w : World) → At T w → At (T + 1) w
   unfolding At
@@ -106,7 +106,7 @@ module _ (c : ConfigParts) (s : ScriptParts) (rules : IsConfig c) (T : ℕ) wher
                 let begun = o.begun in
                 let tasks = o.tasks in
                 let more = demand_more c (mode_of c w) (row_of (mode_of c w) (job_at w.jobs place).entry).offset
-                    (T - w.start) in
+                (T - w.start) in
                 record { row = o.row; begun = omega arith; split = o.split; tasks = rw z (omega arith) };
           },
         ),
@@ -156,7 +156,7 @@ module _ (c : ConfigParts) (s : ScriptParts) (rules : IsConfig c) (T : ℕ) wher
         let more = demand_found c (mode_of c w) row.offset (T - w.start) entry (omega (arith, here)) within here in
         let sum = cut (length w.jobs) (omega arith) in
         let empty : sum_by f (drop (length w.jobs) w.jobs) ≡ 0 =
-            ap (sum_by f) (drop_all (length w.jobs) w.jobs (omega arith)) in
+        ap (sum_by f) (drop_all (length w.jobs) w.jobs (omega arith)) in
         let worst = body_worst row.task in
         record {
           row = within;
@@ -187,7 +187,7 @@ module _ (c : ConfigParts) (s : ScriptParts) (rules : IsConfig c) (T : ℕ) wher
               ⊎_elim
               (λ (l : place < length w.jobs).
               let same : get_or (w.jobs ++ y ∷ []) place no_job ≡ get_or w.jobs place no_job =
-                  get_or-append w.jobs (y ∷ []) no_job place l in
+              get_or-append w.jobs (y ∷ []) no_job place l in
               rw same (old_place place l (rw same at u)))
               (λ (g : length w.jobs ≤ place).
               let e : place ≡ length w.jobs = omega (arith, length-append w.jobs (y ∷ [])) in
@@ -207,7 +207,7 @@ module _ (c : ConfigParts) (s : ScriptParts) (rules : IsConfig c) (T : ℕ) wher
   unfolding latch At
   latch_tasks N w es p =
       cond_both (eqb (offset_of w) (c.round - c.adjust)) _ _ (Holds (At N) es)
-          (λ _. (p.0, (p.1.0, record { numbers = p.1.1.numbers; each = p.1.1.each }))) (λ _. p)
+      (λ _. (p.0, (p.1.0, record { numbers = p.1.1.numbers; each = p.1.1.each }))) (λ _. p)
 
   next_round_tasks : (N : ℕ) → Leads (Alone (At N)) (Alone (At N)) Anything (next_round s)
   unfolding next_round At
@@ -229,7 +229,7 @@ module _ (c : ConfigParts) (s : ScriptParts) (rules : IsConfig c) (T : ℕ) wher
   round_end_tasks N w es p =
       cond_both (is_length w.latched (offset_of w)) _ _ (Holds (At N) es)
       (λ _. followed_leads (Alone (At N)) (Alone (At N)) Anything es (monitored c (is_at_end (offset_of w)) w)
-          (next_round s) (monitored_holds (At N) c _ w es (λ _. p)) (next_round_tasks N))
+      (next_round s) (monitored_holds (At N) c _ w es (λ _. p)) (next_round_tasks N))
       (λ _. p)
 
   found_tasks : (found : Option ℕ) (w : World) (es : List Event)

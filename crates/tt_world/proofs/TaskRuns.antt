@@ -42,8 +42,13 @@ module _ (c : ConfigParts) (s : ScriptParts) (rules : IsConfig c) (bounds : Keep
       kept T w runner.Nobody after l = l
 
       keeps : StepKeeps c s (λ v. v.start ≤ T) (λ v. v.start ≤ T) (λ v. v.start ≤ T)
-      keeps = record { left = λ w after p _. kept T w (runner_of c w) after p; free = λ w _ _ _ _ _ p. p; synced =
-          λ w _ p. p; over = λ w _ p. p }
+      keeps = record {
+        left = λ w after p _. kept T w (runner_of c w) after p;
+        free = λ w _ _ _ _ _ p. p;
+        synced =
+            λ w _ p. p;
+        over = λ w _ p. p;
+      }
 
   pub instant_tasks : (T : ℕ) (es : List Event) → TasksAt c s T (world_at c s T)
       → Holds (TasksAt c s (T + 1)) es (instant c s (world_at c s T))
@@ -54,7 +59,7 @@ module _ (c : ConfigParts) (s : ScriptParts) (rules : IsConfig c) (bounds : Keep
       followed_at (Alone (TasksAt c s (T + 1))) Anything es o (step c s) (λ _. tt)
       (λ on.
       let q = led_on (Alone (λ v. (v.tick ≡ T) × ((v.start ≤ T) × Tasks c s (T + 1) T v))) Anything es o on
-          (opening_tasks c s rules T w es p) in
+      (opening_tasks c s rules T w es p) in
       leads_by (Alone (TasksAt c s (T + 1))) Anything (es ++ o.events) (step c s o.world)
       (λ e.
       let r = led_on (Alone (λ v. (v.tick ≡ T + 1) × Tasks c s (T + 1) (T + 1) v)) Anything [] (step c s o.world) e
@@ -72,7 +77,7 @@ module _ (c : ConfigParts) (s : ScriptParts) (rules : IsConfig c) (bounds : Keep
       let z : 0 + n ≡ n = omega arith in
       subst (λ (j : ℕ). TasksAt c s j (world_at c s j)) z
       (kept_from c s (λ k. Alone (TasksAt c s (0 + k))) Anything 0 (λ k _ p. each k p) first_tasks n
-          (λ k l. g k (omega arith)))
+      (λ k l. g k (omega arith)))
     where
       each : (k : ℕ) → TasksAt c s (0 + k) (world_at c s (0 + k))
           → LeadsTo (Alone (TasksAt c s (0 + (k + 1)))) Anything [] (instant c s (world_at c s (0 + k)))

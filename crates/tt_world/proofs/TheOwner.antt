@@ -75,7 +75,7 @@ top_step levels x xs None t = (
   ap (λ (b : Bool). b || mem x xs) (eq-eqb x x refl),
   λ m h.
       ⊎_elim (λ (e : (x == m) ≡ true). let z = ap (level levels) (eqb-true x m e) in omega arith)
-          (λ (e : mem m xs ≡ true). absurd (mem_none xs m t e)) (or_cases (x == m) (mem m xs) h),
+      (λ (e : mem m xs ≡ true). absurd (mem_none xs m t e)) (or_cases (x == m) (mem m xs) h),
 )
 top_step levels x xs (Some j) t =
     cond_both (nat_lt (level levels x) (level levels j)) j x (λ (k : ℕ). Top levels (x ∷ xs) (Some k))
@@ -84,14 +84,14 @@ top_step levels x xs (Some j) t =
       ap (λ (b : Bool). (x == j) || b) t.0 ∙ or_right (x == j),
       λ m h.
           ⊎_elim (λ (e : (x == m) ≡ true). let z = ap (level levels) (eqb-true x m e) in omega arith)
-              (λ (e : mem m xs ≡ true). t.1 m e) (or_cases (x == m) (mem m xs) h),
+          (λ (e : mem m xs ≡ true). t.1 m e) (or_cases (x == m) (mem m xs) h),
     ))
     (λ b.
     let more = ltb-false (level levels x) (level levels j) b in (
       ap (λ (b : Bool). b || mem x xs) (eq-eqb x x refl),
       λ m h.
           ⊎_elim (λ (e : (x == m) ≡ true). let z = ap (level levels) (eqb-true x m e) in omega arith)
-              (λ (e : mem m xs ≡ true). let l = t.1 m e in omega arith) (or_cases (x == m) (mem m xs) h),
+          (λ (e : mem m xs ≡ true). let l = t.1 m e in omega arith) (or_cases (x == m) (mem m xs) h),
     ))
   where
     or_right : (a : Bool) → a || true ≡ true
@@ -116,7 +116,7 @@ same_top levels xs ys k (Some j) same low distinct t u =
     let jl = low j (sym (same j) ∙ u.0) in
     ⊎_elim (λ (e : j ≡ k). ap Some e)
     (λ (o : (j < k) ⊎ (k < j)). ⊎_elim (λ (l : j < k). absurd (distinct_at levels j k distinct l kl (omega arith)))
-        (λ (l : k < j). absurd (distinct_at levels k j distinct l jl (omega arith))) o)
+    (λ (l : k < j). absurd (distinct_at levels k j distinct l jl (omega arith))) o)
     (cases_order j k)
 
 -- the unfinished ones are those with statements left
@@ -124,12 +124,12 @@ mem_unfinished : (lefts : List (List Stmt)) (n : ℕ) → mem n (unfinished left
 mem_unfinished lefts n =
     let test : ℕ → Bool = λ (number : ℕ). not (is_done (get_or lefts number [])) in
     any-filter_same (λ (m : ℕ). m == n) test (test n) (λ m e. ap test (eqb-true m n e))
-        (range_with_len 0 (length lefts))
+    (range_with_len 0 (length lefts))
     ∙ ⊎_elim
     (λ (l : n < length lefts).
     let z = length-range_with_len 0 (length lefts) in
     ap (λ (b : Bool). test n && b) (mem_at n (range_with_len 0 (length lefts)) n (omega arith)
-        (get_or-range_with_len 0 (length lefts) n 0 l ∙ omega arith)) ∙ and_true (test n))
+    (get_or-range_with_len 0 (length lefts) n 0 l ∙ omega arith)) ∙ and_true (test n))
     (λ (g : length lefts ≤ n).
     let z : test n ≡ false = ap (λ (ys : List Stmt). not (is_done ys)) (get_or_past lefts n [] g) in
     ap (λ (b : Bool). b && mem n (range_with_len 0 (length lefts))) z ∙ sym z)
@@ -146,8 +146,8 @@ none_open : (mode : ModeDef) (xs : List Job) → ((p : ℕ) → p < length xs �
 none_open mode [] h = refl
 none_open mode (x ∷ xs) h =
     ⊎_elim (λ (d : is_done x.left ≡ true). ap
-        (λ (b : Bool). cond b [] ((row_of mode x.entry).task ∷ []) ++ open_tasks mode xs) d
-        ∙ none_open mode xs (λ p l u. h (suc p) (omega arith) u))
+    (λ (b : Bool). cond b [] ((row_of mode x.entry).task ∷ []) ++ open_tasks mode xs) d
+    ∙ none_open mode xs (λ p l u. h (suc p) (omega arith) u))
     (λ (d : is_done x.left ≡ false). absurd (h 0 (omega arith) d)) (cases_Bool (is_done x.left))
 
 last_open : (mode : ModeDef) (xs : List Job) (q : ℕ) → q < length xs → is_done (job_at xs q).left ≡ false
@@ -158,12 +158,14 @@ last_open mode (x ∷ xs) zero l u h = (
   [],
   ap (λ (b : Bool). cond b [] ((row_of mode x.entry).task ∷ []) ++ open_tasks mode xs) u
       ∙ ap (λ ys. (row_of mode x.entry).task ∷ ys)
-          (none_open mode xs (λ p m v. let z = h (suc p) (omega arith) v in absurd (omega arith))),
+      (none_open mode xs (λ p m v. let z = h (suc p) (omega arith) v in absurd (omega arith))),
 )
 last_open mode (x ∷ xs) (suc q) l u h =
-    let r = last_open mode xs q (omega arith) u (λ p m v. let z = h (suc p) (omega arith) v in omega arith) in
-    (open_task mode x ++ r.0, ap (λ ys. open_task mode x ++ ys) r.1
-        ∙ sym (append_assoc (open_task mode x) r.0 ((row_of mode (job_at xs q).entry).task ∷ [])))
+    let r = last_open mode xs q (omega arith) u (λ p m v. let z = h (suc p) (omega arith) v in omega arith) in (
+      open_task mode x ++ r.0,
+      ap (λ ys. open_task mode x ++ ys) r.1
+          ∙ sym (append_assoc (open_task mode x) r.0 ((row_of mode (job_at xs q).entry).task ∷ [])),
+    )
 
 get_last : (before : List TaskNo) (t : TaskNo) → slice_get (before ++ t ∷ []) (length before) ≡ Some t
 get_last [] t = refl
@@ -202,25 +204,25 @@ module _ (c : ConfigParts) (rules : IsConfig c) (T now : ℕ) (w : World) (es : 
       let y = length-map c.isrs (λ (isr : IsrDef). isr.level) in
       ⊎_elim (λ (l : n < length w.isrs). omega arith)
       (λ (g : length w.isrs ≤ n). absurd
-          (false≢true (sym (ap (λ (ys : List Stmt). not (is_done ys)) (get_or_past w.isrs n [] g))
-          ∙ sym (mem_unfinished w.isrs n) ∙ e)))
+      (false≢true (sym (ap (λ (ys : List Stmt). not (is_done ys)) (get_or_past w.isrs n [] g))
+      ∙ sym (mem_unfinished w.isrs n) ∙ e)))
       (cases_lt n (length w.isrs))
 
   highest_isr : (k : ℕ) → highest (isr_levels c) (unfinished w.isrs) ≡ Some k
       → highest (isr_levels c) (map (λ (x : IsrNo). x.0) (isrs_of es)) ≡ Some k
   highest_isr k e =
       same_top (isr_levels c) (unfinished w.isrs)
-          (map (λ (x : IsrNo). x.0) (isrs_of es)) k _ same_isrs low_isrs rules.levels
+      (map (λ (x : IsrNo). x.0) (isrs_of es)) k _ same_isrs low_isrs rules.levels
       (subst (Top (isr_levels c) (unfinished w.isrs)) e (top_is (isr_levels c) (unfinished w.isrs)))
-          (top_is (isr_levels c) (map (λ (x : IsrNo). x.0) (isrs_of es)))
+      (top_is (isr_levels c) (map (λ (x : IsrNo). x.0) (isrs_of es)))
 
   no_isrs : highest (isr_levels c) (unfinished w.isrs) ≡ None → isrs_of es ≡ []
   unfolding Top
   no_isrs e =
       let none : unfinished w.isrs ≡ [] =
-          subst (Top (isr_levels c) (unfinished w.isrs)) e (top_is (isr_levels c) (unfinished w.isrs)) in
+      subst (Top (isr_levels c) (unfinished w.isrs)) e (top_is (isr_levels c) (unfinished w.isrs)) in
       none_has (isrs_of es) (λ n h. mem_none (unfinished w.isrs) n none
-          (sym (same_isrs n) ∙ has_mem n (isrs_of es) ∙ h))
+      (sym (same_isrs n) ∙ has_mem n (isrs_of es) ∙ h))
 
   no_tasks : ((p : ℕ) → p < length w.jobs → is_done (job_at w.jobs p).left ≡ false → ⊥) → tasks_of es ≡ []
   no_tasks h = f.1.tasks ∙ none_open (mode_of c w) w.jobs h
@@ -232,8 +234,8 @@ module _ (c : ConfigParts) (rules : IsConfig c) (T now : ℕ) (w : World) (es : 
       let last = last_found_at w.jobs q says in
       let z : q - 0 ≡ q = omega arith in
       let split = last_open (mode_of c w) w.jobs q (subst (λ (k : ℕ). k < length w.jobs) z last.within)
-          (subst (λ (k : ℕ). is_done (job_at w.jobs k).left ≡ false) z last.undone)
-          (λ p l u. let k = last.after p l u in omega arith) in
+      (subst (λ (k : ℕ). is_done (job_at w.jobs k).left ≡ false) z last.undone)
+      (λ p l u. let k = last.after p l u in omega arith) in
       (no_isrs (no_isr_runs c w (runner.Job q) refl e), ap last_of (f.1.tasks ∙ split.1) ∙ last_is split.0 _)
   owner_is (runner.Oisr i) e says =
       (no_isrs (no_isr_runs c w (runner.Oisr i) refl e), no_tasks (none_found w.jobs says))

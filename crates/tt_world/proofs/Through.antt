@@ -47,7 +47,7 @@ module _ (G : RoundStart → Event → Type 0) where
   until_through now [] p = tt
   until_through now (e ∷ es) p =
       until_next now (round_of e) e (until_round es) p.0
-          (λ n. until_through now es (subst (λ (o : Option RoundStart). Through G (or_round o now) es) n p.1))
+      (λ n. until_through now es (subst (λ (o : Option RoundStart). Through G (or_round o now) es) n p.1))
 
   if_round : (now : RoundStart) (o : Option RoundStart) (es : List Event) → Through G (or_round o now) es
       → IfSome o (λ round. Of (G round) (until_round es))
@@ -70,9 +70,11 @@ pub each_more : (P Q : RoundStart → List Event → Type 0)
     → ((round : RoundStart) (rest : List Event) → P round rest → Q round rest) → (es : List Event) → EachRound P es
     → EachRound Q es
 each_more P Q h [] p = tt
-each_more P Q h (e ∷ es) p =
-    (if_more (λ round. P round es) (λ round. Q round es) (round_of e)
-    (λ round x. h round es x) p.0, each_more P Q h es p.1)
+each_more P Q h (e ∷ es) p = (
+  if_more (λ round. P round es) (λ round. Q round es) (round_of e)
+      (λ round x. h round es x) p.0,
+  each_more P Q h es p.1,
+)
 
 -- an element of a list
 pub of_inner : (E : Event → Type 0) (before after : List Event) (e : Event) → Of E (before ++ e ∷ after) → E e

@@ -57,7 +57,7 @@ same_clock phase c s w v a b d e f t =
       stands =
           subst (λ (o : Option ℕ). Stands phase c o (v.tick - v.start)) (sym f)
           (subst (λ (x : ℕ). Stands phase c w.latched (x - v.start)) (sym a)
-              (subst (λ (x : ℕ). Stands phase c w.latched (w.tick - x)) (sym b) t.stands));
+          (subst (λ (x : ℕ). Stands phase c w.latched (w.tick - x)) (sym b) t.stands));
     }
 
 -- ---- corrections
@@ -69,7 +69,7 @@ neg_in_range (suc n) adjust l = omega arith
 pub correction_in_range : (round adjust offset global : ℕ) → IsInRange adjust (correction_of round adjust offset global)
 correction_in_range round adjust offset global =
     cond_both (nat_le (2 * ahead round offset global) round) _ _ (IsInRange adjust)
-        (λ _. neg_in_range _ adjust (omega arith)) (λ _. omega arith)
+    (λ _. neg_in_range _ adjust (omega arith)) (λ _. omega arith)
 
 corrected : (c : ConfigParts) (p : ℤ) → IsInRange c.adjust p → IsLength c (length_with c.round p)
 corrected c (pos ticks) h = (omega arith, omega arith)
@@ -93,10 +93,22 @@ module _ (c : ConfigParts) (s : ScriptParts) (bounded : IsBounded c s) where
       cond_both (eqb (offset_of w) (c.round - c.adjust)) _ _ (Holds (Timed Latched c s) es)
       (λ e.
       let length = corrected c w.pending t.pending in
-      record { started = t.started; early = t.early; within = t.within; pending = omega arith; stands =
-          (length, low_enough _ _ length (eqb-true _ _ e)) })
-      (λ e. record { started = t.started; early = t.early; within = t.within; pending = t.pending; stands =
-          unlatched w.latched _ e t.stands })
+      record {
+        started = t.started;
+        early = t.early;
+        within = t.within;
+        pending = omega arith;
+        stands =
+            (length, low_enough _ _ length (eqb-true _ _ e));
+      })
+      (λ e. record {
+        started = t.started;
+        early = t.early;
+        within = t.within;
+        pending = t.pending;
+        stands =
+            unlatched w.latched _ e t.stands;
+      })
 
   not_over : (latched : Option ℕ) (offset : ℕ) → is_length latched offset ≡ false → Stands Latched c latched offset
       → Stands Begun c latched offset
@@ -121,20 +133,32 @@ module _ (c : ConfigParts) (s : ScriptParts) (bounded : IsBounded c s) where
       let started = t.started in
       let early = t.early in
       let within = t.within in
-      record { started = omega arith; early = omega arith; within = omega arith; pending = t.pending; stands =
-          omega arith })
+      record {
+        started = omega arith;
+        early = omega arith;
+        within = omega arith;
+        pending = t.pending;
+        stands =
+            omega arith;
+      })
 
   pub round_end_timed : Leads (Alone (Timed Latched c s)) (Alone (Timed Begun c s)) Anything (round_end c s)
   unfolding round_end
   round_end_timed w es t =
       cond_both (is_length w.latched (offset_of w)) _ _ (Holds (Timed Begun c s) es)
       (λ e. followed_leads (λ v _. Timed Latched c s v × ((v.tick - v.start) ≤ c.round + c.adjust))
-          (Alone (Timed Begun c s)) Anything es (monitored c (is_at_end (offset_of w)) w) (next_round s)
+      (Alone (Timed Begun c s)) Anything es (monitored c (is_at_end (offset_of w)) w) (next_round s)
       (monitored_holds (λ v. Timed Latched c s v × ((v.tick - v.start) ≤ c.round + c.adjust)) c
-          (is_at_end (offset_of w)) w es (λ _. (t, reached w.latched _ e t.stands)))
+      (is_at_end (offset_of w)) w es (λ _. (t, reached w.latched _ e t.stands)))
       (λ v ds p. begun v ds p.0 p.1))
-      (λ e. record { started = t.started; early = t.early; within = t.within; pending = t.pending; stands =
-          not_over w.latched _ e t.stands })
+      (λ e. record {
+        started = t.started;
+        early = t.early;
+        within = t.within;
+        pending = t.pending;
+        stands =
+            not_over w.latched _ e t.stands;
+      })
 
   at_first : (latched : Option ℕ) (offset : ℕ) → offset ≡ 0 → Stands Before c latched offset
       → Stands Begun c latched offset
@@ -145,8 +169,14 @@ module _ (c : ConfigParts) (s : ScriptParts) (bounded : IsBounded c s) where
   head_timed : (w : World) (es : List Event) → w.tick ≡ 0 → Timed Before c s w → Holds (Timed Begun c s) es (head s w)
   unfolding head
   head_timed w es z t =
-      record { started = t.started; early = t.early; within = t.within; pending = t.pending; stands =
-          at_first w.latched _ (let l = t.started in omega arith) t.stands }
+      record {
+        started = t.started;
+        early = t.early;
+        within = t.within;
+        pending = t.pending;
+        stands =
+            at_first w.latched _ (let l = t.started in omega arith) t.stands;
+      }
 
   ignores : (phase : Phase) → IgnoresGates (Timed phase c s)
   ignores phase w enabled held oheld isrs oisrs t = same_clock phase c s w _ refl refl refl refl refl t
@@ -196,8 +226,14 @@ module _ (c : ConfigParts) (s : ScriptParts) (bounded : IsBounded c s) where
   step_keeps : StepKeeps c s (Timed Begun c s) (Timed Begun c s) (Timed Before c s)
   step_keeps = record {
     free = λ w vars cursors wanted used oseks t. same_clock Begun c s w _ refl refl refl refl refl t;
-    synced = λ w global t. record { started = t.started; early = t.early; within = t.within; pending =
-        correction_in_range c.round c.adjust (offset_of w) global; stands = t.stands };
+    synced = λ w global t. record {
+      started = t.started;
+      early = t.early;
+      within = t.within;
+      pending =
+          correction_in_range c.round c.adjust (offset_of w) global;
+      stands = t.stands;
+    };
     left = λ w after t _. left_timed w (runner_of c w) after t;
     over = λ w last t.
         let l = t.started in
@@ -214,7 +250,7 @@ module _ (c : ConfigParts) (s : ScriptParts) (bounded : IsBounded c s) where
   pub instant_timed : (w : World) (es : List Event) → Timed Before c s w → Holds (Timed Before c s) es (instant c s w)
   instant_timed w es t =
       instant_leads c s TimedAt Anything opening_keeps (Alone (Timed Before c s))
-          (step_holds c s (Timed Begun c s) (Timed Begun c s) (Timed Before c s) step_keeps) w es t
+      (step_holds c s (Timed Begun c s) (Timed Begun c s) (Timed Before c s) step_keeps) w es t
 
   pub opening_timed : (w : World) (es : List Event) → Timed Before c s w → Holds (Timed Begun c s) es (opening c s w)
   opening_timed w es t = opening_leads c s TimedAt Anything opening_keeps w es t
@@ -223,8 +259,14 @@ module _ (c : ConfigParts) (s : ScriptParts) (bounded : IsBounded c s) where
   unfolding world_at
   first_timed =
       let some = bounded.some_round in
-      record { started = omega arith; early = omega arith; within = omega arith; pending = omega arith; stands =
-          omega arith }
+      record {
+        started = omega arith;
+        early = omega arith;
+        within = omega arith;
+        pending = omega arith;
+        stands =
+            omega arith;
+      }
 
   pub timed_at : (n : ℕ) → GoesOnBefore c s n → Timed Before c s (world_at c s n)
   timed_at = kept_at c s (Timed Before c s) first_timed instant_timed

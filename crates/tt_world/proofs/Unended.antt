@@ -109,7 +109,8 @@ module _ (c : ConfigParts) (T now start mode : ℕ) (acts : List Job) (isrs : Li
   facts_plains es (e ∷ fs) n p = subst (Facts c T now start mode acts isrs held) (append_assoc es (e ∷ []) fs)
       (facts_plains (es ++ e ∷ []) fs n.1 (facts_plain es e n.0 p))
 
-some_undone : (body : List Stmt) → 1 ≤ length body → is_done body ≡ false
+-- of a body with a statement something is left
+pub some_undone : (body : List Stmt) → 1 ≤ length body → is_done body ≡ false
 some_undone [] l = absurd (omega arith)
 some_undone (x ∷ body) l = refl
 
@@ -141,10 +142,10 @@ module _ (c : ConfigParts) (s : ScriptParts) (rules : IsConfig c) (T : ℕ) wher
   monitored_facts is_due w es p =
       let all = checked w.tick (mode_of c w) is_due w.jobs in
       let at : Of (IsAt T) all.events = subst (λ (t : ℕ). Of (IsAt t) all.events) p.0
-          (checked_at w.tick (mode_of c w) is_due w.jobs) in
+      (checked_at w.tick (mode_of c w) is_due w.jobs) in
       after_facts all.events all.missed w es p
       (both_of (IsAt T) (λ e. is_plain e ≡ true) all.events at
-          (checked_all (λ e. is_plain e ≡ true) w.tick (mode_of c w) is_due w.jobs (λ _ _ _. refl)))
+      (checked_all (λ e. is_plain e ≡ true) w.tick (mode_of c w) is_due w.jobs (λ _ _ _. refl)))
 
   if_plain : (b : Bool) (e : Event) → PlainAt T e → Of (PlainAt T) (event_if b e)
   if_plain true e p = (p, tt)
@@ -154,8 +155,11 @@ module _ (c : ConfigParts) (s : ScriptParts) (rules : IsConfig c) (T : ℕ) wher
   unfolding latch
   latch_facts w es p =
       cond_both (eqb (offset_of w) (c.round - c.adjust)) _ _ (LeadsTo P Anything es)
-      (λ _. (p.0, facts_plains c T T w.start w.mode.0 w.jobs w.isrs (length w.isrs_held) es _
-          (if_plain (not (is_no_change w.pending)) _ (p.0, refl)) p.1))
+      (λ _. (
+        p.0,
+        facts_plains c T T w.start w.mode.0 w.jobs w.isrs (length w.isrs_held) es _
+            (if_plain (not (is_no_change w.pending)) _ (p.0, refl)) p.1,
+      ))
       (λ _. still_leads P Anything es w p)
 
   -- a round begins
@@ -184,7 +188,7 @@ module _ (c : ConfigParts) (s : ScriptParts) (rules : IsConfig c) (T : ℕ) wher
   round_end_facts w es p =
       cond_both (is_length w.latched (offset_of w)) _ _ (LeadsTo P Anything es)
       (λ _. followed_leads P P Anything es (monitored c (is_at_end (offset_of w)) w) (next_round s)
-          (monitored_facts _ w es p) next_round_facts)
+      (monitored_facts _ w es p) next_round_facts)
       (λ _. still_leads P Anything es w p)
 
   head_facts : (w : World) (es : List Event) → w.tick ≡ 0 → P w es → LeadsTo P Anything es (head s w)
@@ -228,30 +232,30 @@ module _ (c : ConfigParts) (s : ScriptParts) (rules : IsConfig c) (T : ℕ) wher
   unfolding arrival
   arrival_facts source w es p =
       cond_both (list_any (λ (tick : ℕ). tick == w.tick) (arrivals_of s source)) _ _ (LeadsTo P Anything es)
-          (λ _. arrived_facts (is_held w source) source w es p) (λ _. still_leads P Anything es w p)
+      (λ _. arrived_facts (is_held w source) source w es p) (λ _. still_leads P Anything es w p)
 
   -- an acceptance begins its routine
   accepted_facts : (i : IsrNo) (w : World) (es : List Event) → is_accepted w (IsrSource i) ≡ true → P w es
       → Facts c T T w.start w.mode.0 w.jobs (slice_set w.isrs i.0 (routine_of c (IsrSource i)))
-          (length (slice_set w.isrs_held i.0 false)) (es ++ Accept w.tick (owner.Isr i) ∷ [])
+      (length (slice_set w.isrs_held i.0 false)) (es ++ Accept w.tick (owner.Isr i) ∷ [])
   accepted_facts i w es a p =
       let t = p.0 in
       let f = p.1 in
       let body = routine_of c (IsrSource i) in
       let held : get_or w.isrs_held i.0 false ≡ true =
-          both_left (is_held w (IsrSource i))
-          (is_enabled w (IsrSource i) && is_done (left_of w (source_runner (IsrSource i)))) a in
+      both_left (is_held w (IsrSource i))
+      (is_enabled w (IsrSource i) && is_done (left_of w (source_runner (IsrSource i)))) a in
       let g = f.gates in
       let within : i.0 < length c.isrs =
       ⊎_elim (λ (l : i.0 < length w.isrs_held). omega (arith, l, g))
-          (λ (k : length w.isrs_held ≤ i.0). absurd (false≢true (sym (get_or_past w.isrs_held i.0 false k) ∙ held)))
-          (cases_lt i.0 (length w.isrs_held)) in
+      (λ (k : length w.isrs_held ≤ i.0). absurd (false≢true (sym (get_or_past w.isrs_held i.0 false k) ∙ held)))
+      (cases_lt i.0 (length w.isrs_held)) in
       let z = f.sized in
       let here : i.0 < length w.isrs = omega arith in
       let new : is_done body ≡ false = some_undone body
-          (All-get_or (IsIsr c) c.isrs i.0 no_isr within rules.isrs).routine.some in
+      (All-get_or (IsIsr c) c.isrs i.0 no_isr within rules.isrs).routine.some in
       let low : Of (λ e. stamp_of e ≤ w.tick) es =
-          each_of (λ e. stamp_of e ≤ T) (λ e. stamp_of e ≤ w.tick) (λ e l. omega arith) es f.stamps in
+      each_of (λ e. stamp_of e ≤ T) (λ e. stamp_of e ≤ w.tick) (λ e l. omega arith) es f.stamps in
       record {
         stamps = all_more (λ e. stamp_of e ≤ T) es (Accept w.tick (owner.Isr i) ∷ []) f.stamps (omega arith, tt);
         started = f.started;
@@ -260,19 +264,19 @@ module _ (c : ConfigParts) (s : ScriptParts) (rules : IsConfig c) (T : ℕ) wher
         tasks = tasks_accept es w.tick (owner.Isr i) ∙ f.tasks;
         runs = λ n.
             let said : has n (isrs_of (es ++ Accept w.tick (owner.Isr i) ∷ [])) ≡ (has n (isrs_of es) || (i.0 == n)) =
-                ap (has n) (isrs_accept es w.tick i low) ∙ has_more n (isrs_of es) i in
+            ap (has n) (isrs_accept es w.tick i low) ∙ has_more n (isrs_of es) i in
             ⊎_elim
             (λ (e : i.0 ≡ n).
             let is : get_or (slice_set w.isrs i.0 body) n [] ≡ body =
-                ap (λ (k : ℕ). get_or (slice_set w.isrs i.0 body) k []) (sym e)
-                ∙ get_or-set_same w.isrs i.0 body [] here in
+            ap (λ (k : ℕ). get_or (slice_set w.isrs i.0 body) k []) (sym e)
+            ∙ get_or-set_same w.isrs i.0 body [] here in
             said ∙ ap (λ (b : Bool). has n (isrs_of es) || b) (eq-eqb i.0 n e) ∙ or_right (has n (isrs_of es))
-                ∙ sym (ap (λ (xs : List Stmt). not (is_done xs)) is ∙ ap not new))
+            ∙ sym (ap (λ (xs : List Stmt). not (is_done xs)) is ∙ ap not new))
             (λ (e : i.0 ≢ n).
             let is : get_or (slice_set w.isrs i.0 body) n [] ≡ get_or w.isrs n [] =
-                get_or-set_other w.isrs i.0 n body [] (λ d. e (sym d)) in
+            get_or-set_other w.isrs i.0 n body [] (λ d. e (sym d)) in
             said ∙ ap (λ (b : Bool). has n (isrs_of es) || b) (ne_eqb i.0 n e) ∙ or_none (has n (isrs_of es)) ∙ f.runs n
-                ∙ sym (ap (λ (xs : List Stmt). not (is_done xs)) is))
+            ∙ sym (ap (λ (xs : List Stmt). not (is_done xs)) is))
             (cases_eq i.0 n);
         sized = length-set w.isrs i.0 body ∙ f.sized;
         gates = length-set w.isrs_held i.0 false ∙ f.gates;
@@ -290,21 +294,32 @@ module _ (c : ConfigParts) (s : ScriptParts) (rules : IsConfig c) (T : ℕ) wher
   -- a later instant
   later : (w : World) (es : List Event) → P w es → FactsOf c T (T + 1) w es
   later w es p =
-      let f = p.1 in
-      (p.0, record { stamps = f.stamps; started = f.started; rows = λ k l. let h = f.rows k l in let r = h.1 in
-          (h.0, omega arith); up = f.up; tasks = f.tasks; runs = f.runs; sized = f.sized; gates = f.gates })
+      let f = p.1 in (
+        p.0,
+        record {
+          stamps = f.stamps;
+          started = f.started;
+          rows = λ k l. let h = f.rows k l in let r = h.1 in
+              (h.0, omega arith);
+          up = f.up;
+          tasks = f.tasks;
+          runs = f.runs;
+          sized = f.sized;
+          gates = f.gates;
+        },
+      )
 
   row_task : (number entry : ℕ) → entry < length (mode_at c number).activations
       → is_done (body_of c (row_of (mode_at c number) entry).task) ≡ false
   row_task number entry l =
       let row = row_of (mode_at c number) entry in
       let h = list_all_get (is_activation c) (mode_at c number).activations entry no_row
-          (mode_rows c number rules).activations l in
+      (mode_rows c number rules).activations l in
       let within = ltb-true row.task.0 (length c.tasks)
-          (both_left (nat_lt row.task.0 (length c.tasks))
-          (nat_lt row.offset row.deadline && nat_le row.deadline (c.round - c.adjust)) h) in
+      (both_left (nat_lt row.task.0 (length c.tasks))
+      (nat_lt row.offset row.deadline && nat_le row.deadline (c.round - c.adjust)) h) in
       some_undone (body_of c row.task) (All-get_or
-          (IsTask c) c.tasks row.task.0 no_task within rules.tasks).routine.some
+      (IsTask c) c.tasks row.task.0 no_task within rules.tasks).routine.some
 
   activated_facts : (found : Option ℕ) (w : World) (es : List Event)
       → entry_at (offset_of w) (mode_of c w).activations ≡ found → P w es
@@ -322,9 +337,9 @@ module _ (c : ConfigParts) (s : ScriptParts) (rules : IsConfig c) (T : ℕ) wher
       let started = f.started in
       let n = length-append xs (y ∷ []) in
       let low : Of (λ d. stamp_of d ≤ w.tick) es =
-          each_of (λ d. stamp_of d ≤ T) (λ d. stamp_of d ≤ w.tick) (λ d l. omega arith) es f.stamps in
+      each_of (λ d. stamp_of d ≤ T) (λ d. stamp_of d ≤ w.tick) (λ d l. omega arith) es f.stamps in
       let new : open_task mode y ≡ task ∷ [] =
-          ap (λ (b : Bool). cond b [] (task ∷ [])) (row_task w.mode.0 entry found.0) in
+      ap (λ (b : Bool). cond b [] (task ∷ [])) (row_task w.mode.0 entry found.0) in
       let last : job_at (xs ++ y ∷ []) (length xs) ≡ y = get_or-append_seam xs y [] no_job in (
         p.0,
         record {
@@ -333,32 +348,32 @@ module _ (c : ConfigParts) (s : ScriptParts) (rules : IsConfig c) (T : ℕ) wher
           rows = λ k l.
               ⊎_elim
               (λ (old : IsOldPlace xs y k). subst
-                  (λ (x : Job). (x.entry < length mode.activations) × (w.start + (row_of mode x.entry).offset < T + 1))
-                  (sym old.1) (let h = f.rows k old.0 in let r = h.1 in (h.0, omega arith)))
+              (λ (x : Job). (x.entry < length mode.activations) × (w.start + (row_of mode x.entry).offset < T + 1))
+              (sym old.1) (let h = f.rows k old.0 in let r = h.1 in (h.0, omega arith)))
               (λ (fresh : IsNewPlace xs y k). subst
-                  (λ (x : Job). (x.entry < length mode.activations) × (w.start + (row_of mode x.entry).offset < T + 1))
-                  (sym fresh.1) (found.0, omega arith))
+              (λ (x : Job). (x.entry < length mode.activations) × (w.start + (row_of mode x.entry).offset < T + 1))
+              (sym fresh.1) (found.0, omega arith))
               (place_of_more xs y k l);
           up = λ i j k l.
               ⊎_elim
               (λ (old : IsOldPlace xs y j).
               let first = get_or-append xs (y ∷ []) no_job i (let o = old.0 in omega arith) in
               subst (λ (x : Job). (row_of mode x.entry).offset < (row_of mode (job_at (xs ++ y ∷ []) j).entry).offset)
-                  (sym first)
+              (sym first)
               (subst (λ (x : Job). (row_of mode (job_at xs i).entry).offset < (row_of mode x.entry).offset) (sym old.1)
-                  (f.up i j k old.0)))
+              (f.up i j k old.0)))
               (λ (fresh : IsNewPlace xs y j).
               let z = fresh.0 in
               let before : i < length xs = omega arith in
               let first = get_or-append xs (y ∷ []) no_job i before in
               subst (λ (x : Job). (row_of mode x.entry).offset < (row_of mode (job_at (xs ++ y ∷ []) j).entry).offset)
-                  (sym first)
+              (sym first)
               (subst (λ (x : Job). (row_of mode (job_at xs i).entry).offset < (row_of mode x.entry).offset)
-                  (sym fresh.1) (let h = (f.rows i before).1 in omega arith)))
+              (sym fresh.1) (let h = (f.rows i before).1 in omega arith)))
               (place_of_more xs y j l);
           tasks = tasks_activate es w.tick task low ∙ ap (λ (ys : List TaskNo). ys ++ task ∷ []) f.tasks
               ∙ sym (flat_map-append (open_task mode) xs (y ∷ [])
-                  ∙ ap (λ (ys : List TaskNo). open_tasks mode xs ++ (ys ++ [])) new);
+              ∙ ap (λ (ys : List TaskNo). open_tasks mode xs ++ (ys ++ [])) new);
           runs = λ k. ap (has k) (isrs_activate es w.tick task) ∙ f.runs k;
           sized = f.sized;
           gates = f.gates;

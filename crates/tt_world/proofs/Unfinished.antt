@@ -39,27 +39,27 @@ pub record Each (c : ConfigParts) (R : OfEntry) (at : ℕ) (w : World) : Type 0 
 abbrev pub SaidOfNew : ConfigParts → OfEntry → ℕ → Type 0
 SaidOfNew c R T =
     (start number entry : ℕ) → entry < length (mode_at c number).activations
-        → start + (row_of (mode_at c number) entry).offset ≡ T → R start (mode_at c number) entry
+    → start + (row_of (mode_at c number) entry).offset ≡ T → R start (mode_at c number) entry
 
 module _ (c : ConfigParts) (s : ScriptParts) (rules : IsConfig c) (R : OfEntry) (T : ℕ) where
   latch_each : Leads (Alone (Each c R T)) (Alone (Each c R T)) Anything (latch c)
   unfolding latch
   latch_each w es p =
       cond_both (eqb (offset_of w) (c.round - c.adjust)) _ _ (Holds (Each c R T) es)
-          (λ _. record { tick = p.tick; started = p.started; each = p.each }) (λ _. p)
+      (λ _. record { tick = p.tick; started = p.started; each = p.each }) (λ _. p)
 
   pub next_round_each : (w : World) (es : List Event) → w.tick ≡ T → Holds (Each c R T) es (next_round s w)
   unfolding next_round
   next_round_each w es t =
       cond_both (eqb w.number s.rounds) _ _ (Holds (Each c R T) es) (λ _. tt)
-          (λ _. record { tick = t; started = omega (arith, t); each = λ place l u. absurd (omega arith) })
+      (λ _. record { tick = t; started = omega (arith, t); each = λ place l u. absurd (omega arith) })
 
   round_end_each : Leads (Alone (Each c R T)) (Alone (Each c R T)) Anything (round_end c s)
   unfolding round_end
   round_end_each w es p =
       cond_both (is_length w.latched (offset_of w)) _ _ (Holds (Each c R T) es)
       (λ _. followed_leads (Alone (Each c R T)) (Alone (Each c R T)) Anything es
-          (monitored c (is_at_end (offset_of w)) w) (next_round s)
+      (monitored c (is_at_end (offset_of w)) w) (next_round s)
       (monitored_holds (Each c R T) c (is_at_end (offset_of w)) w es (λ _. p)) (λ v ds q. next_round_each v ds q.tick))
       (λ _. p)
 
@@ -83,10 +83,10 @@ module _ (c : ConfigParts) (s : ScriptParts) (rules : IsConfig c) (R : OfEntry) 
             ⊎_elim
             (λ (old : IsOldPlace w.jobs y place).
             subst (λ (x : Job). R w.start (mode_of c w) x.entry) (sym old.1)
-                (p.each place old.0 (sym (ap (λ (x : Job). is_done x.left) old.1) ∙ u)))
+            (p.each place old.0 (sym (ap (λ (x : Job). is_done x.left) old.1) ∙ u)))
             (λ (fresh : IsNewPlace w.jobs y place).
             subst (λ (x : Job). R w.start (mode_of c w) x.entry) (sym fresh.1)
-                (new w.start w.mode.0 entry found.0 (omega arith)))
+            (new w.start w.mode.0 entry found.0 (omega arith)))
             (place_of_more w.jobs y place l);
       }
 
@@ -112,8 +112,12 @@ module _ (c : ConfigParts) (s : ScriptParts) (rules : IsConfig c) (R : OfEntry) 
     free = λ w vars cursors wanted used oseks p. record { tick = p.tick; started = p.started; each = p.each };
     synced = λ w global p. record { tick = p.tick; started = p.started; each = p.each };
     left = λ w after p l. left_each w (runner_of c w) after p l;
-    over = λ w last p. record { tick = omega (arith, p.tick); started = let l = p.started in
-        omega arith; each = p.each };
+    over = λ w last p. record {
+      tick = omega (arith, p.tick);
+      started = let l = p.started in
+          omega arith;
+      each = p.each;
+    };
   }
 
   pub step_each : Leads (Alone (Each c R T)) (Alone (Each c R (T + 1))) Anything (step c s)

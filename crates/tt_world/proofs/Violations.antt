@@ -96,8 +96,8 @@ unfolding outs_of
 outs_are at hook vars [] = tt
 outs_are at hook vars (stmt ∷ rest) =
     all_more (IsOutOf hook at) (outs_by at hook vars (out-Stmt stmt))
-        (outs_of at hook (vars_by vars (out-Stmt stmt)) rest) (outs_by_are at hook vars (out-Stmt stmt))
-        (outs_are at hook (vars_by vars (out-Stmt stmt)) rest)
+    (outs_of at hook (vars_by vars (out-Stmt stmt)) rest) (outs_by_are at hook vars (out-Stmt stmt))
+    (outs_are at hook (vars_by vars (out-Stmt stmt)) rest)
 
 outs_plain : (at : ℕ) (hook : Owner) (es : List Event) → Of (IsOutOf hook at) es → Of IsPlain es
 outs_plain at hook [] p = tt
@@ -105,10 +105,12 @@ outs_plain at hook (e ∷ es) p = ((ap is_missed p.0.1, ap is_error p.0.1), outs
 
 shuts_plain : (c : ConfigParts) (end : _) (w : World) → Of IsPlain (shuts_down c end w).events
 shuts_plain c end w =
-    let outs = outs_of w.tick owner.ShutdownHook w.vars c.shutdown_hook in
-    ((refl, refl), all_more IsPlain outs (Shutdown w.tick ∷ [])
-        (outs_plain w.tick owner.ShutdownHook outs (outs_are w.tick owner.ShutdownHook w.vars c.shutdown_hook))
-        ((refl, refl), tt))
+    let outs = outs_of w.tick owner.ShutdownHook w.vars c.shutdown_hook in (
+      (refl, refl),
+      all_more IsPlain outs (Shutdown w.tick ∷ [])
+          (outs_plain w.tick owner.ShutdownHook outs (outs_are w.tick owner.ShutdownHook w.vars c.shutdown_hook))
+          ((refl, refl), tt),
+    )
 
 module _ (c : ConfigParts) (s : ScriptParts) where
   effected_plain : (r : Runner) (who : Owner) (effects : List Effect) (left : List Stmt) (w : World)
@@ -118,8 +120,8 @@ module _ (c : ConfigParts) (s : ScriptParts) where
   effected_plain r who (effect.Service k ∷ rest) left w =
       let answer = service c s r k left w in
       cond_both (is_shutdown k) _ _ (λ (m : Moved). Of IsPlain m.events)
-          (λ _. ((refl, refl), shuts_plain c (Some ending.Shutdown) (leaving answer.world r answer.left)))
-          (λ _. ((refl, refl), tt))
+      (λ _. ((refl, refl), shuts_plain c (Some ending.Shutdown) (leaving answer.world r answer.left)))
+      (λ _. ((refl, refl), tt))
 
   step_plain : (w : World) → Of IsPlain (step c s w).events
   unfolding step
@@ -129,7 +131,7 @@ module _ (c : ConfigParts) (s : ScriptParts) where
       let state = state_after c s w (left_of w r) in
       followed_all IsPlain (preceded (run_line w who) (runner_tick c s r who w).move) _
       (all_more IsPlain (run_line w who) (runner_tick c s r who w).move.events
-          (event_if_all IsPlain _ (Run w.tick who) (refl, refl)) (effected_plain r who state.effects state.left _))
+      (event_if_all IsPlain _ (Run w.tick who) (refl, refl)) (effected_plain r who state.effects state.left _))
       (λ v. event_if_all IsPlain _ (End (v.tick + 1) who) (refl, refl))
 
 -- ---- checks
@@ -163,18 +165,18 @@ checked_form at mode is_due [] = tt
 checked_form at mode is_due (x ∷ xs) =
     if_form at (is_due (point_of mode (row_of mode x.entry))) _ (checked at mode is_due xs)
     (then_form at (row_of mode x.entry).task (is_done x.left) (checked at mode is_due xs)
-        (checked_form at mode is_due xs)) (checked_form at mode is_due xs)
+    (checked_form at mode is_due xs)) (checked_form at mode is_due xs)
 
 -- all events of a run that a missed check ends
 pub record Violated (es : List Event) : Type 0 where
   pub at : ℕ
   pub task : TaskNo
   pub before : List Event
-  pub preceded : List Event
-  pub is : es ≡ before ++ Check at task false ∷ (ErrorHook at task ∷ preceded)
+  pub following : List Event
+  pub is : es ≡ before ++ Check at task false ∷ (ErrorHook at task ∷ following)
   pub plain : Of IsPlain before
-  pub after_plain : Of IsPlain preceded
-  pub follows : IsViolation at task (ErrorHook at task ∷ preceded)
+  pub following_plain : Of IsPlain following
+  pub follows : IsViolation at task (ErrorHook at task ∷ following)
 
 abbrev pub Plain : OfRun
 Plain w es = Of IsPlain es
@@ -194,18 +196,18 @@ module _ (c : ConfigParts) (s : ScriptParts) where
       let errors = outs_of w.tick owner.ErrorHook w.vars c.error_hook in
       let u = record w { vars = vars_after w.vars c.error_hook } in
       let outs = outs_of u.tick owner.ShutdownHook u.vars c.shutdown_hook in
-      let preceded = errors ++ (shuts_down c (Some (ending.Missed task)) u).events in
-      let rest = ErrorHook w.tick task ∷ preceded in
+      let following = errors ++ (shuts_down c (Some (ending.Missed task)) u).events in
+      let rest = ErrorHook w.tick task ∷ following in
       record {
         at = w.tick;
         task = task;
         before = es ++ k.0;
-        preceded = preceded;
+        following = following;
         is = ap (λ (xs : List Event). es ++ (xs ++ rest)) k.1
             ∙ ap (λ (xs : List Event). es ++ xs) (append_assoc k.0 (Check w.tick task false ∷ []) rest)
             ∙ sym (append_assoc es k.0 (Check w.tick task false ∷ rest));
         plain = all_more IsPlain es k.0 p k.2;
-        after_plain = all_more IsPlain errors (shuts_down c (Some (ending.Missed task)) u).events
+        following_plain = all_more IsPlain errors (shuts_down c (Some (ending.Missed task)) u).events
             (outs_plain w.tick owner.ErrorHook errors (outs_are w.tick owner.ErrorHook w.vars c.error_hook))
             (shuts_plain c (Some (ending.Missed task)) u);
         follows = record {
@@ -227,7 +229,7 @@ module _ (c : ConfigParts) (s : ScriptParts) where
   monitored_plain : (is_due : Point → Bool) → Leads Plain Plain PlainOr (monitored c is_due)
   monitored_plain is_due w es p =
       after_plain (checked w.tick (mode_of c w) is_due w.jobs).events
-          (checked w.tick (mode_of c w) is_due w.jobs).missed w es (checked_form w.tick (mode_of c w) is_due w.jobs) p
+      (checked w.tick (mode_of c w) is_due w.jobs).missed w es (checked_form w.tick (mode_of c w) is_due w.jobs) p
 
   checks_plain : Leads Plain Plain PlainOr (checks c)
   unfolding checks
@@ -238,9 +240,9 @@ module _ (c : ConfigParts) (s : ScriptParts) where
   round_end_plain w es p =
       cond_both (is_length w.latched (offset_of w)) _ _ (LeadsTo Plain PlainOr es)
       (λ _. followed_leads Plain Plain PlainOr es (monitored c (is_at_end (offset_of w)) w) (next_round s)
-          (monitored_plain (is_at_end (offset_of w)) w es p)
+      (monitored_plain (is_at_end (offset_of w)) w es p)
       (λ v ds q. plain_leads v ds (next_round s v) q
-          (next_round_all IsPlain s (λ _. (refl, refl)) (λ _ _ _. (refl, refl)) v)))
+      (next_round_all IsPlain s (λ _. (refl, refl)) (λ _ _ _. (refl, refl)) v)))
       (λ _. still_leads Plain PlainOr es w p)
 
   head_plain : (w : World) → Of IsPlain (head s w).events
@@ -306,29 +308,31 @@ ErrorHooks es = (before after : List Event) (at : ℕ) (task : TaskNo) → es �
 violation_from : (es : List Event) → Of IsPlain es ⊎ Violated es → Violations es
 violation_from es p before after at task e =
     ⊎_elim (λ (q : Of IsPlain es). absurd
-        (none_such is_missed es before after (Check at task false) (not_missed es q) refl e))
+    (none_such is_missed es before after (Check at task false) (not_missed es q) refl e))
     (λ (v : Violated es).
-    let rest = ErrorHook v.at v.task ∷ v.preceded in
+    let rest = ErrorHook v.at v.task ∷ v.following in
     let k = one_such is_missed v.before rest before after (Check v.at v.task false) (Check at task false)
-        (not_missed v.before v.plain) (refl, not_missed v.preceded v.after_plain) refl (sym v.is ∙ e) in
+    (not_missed v.before v.plain) (refl, not_missed v.following v.following_plain) refl (sym v.is ∙ e) in
     subst (IsViolation at task) k.2 (subst (λ (t : TaskNo). IsViolation at t rest)
-        (same_task v.at at v.task task false false k.1)
-        (subst (λ (x : ℕ). IsViolation x v.task rest) (same_at v.at at v.task task false false k.1) v.follows)))
+    (same_task v.at at v.task task false false k.1)
+    (subst (λ (x : ℕ). IsViolation x v.task rest) (same_at v.at at v.task task false false k.1) v.follows)))
     p
 
 hook_from : (es : List Event) → Of IsPlain es ⊎ Violated es → ErrorHooks es
 hook_from es p before after at task e =
     ⊎_elim (λ (q : Of IsPlain es). absurd
-        (none_such is_error es before after (ErrorHook at task) (not_error es q) refl e))
+    (none_such is_error es before after (ErrorHook at task) (not_error es q) refl e))
     (λ (v : Violated es).
     let front = v.before ++ Check v.at v.task false ∷ [] in
-    let is : es ≡ front ++ ErrorHook v.at v.task ∷ v.preceded = v.is
-        ∙ sym (append_assoc v.before (Check v.at v.task false ∷ []) (ErrorHook v.at v.task ∷ v.preceded)) in
-    let k = one_such is_error front v.preceded before after (ErrorHook v.at v.task) (ErrorHook at task)
-        (all_more (Not is_error) v.before _ (not_error v.before v.plain) (refl, tt))
-        (not_error v.preceded v.after_plain) refl (sym is ∙ e) in
-    (v.before, sym k.0 ∙ ap (λ (x : ℕ). v.before ++ Check x v.task false ∷ []) (hook_at v.at at v.task task k.1)
-        ∙ ap (λ (t : TaskNo). v.before ++ Check at t false ∷ []) (hook_task v.at at v.task task k.1)))
+    let is : es ≡ front ++ ErrorHook v.at v.task ∷ v.following = v.is
+    ∙ sym (append_assoc v.before (Check v.at v.task false ∷ []) (ErrorHook v.at v.task ∷ v.following)) in
+    let k = one_such is_error front v.following before after (ErrorHook v.at v.task) (ErrorHook at task)
+    (all_more (Not is_error) v.before _ (not_error v.before v.plain) (refl, tt))
+    (not_error v.following v.following_plain) refl (sym is ∙ e) in (
+      v.before,
+      sym k.0 ∙ ap (λ (x : ℕ). v.before ++ Check x v.task false ∷ []) (hook_at v.at at v.task task k.1)
+          ∙ ap (λ (t : TaskNo). v.before ++ Check at t false ∷ []) (hook_task v.at at v.task task k.1),
+    ))
     p
 
 -- what follows a missed check: the hooks, and nothing else

@@ -32,7 +32,7 @@ abbrev pub are_names_free : List NameEntry → Bool
 are_names_free [] = true
 are_names_free (entry ∷ rest) =
     not (is_reserved entry.name) && (not (list_any (λ (other : NameEntry). bytes_eq other.name entry.name) rest)
-        && are_names_free rest)
+    && are_names_free rest)
 
 -- there are as many names of each kind as things of that kind
 pub record AreAllNamed (c : ConfigParts) : Type 0 where

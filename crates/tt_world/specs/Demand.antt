@@ -44,7 +44,7 @@ isr_demand isr enables ticks = isr.budget * (2 + most_begins isr.distance enable
 abbrev pub isrs_demand : ConfigParts → ModeDef → (from to : ℕ) → ℕ
 isrs_demand c mode from to =
     sum_by (λ (number : ℕ). isr_demand (isr_of c number) (enables_in mode number from to) (to - from))
-        (range_with_len 0 (length c.isrs))
+    (range_with_len 0 (length c.isrs))
 
 -- the demand from an offset up to a later one
 unfoldable pub demand : ConfigParts → ModeDef → (from to : ℕ) → ℕ

@@ -54,7 +54,7 @@ is_activate event = false
 abbrev pub activates_below : List ActivationRow → (start offset : ℕ) → List Event
 activates_below rows start offset =
     map (λ (row : ActivationRow). Activate (start + row.offset) row.task)
-        (filter (λ (row : ActivationRow). nat_lt row.offset offset) rows)
+    (filter (λ (row : ActivationRow). nat_lt row.offset offset) rows)
 
 -- after the end of the last round: a ttShutdownOS ends a run after the activation of its tick
 abbrev pub after_end : Status → ℕ → ℕ
@@ -68,7 +68,7 @@ ActivatesRows c events =
     (λ round rest.
     filter is_activate (until_round rest)
     ≡ activates_below (mode_at c round.mode.0).activations round.start
-        (next_start (after_end (status_of events) (last_stamp events)) rest - round.start))
+    (next_start (after_end (status_of events) (last_stamp events)) rest - round.start))
     events
 
 -- ---- owners
@@ -97,7 +97,7 @@ unfoldable pub checked_rows : (seen : List Event) → (at start : ℕ) → ModeD
 checked_rows seen at start mode is_due [] = []
 checked_rows seen at start mode is_due (row ∷ rest) =
     check_row (is_due (point_of mode row)) (has_ended (start + row.offset) (owner.Task row.task) seen)
-        (checked_rows seen at start mode is_due rest)
+    (checked_rows seen at start mode is_due rest)
   where
     check_row : (due met : Bool) → List Event → List Event
     check_row false met others = others
@@ -113,19 +113,21 @@ abbrev pub HasChecks : ConfigParts → (events : List Event) → RoundStart → 
     → Type 0
 HasChecks c events round rest t is_due =
     let mode = mode_at c round.mode.0 in
-    filter (is_check_at t) (until_round rest) ≡ checked_rows
-        (seen_at t events) t round.start mode is_due mode.activations
+    filter (is_check_at t) (until_round rest)
+    ≡ checked_rows (seen_at t events) t round.start mode is_due mode.activations
 
 -- a round can have this length
 abbrev pub IsRoundLength : ConfigParts → ℕ → Type 0
 IsRoundLength c length = (c.round - c.adjust ≤ length) × (length ≤ c.round + c.adjust)
 
--- at the last tick of a round: the points that are not offsets of the round, where it ends by its length
+-- at the last tick of a round: the points that are not offsets of the round, where it ends by its length; and where a
+-- missed deadline or ttShutdownOS ends the run at an offset of the round, the points at this offset
 abbrev pub ChecksAtEnd : ConfigParts → (last : Bool) → Status → ((Point → Bool) → Type 0) → ℕ → Type 0
 ChecksAtEnd c false status Has length = Has (is_at_end length)
 ChecksAtEnd c true Done Has length = Has (is_at_end length)
 ChecksAtEnd c true (Shut tick) Has length = Has (is_at length)
-ChecksAtEnd c true (Missed task tick) Has length = Has (is_at length) ⊎ (IsRoundLength c length × Has (is_at_end length))
+ChecksAtEnd c true (Missed task tick) Has length =
+    ((length < c.round + c.adjust) × Has (is_at length)) ⊎ (IsRoundLength c length × Has (is_at_end length))
 
 -- an event of the body of a hook
 abbrev pub IsOutOf : Owner → ℕ → Event → Type 0
@@ -139,8 +141,8 @@ pub record IsViolation (at : ℕ) (task : TaskNo) (after : List Event) : Type 0 
   pub outs_are : All (IsOutOf owner.ShutdownHook at) outs
   pub is : after ≡ ErrorHook at task ∷ (errors ++ ShutdownHook at ∷ (outs ++ Shutdown at ∷ []))
 
--- each round has the checks of the points that it reaches, up to the first that is missed, and no others; a missed check is
--- followed by the hooks, and ttErrorHook is called right after a missed check alone
+-- each round has the checks of the points that it reaches, up to the first that is missed, and no others; a missed
+-- check is followed by the hooks, and ttErrorHook is called right after a missed check alone
 pub record ChecksMonitor (c : ConfigParts) (events : List Event) : Type 0 where
   pub checks : EachRound
       (λ round rest.
@@ -168,18 +170,6 @@ abbrev pub is_accept_of : Owner → Event → Bool
 is_accept_of who (Accept at source) = same_owner source who
 is_accept_of who event = false
 
-abbrev pub is_arrive_of : Owner → Event → Bool
-is_arrive_of who (Arrive at source) = same_owner source who
-is_arrive_of who event = false
-
-abbrev pub is_end_of : Owner → Event → Bool
-is_end_of who (End at source) = same_owner source who
-is_end_of who event = false
-
-abbrev pub is_enable_of : Owner → Event → Bool
-is_enable_of (owner.Isr isr) (Enable at other) = isr.0 == other.0
-is_enable_of who event = false
-
 -- whether a source is closed by an acceptance
 abbrev pub is_gated : Source → Bool
 is_gated (IsrSource isr) = true
@@ -193,13 +183,16 @@ pub record SourceSeen : Type 0 where
   pub accepted : Bool
   pub ended : Bool
   pub enabled : Bool
+  -- the stamp of the last one
+  pub at : ℕ
 
 abbrev pub nothing_seen : SourceSeen
-nothing_seen = record { waiting = 0; accepted = false; ended = false; enabled = false }
+nothing_seen = record { waiting = 0; accepted = false; ended = false; enabled = false; at = 0 }
 
 abbrev pub seen_next : Owner → SourceSeen → Event → SourceSeen
 seen_next who seen (Accept at source) =
-    cond (same_owner source who) (record { waiting = 0; accepted = true; ended = false; enabled = false }) seen
+    cond (same_owner source who) (record { waiting = 0; accepted = true; ended = false; enabled = false; at = at })
+    seen
 seen_next who seen (Arrive at source) = cond (same_owner source who) (record seen { waiting = seen.waiting + 1 }) seen
 seen_next who seen (End at source) = cond (same_owner source who) (record seen { ended = true }) seen
 seen_next (owner.Isr isr) seen (Enable at other) = cond (isr.0 == other.0) (record seen { enabled = true }) seen
@@ -210,17 +203,19 @@ source_seen who seen [] = seen
 source_seen who seen (event ∷ rest) = source_seen who (seen_next who seen event) rest
 
 -- between two acceptances, and before the first, there is exactly one arrival; between two there is an end, and an
--- enable too where
--- the source is time-triggered
+-- enable too where the source is time-triggered
 pub record IsAdmitted (source : Source) (seen : SourceSeen) : Type 0 where
   pub one : seen.waiting ≡ 1
   pub ended : seen.accepted ≡ true → seen.ended ≡ true
   pub enabled : seen.accepted ≡ true → is_gated source ≡ true → seen.enabled ≡ true
 
--- an interrupt that waits at a tick waits for the end of its routine, or for an enable
-abbrev pub WaitsFor : Source → SourceSeen → Type 0
-WaitsFor source seen =
-    ((seen.accepted ≡ true) × (seen.ended ≡ false))
+-- an interrupt that waits at a tick waits for the end of its routine, or for an enable: no End event stands after the
+-- last Accept event of the source or has a later stamp, or no Enable event stands after it
+abbrev pub WaitsFor : Source → (events : List Event) → Type 0
+WaitsFor source events =
+    let who = source_owner source in
+    let seen = source_seen who nothing_seen events in
+    ((seen.accepted ≡ true) × (seen.ended ≡ false) × (has_ended seen.at who events ≡ false))
     ⊎ ((is_gated source ≡ true) × (seen.accepted ≡ true) × (seen.enabled ≡ false))
 
 pub record SourceLaw (events : List Event) (source : Source) : Type 0 where
@@ -228,7 +223,7 @@ pub record SourceLaw (events : List Event) (source : Source) : Type 0 where
       → IsAdmitted source (source_seen (source_owner source) nothing_seen before)
   pub waits : (u : ℕ) → IsTaken events u
       → 1 ≤ (source_seen (source_owner source) nothing_seen (seen_at u events)).waiting
-      → WaitsFor source (source_seen (source_owner source) nothing_seen (seen_at u events))
+      → WaitsFor source (seen_at u events)
 
 abbrev pub InterruptsWait : ConfigParts → List Event → Type 0
 InterruptsWait c events = All (SourceLaw events) (sources c)

@@ -128,7 +128,7 @@ IsrIsBounded =
 abbrev pub HasEnd : List Event → TaskNo → (from deadline : ℕ) → Type 0
 HasEnd events task from deadline =
     (before after : List Event) × (at : ℕ) × (events ≡ before ++ End at (owner.Task task) ∷ after) × (from < at)
-        × (at ≤ deadline)
+    × (at ≤ deadline)
 
 -- a check that is missed
 abbrev pub is_missed : Event → Bool
@@ -151,7 +151,7 @@ pub record NoneMissed (c : ConfigParts) (events : List Event) : Type 0 where
   pub status : (task : TaskNo) (tick : ℕ) → status_of events ≡ Missed task tick → ⊥
   pub ends : EachRound
       (λ round rest. (before after : List Event) (at : ℕ) (task : TaskNo)
-          → until_round rest ≡ before ++ Activate at task ∷ after → EndsByDeadline c events round at task)
+      → until_round rest ≡ before ++ Activate at task ∷ after → EndsByDeadline c events round at task)
       events
 
 -- where the check says yes and the script keeps its bounds, no deadline is missed
@@ -188,11 +188,11 @@ pub record TaskAccount (c : ConfigParts) (s : ScriptParts) (w : World) (place : 
       let from = (row_of (mode_of c w) (job_at w.jobs place).entry).offset in
       let k = offset_of w - from in
       k ≡ ticks_of is_task c s (w.start + from) k + sum_by (λ (isr : ℕ). ticks_of (is_isr isr) c s (w.start + from) k)
-          (range_with_len 0 (length c.isrs))
+      (range_with_len 0 (length c.isrs))
   pub tasks :
       let from = (row_of (mode_of c w) (job_at w.jobs place).entry).offset in
       ticks_of is_task c s (w.start + from) (offset_of w - from) + owed_from c w place ≤ tasks_demand c
-          (mode_of c w) from (offset_of w)
+      (mode_of c w) from (offset_of w)
 
 abbrev pub HasTaskAccounts : ConfigParts → ScriptParts → World → Type 0
 HasTaskAccounts c s w = (place : ℕ) → IsUnfinished w place → TaskAccount c s w place

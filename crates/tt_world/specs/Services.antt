@@ -35,7 +35,7 @@ abbrev pub synced : ConfigParts → Option ℕ → World → List Stmt → Answe
 synced c None w left = answers 1 w left
 synced c (Some global) w left =
     answers 0
-        (record w { pending = correction_of c.round c.adjust (offset_of w) global; times_used = w.times_used + 1 }) left
+    (record w { pending = correction_of c.round c.adjust (offset_of w) global; times_used = w.times_used + 1 }) left
 
 -- ---- OSEK tasks
 

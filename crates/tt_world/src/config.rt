@@ -50,7 +50,8 @@ pub struct OisrDef {
     pub budget: u64,
 }
 
-/// A row of a dispatcher table that activates a task. Offsets and deadlines are offsets of the round, in ticks.
+/// A row of a dispatcher table that activates a task. Offsets and deadlines are offsets of the
+/// round, in ticks.
 #[derive(Clone, Copy, Debug, PartialEq, Eq)]
 pub struct Activation {
     pub offset: u64,
@@ -60,14 +61,16 @@ pub struct Activation {
     pub stringent: bool,
 }
 
-/// A row of a dispatcher table that enables an interrupt source again, at an offset of the round in ticks.
+/// A row of a dispatcher table that enables an interrupt source again, at an offset of the round in
+/// ticks.
 #[derive(Clone, Copy, Debug, PartialEq, Eq)]
 pub struct Enable {
     pub offset: u64,
     pub isr: IsrNo,
 }
 
-/// An application mode: the rows of its dispatcher table. The place of an activation in the list is its entry number.
+/// An application mode: the rows of its dispatcher table. The place of an activation in the list is
+/// its entry number.
 #[derive(Debug, Drop)]
 pub struct ModeDef {
     /// In ascending order of offset.

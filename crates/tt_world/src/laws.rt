@@ -1,6 +1,12 @@
 //! Laws of every run. Each is the contract of a function with an empty body.
 
-ghost use Rattle.tt_world.specs.RunLaws.{PointsAreAhead, IsrIsBounded, NoMiss, ActivationsLaw, TasksAreSingle, OwnersLaw, ChecksLaw};
+ghost use Rattle.tt_world.specs.RunLaws.{ScheduleEnds, PointsAreAhead, IsrIsBounded, NoMiss, ActivationsLaw, TasksAreSingle, OwnersLaw, ChecksLaw, InterruptsLaw};
+
+/// Every run ends: there is exactly one last instant, it and all stamps are within the most ticks
+/// that the rounds can take, and the last event is the one that the status asks for.
+pub fn schedule_ends()
+    ensures { ScheduleEnds }
+{}
 
 /// An activation with statements left has not reached its monitoring point.
 pub fn points_are_ahead()
@@ -12,14 +18,14 @@ pub fn isr_is_bounded()
     ensures { IsrIsBounded }
 {}
 
-/// Where the check says yes and the script keeps its bounds, no check is missed, and each activation whose deadline the run
-/// reaches has ended by its deadline.
+/// Where the check says yes and the script keeps its bounds, no check is missed, and each
+/// activation whose deadline the run reaches has ended by its deadline.
 pub fn no_miss()
     ensures { NoMiss }
 {}
 
-/// Each round has exactly the activations of its mode with offsets below its end, each at its offset, in their order; where
-/// ttShutdownOS ends the run, that of its tick too.
+/// Each round has exactly the activations of its mode with offsets below its end, each at its
+/// offset, in their order; where ttShutdownOS ends the run, that of its tick too.
 pub fn rounds_activate()
     ensures { ActivationsLaw }
 {}
@@ -29,16 +35,25 @@ pub fn tasks_are_single()
     ensures { TasksAreSingle }
 {}
 
-/// A task has a tick where no time-triggered routine is unfinished and it was activated last, a time-triggered routine where it is
-/// the unfinished one of the highest level, and anybody else where neither is unfinished.
+/// A task has a tick where no time-triggered routine is unfinished and it was activated last, a
+/// time-triggered routine where it is the unfinished one of the highest level, and anybody else
+/// where neither is unfinished.
 pub fn owners_are_right()
     ensures { OwnersLaw }
 {}
 
 /// Each round has the checks of the monitoring points that it reaches, each at its tick and in the
-/// order of the rows, up to the first that is missed, and no others; a check is missed exactly where
-/// its activation has not ended. After a missed check ttErrorHook is called, and nowhere else; then
-/// ttShutdownHook, and the run is over.
+/// order of the rows, up to the first that is missed, and no others; a check is missed exactly
+/// where its activation has not ended by then. ttErrorHook is called right after a missed check,
+/// and nowhere else; then ttShutdownHook is called, and the run is over.
 pub fn checks_monitor()
     ensures { ChecksLaw }
+{}
+
+/// Before the first Accept event of a source of interrupts, and between each two consecutive ones,
+/// there is exactly one Arrive event of it; between two there is an End event of its routine, and
+/// an Enable event where it is time-triggered. An interrupt that waits at a tick that the run takes
+/// waits for the end of its routine, or, where it is time-triggered, for an enable.
+pub fn interrupts_wait()
+    ensures { InterruptsLaw }
 {}

@@ -5,7 +5,8 @@ use std::marker::Model;
 use task_lang::Values;
 use tt_base::{ModeNo, Series, Tick};
 
-/// When interrupts occur: a list of ticks for each time-triggered routine, and one for each of the OSEK subsystem.
+/// When interrupts occur: a list of ticks for each time-triggered routine, and one for each of the
+/// OSEK subsystem.
 #[derive(Debug, Drop)]
 pub struct Arrivals {
     pub isrs: Series<Series<Tick>>,
@@ -26,8 +27,8 @@ pub struct ScriptParts {
     pub times: Series<u64>,
 }
 
-/// A script that meets the rules of one by itself. Contracts see it as its parts; whether it is one for a configuration is said where both are
-/// used.
+/// A script that meets the rules of one by itself. Contracts see it as its parts; whether it is one
+/// for a configuration is said where both are used.
 #[derive(Debug, Drop)]
 pub struct Script {
     parts: ScriptParts,
@@ -35,7 +36,6 @@ pub struct Script {
 
 impl Model for Script {
     ghost use Rattle.tt_world.specs.declared.script.ScriptParts.{ScriptParts};
-
     ghost use Rattle.tt_world.specs.ScriptRules.{IsInput};
 
     ghost Value = { ScriptParts };
