@@ -1,6 +1,8 @@
 -- The answer to a command: what is written, and the status.
-use Rattle.std.specs.Prelude.{◌≡◌, ℕ, List, [], ◌∷◌, ◌++◌, ◌^◌, nat_lt, codes, decimal, Option, Some, None, IfSome, if◌then◌else◌, ⊤, length}
+use Rattle.std.specs.Prelude.{◌≡◌, ◌≢◌, ◌≤◌, ℕ, List, [], ◌∷◌, ◌++◌, ◌^◌, nat_lt, codes, decimal, Option, Some, None, IfSome, if◌then◌else◌, ⊤, length}
 use Rattle.std.specs.Io.KnownBytes.{Appends}
+use Rattle.tt_io.specs.Count.{Rose}
+use Rattle.tt_io.specs.Known.{AppendsPart}
 use Rattle.tt_doc.specs.Words.{joined}
 use Rattle.trace_text.specs.Lines.{text_of}
 use Rattle.tt_rows.specs.declared.row.NumberedRow.{NumberedRow}
@@ -17,9 +19,8 @@ use Rattle.tt_config.specs.Parts.{config_of, script_of}
 use Rattle.osektime_core.specs.declared.words.Command.{Command}
 use Rattle.osektime_core.specs.declared.words.Command.TheVariants.{Trace, Show, Table}
 use Rattle.osektime_core.specs.declared.status.Status.{Status}
-use Rattle.osektime_core.specs.declared.status.Status.TheVariants.{Done, Memory, Usage, ReadFault, WriteFault, TooLong, Form, Rule, Missed, NotBuilt}
+use Rattle.osektime_core.specs.declared.status.Status.TheVariants.{Done, Memory, Usage, ReadFault, WriteFault, TooLong, Form, Rule, Missed, Shut}
 use Rattle.osektime_core.specs.Words.{command_of}
-use Rattle.osektime_core.specs.NotBuilt.{is_not_built}
 use Rattle.osektime_core.specs.TableText.{table_text}
 
 pub record Answer : Type 0 where
@@ -48,6 +49,7 @@ rule_line number line = joined (codes "rule" ∷ decimal number ∷ codes "line"
 abbrev pub run_status : ending.Status → Status
 run_status ending.Done = Done
 run_status (ending.Missed task tick) = Missed task tick
+run_status (ending.Shut tick) = Shut tick
 
 -- the lines of the schedule, and how it ends
 abbrev pub run_answer : ConfigParts → ScriptParts → Answer
@@ -57,10 +59,10 @@ run_answer c s = record { text = text_of c.names (schedule c s); status = run_st
 abbrev pub rule_answer : ℕ → ℕ → Answer
 rule_answer number line = record { text = rule_line number line; status = Rule number line }
 
--- the answer of a trace for rows and the rule that they break, if they break one; rows that do not run yet have no text
+-- the run of rows, or the rule that they break
 abbrev pub trace_answer : Option Broken → List NumberedRow → Answer
 trace_answer (Some broken) rows = rule_answer broken.number broken.line
-trace_answer None rows = if is_not_built rows then silent NotBuilt else run_answer (config_of rows) (script_of rows)
+trace_answer None rows = run_answer (config_of rows) (script_of rows)
 
 -- the dispatcher tables of rows, or the rule that they break
 abbrev pub table_answer : Option Broken → List NumberedRow → Answer
@@ -75,11 +77,13 @@ rows_answer Show rows = record { text = canonical_text rows; status = Done }
 
 abbrev pub document_answer : Command → Document → Answer
 document_answer command (Rows rows) = rows_answer command rows
-document_answer command (Faulty fault) = record { text = form_line fault.line fault.kind; status = Form fault.line fault.kind }
+document_answer command (Faulty fault) =
+    record { text = form_line fault.line fault.kind; status = Form fault.line fault.kind }
 
 -- the answer to a command for the bytes of a document, of which there may be 2^20
 abbrev pub command_answer : Command → List ℕ → Answer
-command_answer command bytes = if nat_lt (2 ^ 20) (length bytes) then silent TooLong else document_answer command (document_of bytes)
+command_answer command bytes =
+    if nat_lt (2 ^ 20) (length bytes) then silent TooLong else document_answer command (document_of bytes)
 
 -- the answer to the words of a command line
 abbrev pub words_answer : Option Command → List ℕ → Answer
@@ -100,9 +104,21 @@ OnAnswered TooLong P = ⊤
 OnAnswered (Form line kind) P = P
 OnAnswered (Rule number line) P = P
 OnAnswered (Missed task tick) P = P
-OnAnswered NotBuilt P = P
+OnAnswered (Shut tick) P = P
 
 -- the status and the whole text of the answer to the bytes that were left, where they are told
 abbrev pub IsAnswered : List (List ℕ) → Option (List ℕ) → Status → Option (List ℕ) → Option (List ℕ) → Type 0
 IsAnswered words left status before after =
     IfSome left (λ bytes. (status ≡ (answer_of words bytes).status) × Appends before after (answer_of words bytes).text)
+
+-- what came of an answer: it was given, with its whole text written; or memory ran out, and the sink was left alone; or
+-- a write failed
+-- after a proper part of the text
+pub record Responds (answer : Answer) (status : Status) (LeftAlone : Type 0) (before after : Option (List ℕ))
+    (faults now : ℕ)
+    : Type 0 where
+  pub answered : status ≢ Memory → status ≢ WriteFault → (status ≡ answer.status) × Appends before after answer.text
+  pub memory : status ≡ Memory → LeftAlone
+  pub part : status ≡ WriteFault → AppendsPart before after answer.text
+  pub cause : status ≡ WriteFault → Rose faults now
+  pub never_falls : faults ≤ now

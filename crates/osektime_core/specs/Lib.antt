@@ -1,6 +1,5 @@
 pub mod Words
 pub mod Status
-pub mod NotBuilt
 pub mod TableText
 pub mod Answer
 pub use Rattle.tt_io.specs.Count

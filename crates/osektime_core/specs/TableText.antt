@@ -12,9 +12,8 @@ use Rattle.tt_world.specs.declared.config.ConfigParts.{ConfigParts}
 use Rattle.tt_world.specs.declared.world.Point.{Point}
 use Rattle.tt_world.specs.declared.world.Point.TheVariants as point
 use Rattle.tt_world.specs.Monitoring.{is_at}
-use Rattle.tt_world.specs.Rows.{entry_at, row_of}
-use Rattle.round_table.specs.DueRows.{enables_at, entries_due, is_round_end}
-use Rattle.round_table.specs.TableRows.{mode_at}
+use Rattle.tt_world.specs.Rows.{mode_at, entry_at, enables_at, row_of}
+use Rattle.round_table.specs.DueRows.{isrs_of, entries_due, is_round_end}
 
 -- ---- lines
 
@@ -43,7 +42,8 @@ monitoring_word false = codes "nonstringent"
 -- the line of a row that activates
 abbrev pub activation_line : List NameEntry → Activation → List ℕ
 activation_line names row =
-    line (decimal row.offset ∷ codes "activate" ∷ name_of names (Which.Task row.task) ∷ decimal row.deadline ∷ monitoring_word row.stringent ∷ [])
+    line (decimal row.offset ∷ codes "activate" ∷ name_of names
+    (Which.Task row.task) ∷ decimal row.deadline ∷ monitoring_word row.stringent ∷ [])
 
 -- ---- what stands at one place
 
@@ -62,7 +62,8 @@ activation_lines names mode (Some entry) = activation_line names (row_of mode en
 unfoldable pub lines_at : List NameEntry → ModeDef → ℕ → List ℕ
 lines_at names mode offset =
     check_lines names mode (point.At offset) (entries_due (is_at offset) mode)
-    ++ (enable_lines names offset (enables_at offset mode) ++ activation_lines names mode (entry_at offset mode.activations))
+    ++ (enable_lines names offset (isrs_of (enables_at offset mode.enables))
+    ++ activation_lines names mode (entry_at offset mode.activations))
 
 -- ---- the whole
 
@@ -71,12 +72,14 @@ unfoldable pub texts_below : (ℕ → List ℕ) → ℕ → List ℕ
 texts_below text zero = []
 texts_below text (suc n) = texts_below text n ++ text n
 
--- the table of a mode: its name, then what stands at each offset from 0 up to L - A, and last the checks at the round's end
+-- the table of a mode: its name, then what stands at each offset from 0 up to L - A, and last the checks at the round's
+-- end
 unfoldable pub mode_text : ConfigParts → ModeNo → List ℕ
 mode_text c number =
-    let mode = mode_at c number in
+    let mode = mode_at c number.0 in
     mode_line c.names number
-    ++ (texts_below (lines_at c.names mode) (suc (c.round - c.adjust)) ++ check_lines c.names mode point.RoundEnd (entries_due is_round_end mode))
+    ++ (texts_below (lines_at c.names mode) (suc (c.round - c.adjust)) ++ check_lines c.names mode point.RoundEnd
+    (entries_due is_round_end mode))
 
 -- the tables of the modes with numbers below this one
 abbrev pub modes_below : ConfigParts → ℕ → List ℕ

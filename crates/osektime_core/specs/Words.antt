@@ -15,4 +15,5 @@ command_of [] = None
 command_of (word ∷ (next ∷ rest)) = None
 command_of (word ∷ []) =
     if bytes_eq word (codes "trace") then Some Trace
-    else (if bytes_eq word (codes "show") then Some Show else (if bytes_eq word (codes "table") then Some Table else None))
+    else (if bytes_eq word (codes "show") then Some Show
+    else (if bytes_eq word (codes "table") then Some Table else None))

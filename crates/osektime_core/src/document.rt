@@ -7,9 +7,8 @@ ghost use Rattle.tt_io.specs.Known.{AppendsPart};
 ghost use Rattle.tt_rows.specs.Sound.{AreSound};
 ghost use Rattle.tt_read.specs.Document.{document_of, canonical_text};
 ghost use Rattle.tt_config.specs.Broken.{broken_rule};
-ghost use Rattle.osektime_core.specs.Answer.{document_answer, rows_answer, rule_answer, table_answer, trace_answer};
+ghost use Rattle.osektime_core.specs.Answer.{Responds, document_answer, rows_answer, rule_answer, table_answer, trace_answer};
 
-use crate::not_built::is_not_built;
 use crate::refusal::{form_line, rule_line};
 use crate::table::table_text;
 use crate::trace::run;
@@ -34,22 +33,18 @@ fn status_after(written: Result<(), WriteFault>, status: Status) -> Status
 
 /// Writes the text of an answer of this status.
 fn put_text<O: Sink>(text: &[u8], status: Status, output: &mut O) -> Status
-    ensures answered { result ≢ Status.WriteFault → (result ≡ status) × Appends (O.written output.old) (O.written output.new) text.now }
-    ensures part { result ≡ Status.WriteFault → status ≢ Status.WriteFault → AppendsPart (O.written output.old) (O.written output.new) text.now }
-    ensures cause { result ≡ Status.WriteFault → status ≢ Status.WriteFault → Rose (O.faults output.old) (O.faults output.new) }
-    ensures never_falls { O.faults output.old ≤ O.faults output.new }
+    requires ample { status ≢ Status.Memory }
+    requires written { status ≢ Status.WriteFault }
+    ensures { Responds (record { text = text.now; status = status }) result (output.new ≡ output.old)
+        (O.written output.old) (O.written output.new) (O.faults output.old) (O.faults output.new) }
 {
     status_after(put_all(output, text), status)
 }
 
 /// Writes the line of a broken rule.
 fn put_rule<O: Sink>(alloc: Global, number: u8, line: u32, output: &mut O) -> Status
-    ensures answered { result ≢ Status.Memory → result ≢ Status.WriteFault → (result ≡ (rule_answer number line).status)
-        × Appends (O.written output.old) (O.written output.new) (rule_answer number line).text }
-    ensures memory { result ≡ Status.Memory → output.new ≡ output.old }
-    ensures part { result ≡ Status.WriteFault → AppendsPart (O.written output.old) (O.written output.new) (rule_answer number line).text }
-    ensures cause { result ≡ Status.WriteFault → Rose (O.faults output.old) (O.faults output.new) }
-    ensures never_falls { O.faults output.old ≤ O.faults output.new }
+    ensures { Responds (rule_answer number line) result (output.new ≡ output.old)
+        (O.written output.old) (O.written output.new) (O.faults output.old) (O.faults output.new) }
 {
     match rule_line(alloc, number, line) {
         Ok(text) => put_text(text.as_bytes(), Status::Rule { number, line }, output),
@@ -57,7 +52,7 @@ fn put_rule<O: Sink>(alloc: Global, number: u8, line: u32, output: &mut O) -> St
     }
 }
 
-/// Runs rows that meet the rules, where they run already, and writes the text of the schedule. Else says which rule they break.
+/// Runs rows that meet the rules, and writes the text of the schedule. Else says which rule they break.
 fn trace<O: Sink, L: Ledger>(
     alloc: Global,
     rows: Rows,
@@ -65,16 +60,10 @@ fn trace<O: Sink, L: Ledger>(
     steps: &mut Steps<L>,
 ) -> Status
     requires { AreSound rows }
-    ensures answered { result ≢ Status.Memory → result ≢ Status.WriteFault → (result ≡ (trace_answer (broken_rule rows) rows).status)
-        × Appends (O.written output.old) (O.written output.new) (trace_answer (broken_rule rows) rows).text }
-    ensures memory { result ≡ Status.Memory → output.new ≡ output.old }
-    ensures part { result ≡ Status.WriteFault → AppendsPart (O.written output.old) (O.written output.new) (trace_answer (broken_rule rows) rows).text }
-    ensures cause { result ≡ Status.WriteFault → Rose (O.faults output.old) (O.faults output.new) }
-    ensures never_falls { O.faults output.old ≤ O.faults output.new }
+    ensures { Responds (trace_answer (broken_rule rows) rows) result (output.new ≡ output.old)
+        (O.written output.old) (O.written output.new) (O.faults output.old) (O.faults output.new) }
 {
-    let not_built = is_not_built(rows.as_slice());
     match accept(alloc, rows) {
-        Ok(_) if not_built => Status::NotBuilt,
         Ok(Accepted { config, script }) => run(alloc, &config, script, output, steps),
         Err(AcceptFault::Memory) => Status::Memory,
         Err(AcceptFault::Rule { number, line }) => put_rule(alloc, number, line, output),
@@ -84,12 +73,8 @@ fn trace<O: Sink, L: Ledger>(
 /// Writes the dispatcher tables of rows that meet the rules. Else says which rule they break.
 fn table<O: Sink>(alloc: Global, rows: Rows, output: &mut O) -> Status
     requires { AreSound rows }
-    ensures answered { result ≢ Status.Memory → result ≢ Status.WriteFault → (result ≡ (table_answer (broken_rule rows) rows).status)
-        × Appends (O.written output.old) (O.written output.new) (table_answer (broken_rule rows) rows).text }
-    ensures memory { result ≡ Status.Memory → output.new ≡ output.old }
-    ensures part { result ≡ Status.WriteFault → AppendsPart (O.written output.old) (O.written output.new) (table_answer (broken_rule rows) rows).text }
-    ensures cause { result ≡ Status.WriteFault → Rose (O.faults output.old) (O.faults output.new) }
-    ensures never_falls { O.faults output.old ≤ O.faults output.new }
+    ensures { Responds (table_answer (broken_rule rows) rows) result (output.new ≡ output.old)
+        (O.written output.old) (O.written output.new) (O.faults output.old) (O.faults output.new) }
 {
     match accept(alloc, rows) {
         Ok(accepted) => match table_text(alloc, &accepted.config) {
@@ -103,10 +88,9 @@ fn table<O: Sink>(alloc: Global, rows: Rows, output: &mut O) -> Status
 
 /// Writes the canonical text of rows.
 fn shown<O: Sink>(rows: &Rows, output: &mut O) -> Status
-    ensures answered { result ≢ Status.WriteFault → (result ≡ Status.Done) × Appends (O.written output.old) (O.written output.new) (canonical_text rows.now) }
-    ensures part { result ≡ Status.WriteFault → AppendsPart (O.written output.old) (O.written output.new) (canonical_text rows.now) }
-    ensures cause { result ≡ Status.WriteFault → Rose (O.faults output.old) (O.faults output.new) }
-    ensures never_falls { O.faults output.old ≤ O.faults output.new }
+    ensures { Responds (record { text = canonical_text rows.now; status = Status.Done }) result
+        (output.new ≡ output.old)
+        (O.written output.old) (O.written output.new) (O.faults output.old) (O.faults output.new) }
 {
     match show(rows, output) {
         Ok(()) => Status::Done,
@@ -123,12 +107,8 @@ fn respond_to_rows<O: Sink, L: Ledger>(
     steps: &mut Steps<L>,
 ) -> Status
     requires { AreSound rows }
-    ensures answered { result ≢ Status.Memory → result ≢ Status.WriteFault → (result ≡ (rows_answer command rows).status)
-        × Appends (O.written output.old) (O.written output.new) (rows_answer command rows).text }
-    ensures memory { result ≡ Status.Memory → output.new ≡ output.old }
-    ensures part { result ≡ Status.WriteFault → AppendsPart (O.written output.old) (O.written output.new) (rows_answer command rows).text }
-    ensures cause { result ≡ Status.WriteFault → Rose (O.faults output.old) (O.faults output.new) }
-    ensures never_falls { O.faults output.old ≤ O.faults output.new }
+    ensures { Responds (rows_answer command rows) result (output.new ≡ output.old)
+        (O.written output.old) (O.written output.new) (O.faults output.old) (O.faults output.new) }
 {
     match command {
         Command::Trace => trace(alloc, rows, output, steps),
@@ -146,12 +126,8 @@ pub(crate) fn respond<O: Sink, L: Ledger>(
     steps: &mut Steps<L>,
 ) -> Status
     requires { length bytes.now ≤ 2 ^ 20 }
-    ensures answered { result ≢ Status.Memory → result ≢ Status.WriteFault → (result ≡ (document_answer command (document_of bytes.now)).status)
-        × Appends (O.written output.old) (O.written output.new) (document_answer command (document_of bytes.now)).text }
-    ensures memory { result ≡ Status.Memory → output.new ≡ output.old }
-    ensures part { result ≡ Status.WriteFault → AppendsPart (O.written output.old) (O.written output.new) (document_answer command (document_of bytes.now)).text }
-    ensures cause { result ≡ Status.WriteFault → Rose (O.faults output.old) (O.faults output.new) }
-    ensures never_falls { O.faults output.old ≤ O.faults output.new }
+    ensures { Responds (document_answer command (document_of bytes.now)) result (output.new ≡ output.old)
+        (O.written output.old) (O.written output.new) (O.faults output.old) (O.faults output.new) }
 {
     match read(alloc, bytes) {
         Ok(rows) => respond_to_rows(alloc, command, rows, output, steps),

@@ -3,7 +3,6 @@
 
 mod command;
 mod document;
-mod not_built;
 mod refusal;
 mod status;
 mod table;

@@ -11,7 +11,7 @@ use tt_read::FormKind;
 pub enum Status {
     /// 0: the command's text is written, and a run has ended with its last round.
     Done,
-    /// 1: want of memory. Nothing was written.
+    /// 1: out of memory. Nothing was written.
     Memory,
     /// 2: the words are no command. Nothing was read or written.
     Usage,
@@ -27,8 +27,8 @@ pub enum Status {
     Rule { number: u8, line: u32 },
     /// 9: the run has ended with a missed deadline: the task, and the tick of its missed check. The run's text is written.
     Missed { task: TaskNo, tick: Tick },
-    /// 11: the document meets the rules, and has rows that this stage of the bench does not run. Nothing was written.
-    NotBuilt,
+    /// 10: ttShutdownOS has ended the run, at this tick. The run's text is written.
+    Shut { tick: Tick },
 }
 
 impl Status {
@@ -46,7 +46,7 @@ impl Status {
             Status::Form { line: _, kind: _ } => 6,
             Status::Rule { number: _, line: _ } => 7,
             Status::Missed { task: _, tick: _ } => 9,
-            Status::NotBuilt => 11,
+            Status::Shut { tick: _ } => 10,
         }
     }
 }

@@ -87,6 +87,9 @@ const LATE_TEXT: &str =
 const ENABLING: &str =
     "osektime 1\nround 10\nmode m\ntask A 8\nwork 6\nend\nat 0 m activate A 5 nonstringent\nisr K 1 4\nwork 1\nend\nat 7 m enable K\nstart m\nrounds 1\n";
 
+const ENABLING_TEXT: &str =
+    "0 os start m\n0 round 1 m\n0 activate A\n0 run A\n6 end A\n6 run idle\n7 check A met\n7 enable K\n10 stop\n";
+
 const ENABLING_TABLE: &str = "mode m\n0 activate A 5 nonstringent\n7 check A\n7 enable K\n";
 
 const TWO_MODES: &str =
@@ -100,6 +103,66 @@ const CORRECTED: &str =
 
 const CORRECTED_TABLE: &str = "mode m\n0 activate A 8 stringent\n8 check A\n";
 
+const ROUTINE_FIRST: &str =
+    "osektime 1\nround 20\nmode m\ntask A 8\nwork 6\nend\ntask B 8\nwork 2\nend\nisr K 1 4\nwork 4\nend\nat 0 m activate A 20 stringent\nat 3 m activate B 20 stringent\nstart m\nrounds 1\narrive K 1\n";
+
+const ROUTINE_FIRST_TEXT: &str =
+    "0 os start m\n0 round 1 m\n0 activate A\n0 run A\n1 arrive K\n1 accept K\n1 run K\n3 activate B\n5 end K\n5 run B\n7 end B\n7 run A\n12 end A\n12 run idle\n20 check A met\n20 check B met\n20 stop\n";
+
+const MERGED: &str =
+    "osektime 1\nround 12\nmode m\nisr K 1 4\nwork 2\nend\nat 8 m enable K\nstart m\nrounds 1\narrive K 1\narrive K 4\narrive K 5\n";
+
+const MERGED_TEXT: &str =
+    "0 os start m\n0 round 1 m\n0 run idle\n1 arrive K\n1 accept K\n1 run K\n3 end K\n3 run idle\n4 arrive K\n5 merge K\n8 enable K\n8 accept K\n8 run K\n10 end K\n10 run idle\n12 stop\n";
+
+const AT_ONE_TICK: &str =
+    "osektime 1\nround 12\nmode m\ntask A 8\nwork 3\nend\ntask B 8\nwork 2\nend\nisr K 1 4\nwork 1\nend\nat 0 m activate A 4 stringent\nat 4 m activate B 12 stringent\nat 4 m enable K\nstart m\nrounds 1\narrive K 1\narrive K 4\n";
+
+const AT_ONE_TICK_TEXT: &str =
+    "0 os start m\n0 round 1 m\n0 activate A\n0 run A\n1 arrive K\n1 accept K\n1 run K\n2 end K\n2 run A\n4 end A\n4 check A met\n4 enable K\n4 arrive K\n4 accept K\n4 activate B\n4 run K\n5 end K\n5 run B\n7 end B\n7 run idle\n12 check B met\n12 stop\n";
+
+const NESTED: &str =
+    "osektime 1\nround 20\nmode m\ntask A 8\nwork 3\nend\nisr J 1 4\nwork 3\nend\nisr H 3 4\nwork 4\nend\nat 0 m activate A 20 stringent\nat 3 m enable H\nstart m\nrounds 1\narrive H 1\narrive H 2\narrive J 2\n";
+
+const NESTED_TEXT: &str =
+    "0 os start m\n0 round 1 m\n0 activate A\n0 run A\n1 arrive H\n1 accept H\n1 run H\n2 arrive J\n2 arrive H\n2 accept J\n3 enable H\n5 end H\n5 accept H\n9 end H\n9 run J\n12 end J\n12 run A\n14 end A\n14 run idle\n20 check A met\n20 stop\n";
+
+const SWITCHED: &str =
+    "osektime 1\nround 6\nmode m\nmode n\nmode p\ntask A 8\nswitch n\nswitch p\nend\ntask B 8\nwork 1\nend\nat 0 m activate A 6 stringent\nat 1 p activate B 6 stringent\nstart m\nrounds 2\n";
+
+const SWITCHED_TEXT: &str =
+    "0 os start m\n0 round 1 m\n0 activate A\n0 run A\n0 call A ttSwitchAppMode n 0\n1 call A ttSwitchAppMode p 0\n2 end A\n2 run idle\n6 check A met\n6 round 2 p\n7 activate B\n7 run B\n8 end B\n8 run idle\n12 check B met\n12 stop\n";
+
+const FOLLOWS_GLOBAL_TIME: &str =
+    "osektime 1\nround 20\nadjust 5\nmode m\ntask S 8\nsync\nend\nat 0 m activate S 15 stringent\nstart m\nrounds 4\ntime 3\ntime 11\ntime 10\n";
+
+const FOLLOWS_GLOBAL_TIME_TEXT: &str =
+    "0 os start m\n0 round 1 m\n0 activate S\n0 run S\n0 call S ttSyncTimes 0\n1 end S\n1 run idle\n15 correct -3\n15 check S met\n17 round 2 m\n17 activate S\n17 run S\n17 call S ttSyncTimes 0\n18 end S\n18 run idle\n32 correct +5\n32 check S met\n42 round 3 m\n42 activate S\n42 run S\n42 call S ttSyncTimes 0\n43 end S\n43 run idle\n57 correct -5\n57 check S met\n57 round 4 m\n57 activate S\n57 run S\n57 call S ttSyncTimes 1\n58 end S\n58 run idle\n72 check S met\n77 stop\n";
+
+const AFTER_THE_LATCH: &str =
+    "osektime 1\nround 20\nadjust 5\nmode m\nisr K 1 4\nsync\nend\nstart m\nrounds 2\narrive K 16\ntime 18\n";
+
+const AFTER_THE_LATCH_TEXT: &str =
+    "0 os start m\n0 round 1 m\n0 run idle\n16 arrive K\n16 accept K\n16 run K\n16 call K ttSyncTimes 0\n17 end K\n17 run idle\n20 round 2 m\n35 correct -2\n38 stop\n";
+
+const IN_THE_GAPS: &str =
+    "osektime 1\nround 32\nmode m\ntask A 8\nwork 3\nend\nosek P 2 auto\nwork 18\nactivate Q\nactivate Q\nterminate\nend\nosek Q 1\nwork 2\nchain Q\nend\nat 5 m activate A 12 stringent\nat 12 m activate A 32 stringent\nstart m\nrounds 1\n";
+
+const IN_THE_GAPS_TEXT: &str =
+    "0 os start m\n0 round 1 m\n0 run P\n5 activate A\n5 run A\n8 end A\n8 run P\n12 check A met\n12 activate A\n12 run A\n15 end A\n15 run P\n24 call P ActivateTask Q 0\n25 call P ActivateTask Q 4\n26 call P TerminateTask 0\n27 end P\n27 run Q\n29 call Q ChainTask Q 0\n30 end Q\n32 check A met\n32 stop\n";
+
+const SHUT_DOWN: &str =
+    "osektime 1\nround 10\nmode m\nhook shutdown\nout 7\nend\ntask A 8\nwork 2\nshutdown\nwork 5\nend\nat 0 m activate A 10 stringent\nstart m\nrounds 1\n";
+
+const SHUT_DOWN_TEXT: &str =
+    "0 os start m\n0 round 1 m\n0 activate A\n0 run A\n2 call A ttShutdownOS 0\n2 hook ttShutdownHook\n2 out ttShutdownHook 7\n2 shutdown\n";
+
+const REFUSED: &str =
+    "osektime 1\nround 20\nmode m\nosek P 2 auto\nwork 2\nchain Q\nterminate\nend\nosek Q 1 auto\nwork 3\nend\noisr X 5\nwork 1\nactivate P\nend\nstart m\nrounds 1\narrive X 1\narrive X 2\n";
+
+const REFUSED_TEXT: &str =
+    "0 os start m\n0 round 1 m\n0 run P\n1 arrive X\n1 accept X\n1 run X\n2 arrive X\n2 call X ActivateTask P 4\n3 end X\n3 accept X\n4 call X ActivateTask P 4\n5 end X\n5 run P\n6 call P ChainTask Q 4\n7 call P TerminateTask 0\n8 end P\n8 run Q\n11 end Q\n11 run idle\n20 stop\n";
+
 const NO_ROUND: &str =
     "osektime 1\nmode m\ntask A 8\nwork 3\nend\nat 0 m activate A 5 stringent\nrounds 1\n";
 
@@ -111,8 +174,6 @@ const NO_END: &str =
 
 const NO_OSEK_TASK: &str =
     "osektime 1\nround 10\nmode m\ntask A 8\nactivate A\nend\nat 0 m activate A 5 stringent\nstart m\nrounds 1\n";
-
-const OSEK_TASK: &str = "osektime 1\nround 10\nmode m\nosek Q 1\nwork 3\nend\nstart m\nrounds 1\n";
 
 /// A command and its input, which is filled up to a size with comment lines, and what comes of it.
 #[derive(Drop)]
@@ -229,6 +290,32 @@ fn traces(rt: HostRuntime) -> Result<(), Fail> {
 }
 
 #[test]
+fn traces_of_every_part(rt: HostRuntime) -> Result<(), Fail> {
+    let rows = [
+        make_case("trace", ENABLING, Status::Done, ENABLING_TEXT),
+        make_case("trace", ROUTINE_FIRST, Status::Done, ROUTINE_FIRST_TEXT),
+        make_case("trace", MERGED, Status::Done, MERGED_TEXT),
+        make_case("trace", AT_ONE_TICK, Status::Done, AT_ONE_TICK_TEXT),
+        make_case("trace", NESTED, Status::Done, NESTED_TEXT),
+        make_case("trace", SWITCHED, Status::Done, SWITCHED_TEXT),
+        make_case(
+            "trace",
+            FOLLOWS_GLOBAL_TIME,
+            Status::Done,
+            FOLLOWS_GLOBAL_TIME_TEXT,
+        ),
+        make_case("trace", AFTER_THE_LATCH, Status::Done, AFTER_THE_LATCH_TEXT),
+        make_case("trace", IN_THE_GAPS, Status::Done, IN_THE_GAPS_TEXT),
+        make_case("trace", SHUT_DOWN, Status::Shut { tick: 2 }, SHUT_DOWN_TEXT),
+        make_case("trace", REFUSED, Status::Done, REFUSED_TEXT),
+    ];
+    for row in &rows {
+        answers::<Brand>(&rt, rt.alloc(), Blank::new(1), row)?;
+    }
+    Ok(())
+}
+
+#[test]
 fn tables(rt: HostRuntime) -> Result<(), Fail> {
     let rows = [
         make_case("table", ONE_TASK, Status::Done, ONE_TASK_TABLE),
@@ -278,8 +365,6 @@ fn refuses(rt: HostRuntime) -> Result<(), Fail> {
         make_case("trace", LATE_OFFSET, rule(18, 7), "rule 18 line 7\n"),
         make_case("trace", NO_END, rule(2, 6), "rule 2 line 6\n"),
         make_case("trace", NO_OSEK_TASK, rule(14, 5), "rule 14 line 5\n"),
-        make_case("trace", OSEK_TASK, Status::NotBuilt, ""),
-        make_case("trace", ENABLING, Status::NotBuilt, ""),
     ];
     for row in &rows {
         answers::<Brand>(&rt, rt.alloc(), Blank::new(1), row)?;
@@ -353,5 +438,5 @@ fn codes(rt: HostRuntime) {
     assert_eq!(rt; form(1, FormKind::Byte).code(), 6);
     assert_eq!(rt; rule(1, 1).code(), 7);
     assert_eq!(rt; missed(0).code(), 9);
-    assert_eq!(rt; Status::NotBuilt.code(), 11);
+    assert_eq!(rt; Status::Shut { tick: 0 }.code(), 10);
 }

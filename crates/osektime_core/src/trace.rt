@@ -6,16 +6,16 @@ ghost use Rattle.tt_io.specs.Count.{Rose};
 ghost use Rattle.tt_io.specs.Known.{AppendsPart};
 ghost use Rattle.trace_text.specs.Lines.{text_of};
 ghost use Rattle.tt_world.specs.ScriptRules.{IsScript};
-ghost use Rattle.stack_dispatch.specs.RunEnd.{status_by};
-ghost use Rattle.osektime_core.specs.Answer.{run_answer, run_status};
+ghost use Rattle.tt_world.specs.Status.{status_by};
+ghost use Rattle.osektime_core.specs.Answer.{Responds, run_answer, run_status};
 
 use crate::Status;
-use stack_dispatch::{RunEnd, run_plain};
+use stack_dispatch::run_plain;
 use std::alloc::Global;
 use trace_text::line_of;
 use tt_base::{Event, Ledger, Names, Steps, Tick};
 use tt_io::{Buffer, Sink, WriteFault};
-use tt_world::{Config, Script};
+use tt_world::{Config, RunEnd, Script};
 
 /// Writes the lines of events, in pieces of the buffer's size.
 pub(crate) fn put_events<O: Sink>(
@@ -50,6 +50,7 @@ fn run_status(end: RunEnd, tick: Tick) -> Status
     match end {
         RunEnd::LastRound => Status::Done,
         RunEnd::Missed(task) => Status::Missed { task, tick },
+        RunEnd::Shutdown => Status::Shut { tick },
     }
 }
 
@@ -62,12 +63,8 @@ pub(crate) fn run<O: Sink, L: Ledger>(
     steps: &mut Steps<L>,
 ) -> Status
     requires { IsScript config.now script }
-    ensures answered { result ≢ Status.Memory → result ≢ Status.WriteFault → (result ≡ (run_answer config.now script).status)
-        × Appends (O.written output.old) (O.written output.new) (run_answer config.now script).text }
-    ensures memory { result ≡ Status.Memory → output.new ≡ output.old }
-    ensures part { result ≡ Status.WriteFault → AppendsPart (O.written output.old) (O.written output.new) (run_answer config.now script).text }
-    ensures cause { result ≡ Status.WriteFault → Rose (O.faults output.old) (O.faults output.new) }
-    ensures never_falls { O.faults output.old ≤ O.faults output.new }
+    ensures { Responds (run_answer config.now script) result (output.new ≡ output.old)
+        (O.written output.old) (O.written output.new) (O.faults output.old) (O.faults output.new) }
 {
     let Ok(run) = run_plain(alloc, config, script, steps) else {
         return Status::Memory;
