@@ -7,6 +7,7 @@ use Rattle.std.proofs.lemmas.List.{take-replicate, get_or-take, length-take-le}
 use Rattle.std.proofs.lemmas.List.Sums.{sum_by-set}
 use Rattle.std.proofs.lemmas.List.Folds.{sum_by-replicate}
 
+-- how many flags are set
 abbrev pub set_in : List Bool → ℕ
 set_in flags = count_by (λ flag. flag) flags
 
@@ -14,14 +15,21 @@ byte_is : (flag : Bool) → bool_byte flag ≡ cond flag 1 0
 byte_is true = refl
 byte_is false = refl
 
-pub set_in_new : (len most : ℕ) (value : Bool) → len ≤ most → len * bool_byte value ≡ set_in (take len (replicate most value))
+-- flags of one value
+pub set_in_new : (len most : ℕ) (value : Bool) → len ≤ most
+    → len * bool_byte value ≡ set_in (take len (replicate most value))
 set_in_new len most value few =
-    ap (λ n. len * n) (byte_is value) ∙ sym (ap set_in (take-replicate len most value few) ∙ sum_by-replicate (λ flag. cond flag 1 0) len value)
+    ap (λ n. len * n) (byte_is value) ∙ sym
+    (ap set_in (take-replicate len most value few) ∙ sum_by-replicate (λ flag. cond flag 1 0) len value)
 
-pub set_in_put : (flags : List Bool) (len number : ℕ) (value : Bool) → number < len → len ≤ length flags → set_in (take len (set flags number value)) + bool_byte (get_or flags number false) ≡ set_in (take len flags) + bool_byte value
+-- a flag gets a value
+pub set_in_put : (flags : List Bool) (len number : ℕ) (value : Bool) → number < len → len ≤ length flags
+    → set_in (take len (set flags number value)) + bool_byte (get_or flags number false) ≡ set_in
+    (take len flags) + bool_byte value
 set_in_put flags len number value here few =
     let within : number < length (take len flags) = rw (length-take-le len flags few) here in
-    let same : get_or (take len flags) number false ≡ get_or flags number false = get_or-take len flags number false here in
+    let same : get_or (take len flags) number false ≡ get_or flags number false =
+    get_or-take len flags number false here in
     ap (λ fs. set_in fs + bool_byte (get_or flags number false)) (take-set-lt len flags number value here)
     ∙ ap (λ n. set_in (set (take len flags) number value) + n) (byte_is (get_or flags number false))
     ∙ ap (λ flag. set_in (set (take len flags) number value) + cond flag 1 0) (sym same)

@@ -13,18 +13,18 @@ range_here i n here =
     let one : n - i ≡ suc (n - (i + 1)) = omega arith in
     ap (range_with_len i) one
 
+-- the number that is reached passes
 pub passes_here : (test : ℕ → Bool) (i n : ℕ) → i < n → test i ≡ true → find test (range_with_len i (n - i)) ≡ Some i
 passes_here test i n here passes =
-    ap (find test) (range_here i n here) ∙ ap (λ b. cond b (Some i) (find test (range_with_len (i + 1) (n - (i + 1))))) passes
+    ap (find test) (range_here i n here)
+    ∙ ap (λ b. cond b (Some i) (find test (range_with_len (i + 1) (n - (i + 1))))) passes
 
-pub fails_here : (test : ℕ → Bool) (i n : ℕ) → i < n → test i ≡ false → find test (range_with_len i (n - i)) ≡ find test (range_with_len (i + 1) (n - (i + 1)))
+-- it fails, and those after it are left
+pub fails_here : (test : ℕ → Bool) (i n : ℕ) → i < n → test i ≡ false
+    → find test (range_with_len i (n - i)) ≡ find test (range_with_len (i + 1) (n - (i + 1)))
 fails_here test i n here fails =
-    ap (find test) (range_here i n here) ∙ ap (λ b. cond b (Some i) (find test (range_with_len (i + 1) (n - (i + 1))))) fails
-
-pub none_left : (test : ℕ → Bool) (i n : ℕ) → n ≤ i → find test (range_with_len i (n - i)) ≡ None
-none_left test i n past =
-    let none : n - i ≡ 0 = omega arith in
-    ap (λ k. find test (range_with_len i k)) none
+    ap (find test) (range_here i n here)
+    ∙ ap (λ b. cond b (Some i) (find test (range_with_len (i + 1) (n - (i + 1))))) fails
 
 -- no number passes
 pub none_passes : (test : ℕ → Bool) (i n : ℕ) → ((k : ℕ) → test k ≡ false) → find test (range_with_len i n) ≡ None
@@ -34,17 +34,22 @@ none_passes test i (suc n) fail =
 
 -- ---- the lesser of two ticks
 
+-- where there is no other tick
 pub lesser-none : (a : Option ℕ) → lesser a None ≡ a
 lesser-none None = refl
 lesser-none (Some x) = refl
 
+-- the lesser of three
 pub lesser_assoc : (a b c : Option ℕ) → lesser (lesser a b) c ≡ lesser a (lesser b c)
 lesser_assoc None b c = refl
 lesser_assoc (Some x) None c = refl
 lesser_assoc (Some x) (Some y) None = refl
 lesser_assoc (Some x) (Some y) (Some z) = ap Some (omega arith)
 
-pub least_more : (least : Option ℕ) (lists : List (List ℕ)) (i : ℕ) → i < length lists → lesser (lesser least (slice_get (get_or lists i []) 0)) (least_next (drop (i + 1) lists)) ≡ lesser least (least_next (drop i lists))
+-- one more list
+pub least_more : (least : Option ℕ) (lists : List (List ℕ)) (i : ℕ) → i < length lists
+    → lesser (lesser least (slice_get (get_or lists i []) 0)) (least_next (drop (i + 1) lists)) ≡ lesser least
+    (least_next (drop i lists))
 unfolding least_next
 least_more least lists i here =
     lesser_assoc least (slice_get (get_or lists i []) 0) (least_next (drop (i + 1) lists))
@@ -57,15 +62,20 @@ pub found_below : (test : ℕ → Bool) (i n k : ℕ) → find test (range_with_
 found_below test i zero k found = absurd cc
 found_below test i (suc n) k found = by_test (test i) (λ e. found_below test (i + 1) n k e) found
   where
-    by_test : (passes : Bool) → (find test (range_with_len (i + 1) n) ≡ Some k → k < i + 1 + n) → cond passes (Some i) (find test (range_with_len (i + 1) n)) ≡ Some k → k < i + suc n
+    by_test : (passes : Bool) → (find test (range_with_len (i + 1) n) ≡ Some k → k < i + 1 + n)
+        → cond passes (Some i) (find test (range_with_len (i + 1) n)) ≡ Some k → k < i + suc n
     by_test true below e = let same : i ≡ k = cc in omega arith
     by_test false below e = let here = below e in omega arith
 
-pub find-map : {X : Type 0} (test : X → Bool) (f : ℕ → X) (numbers : List ℕ) → find test (map f numbers) ≡ option_map f (find (λ number. test (f number)) numbers)
+-- the first of some sources, by their numbers
+pub find-map : {X : Type 0} (test : X → Bool) (f : ℕ → X) (numbers : List ℕ)
+    → find test (map f numbers) ≡ option_map f (find (λ number. test (f number)) numbers)
 find-map test f [] = refl
 find-map test f (number ∷ rest) = by_test (test (f number)) (find-map test f rest)
   where
-    by_test : (passes : Bool) → find test (map f rest) ≡ option_map f (find (λ number. test (f number)) rest) → cond passes (Some (f number)) (find test (map f rest)) ≡ option_map f (cond passes (Some number) (find (λ number. test (f number)) rest))
+    by_test : (passes : Bool) → find test (map f rest) ≡ option_map f (find (λ number. test (f number)) rest)
+        → cond passes (Some (f number)) (find test (map f rest)) ≡ option_map f
+        (cond passes (Some number) (find (λ number. test (f number)) rest))
     by_test true e = refl
     by_test false e = e
 
@@ -76,10 +86,12 @@ abbrev pub IsFrom : ℕ → Option ℕ → Type 0
 IsFrom now None = Unit {0}
 IsFrom now (Some tick) = now ≤ tick
 
+-- the same, of the tick that there is
 pub is_from : (now : ℕ) (tick : Option ℕ) → ForSome tick (λ t. now ≤ t) → IsFrom now tick
 is_from now None from = tt
 is_from now (Some tick) from = from tick refl
 
+-- and back
 pub for_some : (now : ℕ) (tick : Option ℕ) → IsFrom now tick → ForSome tick (λ t. now ≤ t)
 for_some now None from t e = absurd cc
 for_some now (Some tick) from t e = let same : tick ≡ t = cc in omega arith
@@ -89,6 +101,7 @@ pub is_after : (now : ℕ) (tick : Option ℕ) → IsFrom now tick → is_at now
 is_after now None from other = tt
 is_after now (Some tick) from other = let differ : tick ≢ now = eqb-false tick now other in omega arith
 
+-- a tick that comes after this one is another
 pub is_not_at : (now : ℕ) (tick : Option ℕ) → IsFrom (now + 1) tick → is_at now tick ≡ false
 is_not_at now None after = refl
 is_not_at now (Some tick) after = let differ : tick ≢ now = omega arith in ne_eqb tick now differ
@@ -99,23 +112,31 @@ from_both now None b from = (tt, from)
 from_both now (Some x) None from = (from, tt)
 from_both now (Some x) (Some y) from = (omega arith, omega arith)
 
+-- and of two ticks the lesser
 pub both_from : (now : ℕ) (a b : Option ℕ) → IsFrom now a → IsFrom now b → IsFrom now (lesser a b)
 both_from now None b from too = too
 both_from now (Some x) None from too = from
 both_from now (Some x) (Some y) from too = omega arith
 
 -- the first tick of each list, and the least of them
-pub each_from : (now : ℕ) (lists : List (List ℕ)) → IsFrom now (least_next lists) → (k : ℕ) → IsFrom now (slice_get (get_or lists k []) 0)
+pub each_from : (now : ℕ) (lists : List (List ℕ)) → IsFrom now (least_next lists) → (k : ℕ)
+    → IsFrom now (slice_get (get_or lists k []) 0)
 unfolding least_next
 each_from now [] from k = tt
 each_from now (ticks ∷ rest) from zero = (from_both now (slice_get ticks 0) (least_next rest) from).0
-each_from now (ticks ∷ rest) from (suc k) = each_from now rest (from_both now (slice_get ticks 0) (least_next rest) from).1 k
+each_from now (ticks ∷ rest) from (suc k) =
+    each_from now rest (from_both now (slice_get ticks 0) (least_next rest) from).1 k
 
-pub from_each : (now : ℕ) (lists : List (List ℕ)) → ((k : ℕ) → k < length lists → IsFrom now (slice_get (get_or lists k []) 0)) → IsFrom now (least_next lists)
+-- and the least of them
+pub from_each : (now : ℕ) (lists : List (List ℕ))
+    → ((k : ℕ) → k < length lists → IsFrom now (slice_get (get_or lists k []) 0)) → IsFrom now (least_next lists)
 unfolding least_next
 from_each now [] each = tt
 from_each now (ticks ∷ rest) each =
-    both_from now (slice_get ticks 0) (least_next rest) (each 0 (omega arith)) (from_each now rest (λ k below. each (suc k) (omega arith)))
+    both_from now (slice_get ticks 0) (least_next rest) (each 0 (omega arith))
+    (from_each now rest (λ k below. each (suc k) (omega arith)))
 
-pub none_next : (now : ℕ) (lists : List (List ℕ)) → IsFrom (now + 1) (least_next lists) → (k : ℕ) → is_next now (get_or lists k []) ≡ false
+-- where all first ticks come later, none is this one
+pub none_next : (now : ℕ) (lists : List (List ℕ)) → IsFrom (now + 1) (least_next lists) → (k : ℕ)
+    → is_next now (get_or lists k []) ≡ false
 none_next now lists after k = is_not_at now (slice_get (get_or lists k []) 0) (each_from (now + 1) lists after k)

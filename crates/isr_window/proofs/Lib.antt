@@ -8,4 +8,5 @@ pub mod Silent
 pub mod Windows
 pub mod Arrivals
 pub mod Acceptances
+pub mod NextTicks
 pub mod Fewer

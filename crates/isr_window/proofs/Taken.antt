@@ -16,7 +16,8 @@ drop_none zero = refl
 drop_none (suc n) = refl
 
 -- what is left of one of them
-pub get_or_untaken : (taken : List ℕ) (lists : List (List ℕ)) (k : ℕ) → get_or (untaken taken lists) k [] ≡ drop (get_or taken k 0) (get_or lists k [])
+pub get_or_untaken : (taken : List ℕ) (lists : List (List ℕ)) (k : ℕ)
+    → get_or (untaken taken lists) k [] ≡ drop (get_or taken k 0) (get_or lists k [])
 get_or_untaken taken [] k = sym (drop_none (get_or taken k 0))
 get_or_untaken [] (ticks ∷ rest) zero = refl
 get_or_untaken [] (ticks ∷ rest) (suc k) = refl
@@ -39,22 +40,29 @@ drop_one_more (suc n) (tick ∷ rest) = ap (λ k. drop k (tick ∷ rest)) (suc_m
     suc_more k = omega arith
 
 -- one more item of a list is taken
-pub untaken_more : (taken : List ℕ) (lists : List (List ℕ)) (k : ℕ) → k < length taken → untaken (set taken k (get_or taken k 0 + 1)) lists ≡ set (untaken taken lists) k (drop 1 (get_or (untaken taken lists) k []))
+pub untaken_more : (taken : List ℕ) (lists : List (List ℕ)) (k : ℕ) → k < length taken
+    → untaken (set taken k (get_or taken k 0 + 1)) lists ≡ set (untaken taken lists) k
+    (drop 1 (get_or (untaken taken lists) k []))
 untaken_more taken [] k here = refl
 untaken_more [] (ticks ∷ rest) k here = absurd (omega arith)
 untaken_more (count ∷ taken) (ticks ∷ rest) zero here = ap (λ xs. xs ∷ untaken taken rest) (drop_one_more count ticks)
-untaken_more (count ∷ taken) (ticks ∷ rest) (suc k) here = ap (λ xs. drop count ticks ∷ xs) (untaken_more taken rest k (omega arith))
+untaken_more (count ∷ taken) (ticks ∷ rest) (suc k) here =
+    ap (λ xs. drop count ticks ∷ xs) (untaken_more taken rest k (omega arith))
 
 -- where all items of a list were taken, one more changes nothing
-pub untaken_all : (taken : List ℕ) (lists : List (List ℕ)) (k : ℕ) → length (get_or lists k []) ≤ get_or taken k 0 → untaken taken lists ≡ set (untaken taken lists) k (drop 1 (get_or (untaken taken lists) k []))
+pub untaken_all : (taken : List ℕ) (lists : List (List ℕ)) (k : ℕ) → length (get_or lists k []) ≤ get_or taken k 0
+    → untaken taken lists ≡ set (untaken taken lists) k (drop 1 (get_or (untaken taken lists) k []))
 untaken_all taken lists k all =
-    let gone : get_or (untaken taken lists) k [] ≡ [] = get_or_untaken taken lists k ∙ drop_all (get_or taken k 0) (get_or lists k []) all in
+    let gone : get_or (untaken taken lists) k [] ≡ [] = get_or_untaken taken lists k
+    ∙ drop_all (get_or taken k 0) (get_or lists k []) all in
     sym (set-get_or (untaken taken lists) k [])
     ∙ ap (set (untaken taken lists) k) (gone ∙ sym (ap (drop 1) gone))
 
 -- the next item of a list
-pub next_untaken : (taken : List ℕ) (lists : List (List ℕ)) (k : ℕ) → slice_get (get_or (untaken taken lists) k []) 0 ≡ slice_get (get_or lists k []) (get_or taken k 0)
-next_untaken taken lists k = ap (λ xs. slice_get xs 0) (get_or_untaken taken lists k) ∙ first_dropped (get_or taken k 0) (get_or lists k [])
+pub next_untaken : (taken : List ℕ) (lists : List (List ℕ)) (k : ℕ)
+    → slice_get (get_or (untaken taken lists) k []) 0 ≡ slice_get (get_or lists k []) (get_or taken k 0)
+next_untaken taken lists k = ap (λ xs. slice_get xs 0) (get_or_untaken taken lists k)
+    ∙ first_dropped (get_or taken k 0) (get_or lists k [])
   where
     first_dropped : (n : ℕ) (xs : List ℕ) → slice_get (drop n xs) 0 ≡ slice_get xs n
     first_dropped zero [] = refl

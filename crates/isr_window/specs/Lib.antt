@@ -5,3 +5,4 @@ pub mod Inside
 pub mod Numbers
 pub mod Ticks
 pub mod Played
+pub mod NextLaw

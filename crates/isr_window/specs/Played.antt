@@ -1,5 +1,5 @@
 -- What the sources of a run stand for in a world: how far the arrivals and the acceptances of an instant were played.
-use Rattle.std.specs.Prelude.{◌≡◌, ℕ, ◌+◌, ◌<◌, ◌≤◌, not, Bool, true, false, List, Option, None, length, map, slice_index_or, take}
+use Rattle.std.specs.Prelude.{◌≡◌, ℕ, ◌+◌, ◌<◌, ◌≤◌, not, Bool, true, false, List, None, length, map, slice_index_or, take}
 use Rattle.tt_base.specs.declared.event.Event.{Event}
 use Rattle.tt_base.specs.declared.event.Event.TheVariants.{Arrive, Merge}
 use Rattle.tt_base.specs.declared.event.Owner.{Owner}
@@ -20,6 +20,7 @@ use Rattle.isr_window.specs.Ticks.{ticks_from}
 abbrev pub with_window : World → Window → World
 with_window w g = record w { isrs_enabled = g.isrs_enabled; isrs_held = g.isrs_held; oisrs_held = g.oisrs_held }
 
+-- what stands for a source at a place after the last one
 abbrev pub no_source : Source
 no_source = IsrSource (record { 0 = 0 })
 
@@ -36,7 +37,8 @@ pub record AreSourcesOf (c : ConfigParts) (g : Window) : Type 0 where
 
 -- the arrivals to come are those of a script from a tick on
 pub record AreLeftFrom (c : ConfigParts) (s : ScriptParts) (now : ℕ) (g : Window) : Type 0 where
-  pub left : (place : ℕ) → place < length (sources c) → left_at g (source_at c place) ≡ ticks_from now (arrivals_of s (source_at c place))
+  pub left : (place : ℕ) → place < length (sources c)
+      → left_at g (source_at c place) ≡ ticks_from now (arrivals_of s (source_at c place))
 
 -- the event of an arrival that was taken
 abbrev pub arrival_event : ℕ → Arrived → Event
@@ -53,8 +55,10 @@ pub record Arriving (c : ConfigParts) (s : ScriptParts) (a b : List Event) (u w 
   pub gives : Gives a b w None (chain (map (arrival s) (take place (sources c))) u)
   pub seen : with_window w g ≡ w
   pub are : AreSourcesOf c g
-  pub taken : (before : ℕ) → before < place → left_at g (source_at c before) ≡ ticks_from (w.tick + 1) (arrivals_of s (source_at c before))
-  pub left : (after : ℕ) → place ≤ after → after < length (sources c) → left_at g (source_at c after) ≡ ticks_from w.tick (arrivals_of s (source_at c after))
+  pub taken : (before : ℕ) → before < place
+      → left_at g (source_at c before) ≡ ticks_from (w.tick + 1) (arrivals_of s (source_at c before))
+  pub left : (after : ℕ) → place ≤ after → after < length (sources c)
+      → left_at g (source_at c after) ≡ ticks_from w.tick (arrivals_of s (source_at c after))
 
 -- the routine of a source begins
 abbrev pub begun : ConfigParts → Owner → World → World
@@ -64,7 +68,8 @@ begun c _ w = w
 
 -- of the sources at which an interrupt is held those are busy whose routines are unfinished
 pub record AreUnfinished (c : ConfigParts) (busy : BusySources) (w : World) (g : Window) : Type 0 where
-  pub flags : (place : ℕ) → place < length (sources c) → held_at g (source_at c place) ≡ true → is_busy busy (source_owner (source_at c place)) ≡ not (is_done (left_of w (source_runner (source_at c place))))
+  pub flags : (place : ℕ) → place < length (sources c) → held_at g (source_at c place) ≡ true
+      → is_busy busy (source_owner (source_at c place)) ≡ not (is_done (left_of w (source_runner (source_at c place))))
 
 -- the acceptances of the sources before a place were played, from a world u on, and none of these can be accepted
 pub record Accepting (c : ConfigParts) (a b : List Event) (u w : World) (g : Window) (busy : BusySources) : Type 0 where

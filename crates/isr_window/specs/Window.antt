@@ -9,8 +9,10 @@ use Rattle.tt_world.specs.World.{Source, IsrSource, OisrSource}
 use Rattle.tt_world.specs.Gates.{source_owner}
 use Rattle.isr_window.specs.Busy.{BusySources, is_busy}
 
+-- what is known of the sources at an instant
 pub record Window : Type 0 where
-  -- of each time-triggered source: whether it is enabled, whether an interrupt is held, and the ticks of the arrivals to come
+  -- of each time-triggered source: whether it is enabled, whether an interrupt is held, and the ticks of the arrivals
+  -- to come
   pub isrs_enabled : List Bool
   pub isrs_held : List Bool
   pub isrs_left : List (List ℕ)
@@ -111,6 +113,7 @@ taking (Some (OisrSource oisr)) g = record g {
 
 -- ---- enables
 
+-- a time-triggered source is enabled
 abbrev pub enabling : IsrNo → Window → Window
 enabling isr g = record g { isrs_enabled = slice_set g.isrs_enabled isr.0 true }
 

@@ -7,8 +7,8 @@ use crate::flags::{Flags, MOST};
 use std::marker::Model;
 use tt_base::Owner;
 
-/// A set of sources. Contracts see it as a record of two lists of flags, by the numbers of the time-triggered sources and of those of the
-/// OSEK subsystem.
+/// A set of sources. Contracts see it as a record of two lists of flags, by the numbers of the
+/// time-triggered sources and of those of the OSEK subsystem.
 #[derive(Debug, Drop)]
 pub struct Busy {
     isrs: Flags,

@@ -14,14 +14,15 @@ use std::marker::Model;
 use tt_base::{IsrNo, OisrNo, Owner, Tick};
 use tt_world::Arrivals;
 
-/// An arrival that was taken: at this source, and whether it was lost into an interrupt that is held there.
+/// An arrival that was taken: at this source, and whether it was lost into an interrupt that is
+/// held there.
 #[derive(Clone, Copy, Debug, PartialEq, Eq)]
 pub struct Arrived {
     pub source: Owner,
     pub merged: bool,
 }
 
-/// The interrupt sources of a run. Contracts see them as a record of these.
+/// The interrupt sources of a run. Contracts see them as a record of these, but for the tick.
 #[derive(Debug, Drop)]
 pub struct Gates {
     isrs_enabled: Flags,
@@ -52,11 +53,13 @@ fn least_of(isrs: &Queues, oisrs: &Queues) -> Option<Tick>
     lesser(isrs.least(), oisrs.least())
 }
 
-/// Takes the first arrival at a tick among sources of one kind: its number, and whether an interrupt was held there.
+/// Takes the first arrival at a tick among sources of one kind: its number, and whether an
+/// interrupt was held there.
 fn take_first(left: &mut Queues, held: &mut Flags, now: Tick) -> Option<(usize, bool)>
     requires { length held.old ≡ length left.old }
     ensures value { result
-        ≡ option_map (λ number. record { 0 = number; 1 = slice_index_or held.old number false }) (first_at now left.old) }
+        ≡ option_map (λ number. record { 0 = number; 1 = slice_index_or held.old number false })
+        (first_at now left.old) }
     ensures left { left.new ≡ without_next (first_at now left.old) left.old }
     ensures held { held.new ≡ with_flag (first_at now left.old) true held.old }
 {
@@ -67,14 +70,16 @@ fn take_first(left: &mut Queues, held: &mut Flags, now: Tick) -> Option<(usize, 
     Some((number, merged))
 }
 
-/// Whether an interrupt of a source can be accepted: it is held, and the source is enabled and not busy.
+/// Whether an interrupt of a source can be accepted: it is held, and the source is enabled and not
+/// busy.
 fn is_ready(held: &Flags, enabled: &Flags, busy: &Flags, number: usize) -> bool
     ensures { result ≡ is_ready_in held.now enabled.now busy.now number }
 {
     held.is(number) && (enabled.is(number) && !busy.is(number))
 }
 
-/// The number of the first source of one kind of which an interrupt can be accepted. Where none is held, it is one step.
+/// The number of the first source of one kind of which an interrupt can be accepted. Where none is
+/// held, it is one step.
 fn first_ready(held: &Flags, enabled: &Flags, busy: &Flags) -> Option<usize>
     ensures { result ≡ first_ready_in held.now enabled.now busy.now }
 {
@@ -90,7 +95,8 @@ fn first_ready(held: &Flags, enabled: &Flags, busy: &Flags) -> Option<usize>
 }
 
 impl Gates {
-    /// Sources with these arrivals: all enabled, and nothing held. There are at most 16 of each kind.
+    /// Sources with these arrivals: all enabled, and nothing held. There are at most 16 of each
+    /// kind.
     pub fn new(arrivals: Arrivals) -> Gates
         requires isrs { length arrivals.isrs ≤ 16 }
         requires oisrs { length arrivals.oisrs ≤ 16 }
@@ -109,14 +115,16 @@ impl Gates {
         }
     }
 
-    /// The least tick of an arrival that is not taken, if there is one. It is kept, and costs one step.
+    /// The least tick of an arrival that is not taken, if there is one: the ticks of each source
+    /// ascend. It is kept, and costs one step.
     pub fn next_arrival(&self) -> Option<Tick>
         ensures { result ≡ next_tick self.now }
     {
         self.next
     }
 
-    /// Takes the first arrival at a tick, in the order of the sources, if there is one. No arrival before the tick is left.
+    /// Takes the first arrival at a tick, if there is one: time-triggered sources by number, then
+    /// those of the OSEK subsystem by number. No arrival before the tick is left.
     pub fn arrive(&mut self, now: Tick) -> Option<Arrived>
         requires { ForSome (next_tick self.old) (λ tick. now ≤ tick) }
         ensures value { result ≡ option_map (arrived_at self.old) (first_due now self.old) }
@@ -146,8 +154,9 @@ impl Gates {
         }
     }
 
-    /// Accepts the interrupt of the first source that is held, enabled and not busy, in the order of the sources, if there is one: it is
-    /// no longer held, and a time-triggered source is disabled.
+    /// Accepts the interrupt of the first source that is held, enabled and not busy, if there is
+    /// one, in the order of arrivals: it is no longer held, and a time-triggered source is
+    /// disabled.
     pub fn accept_next(&mut self, busy: &Busy) -> Option<Owner>
         ensures value { result ≡ option_map source_owner (first_ready busy.now self.old) }
         ensures state { self.new ≡ accepting (first_ready busy.now self.old) self.old }

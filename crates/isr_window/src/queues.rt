@@ -8,7 +8,8 @@ use crate::flags::MOST;
 use std::marker::Model;
 use tt_base::{Series, Tick};
 
-/// A list of ticks for each source of one kind. Contracts see the ticks of each list that are not taken.
+/// A list of ticks for each source of one kind. Contracts see the ticks of each list that are not
+/// taken.
 #[derive(Debug, Drop)]
 pub(crate) struct Queues {
     lists: Series<Series<Tick>>,

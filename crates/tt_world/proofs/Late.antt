@@ -45,7 +45,7 @@ module _ (c : ConfigParts) (s : ScriptParts) where
   round_end_late w es p =
       cond_both (is_length w.latched (offset_of w)) _ _ (Holds (Late 1 c) es)
       (λ _. followed_leads (Alone (Late 1 c)) (Alone (Late 1 c)) Anything es (monitored c (is_at_end (offset_of w)) w)
-          (next_round s) (monitored_holds (Late 1 c) c _ w es (λ _. p)) next_round_late)
+      (next_round s) (monitored_holds (Late 1 c) c _ w es (λ _. p)) next_round_late)
       (λ _. p)
 
   ignores : IgnoresGates (Late 1 c)

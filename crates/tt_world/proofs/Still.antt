@@ -159,7 +159,7 @@ module _ (c : ConfigParts) (s : ScriptParts) where
       ⊎_elim
       (λ (t : is_accepted (step c s w).world x ≡ true).
       absurd (true≢false (sym (effected_accepts r who state.effects state.left w state.vars state.cursors x
-          (followed_on first (tick_over who (is_somebody r && tick.ended)) on) undone
-          (sym (ticked (is_over first.end) first who (is_somebody r && tick.ended) x refl on) ∙ t)) ∙ none)))
+      (followed_on first (tick_over who (is_somebody r && tick.ended)) on) undone
+      (sym (ticked (is_over first.end) first who (is_somebody r && tick.ended) x refl on) ∙ t)) ∙ none)))
       (λ (f : is_accepted (step c s w).world x ≡ false). f)
       (cases_Bool (is_accepted (step c s w).world x))

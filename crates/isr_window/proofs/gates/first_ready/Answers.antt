@@ -10,7 +10,8 @@ returns-then-are_clear c =
     let enabled = c.args.enabled.now in
     let busy = c.args.busy.now in
     sym (none_passes (is_ready_in held enabled busy) 0 (length held)
-    (λ number. ap (λ (flag : Bool). flag && (get_or enabled number false && not (get_or busy number false))) (c.are_clear.ensures c.if-are_clear.true number)))
+    (λ number. ap (λ (flag : Bool). flag && (get_or enabled number false && not (get_or busy number false)))
+    (c.are_clear.ensures c.if-are_clear.true number)))
 
 pub returns-then-is_ready : goal.returns-then-is_ready
 returns-then-is_ready c =

@@ -12,7 +12,14 @@ invariant_of-self c =
     let here : c.args.number < len = rw (sym (length-take-le len flags few), c.self.view_is) c.requires in
     record {
       few = c.self.invariant.few;
-      counted = omega (arith, set_in_put flags len c.args.number c.args.value here few, c.from.ensures, c.from-2.ensures, c.self.invariant.counted);
+      counted =
+          omega (
+            arith,
+            set_in_put flags len c.args.number c.args.value here few,
+            c.from.ensures,
+            c.from-2.ensures,
+            c.self.invariant.counted,
+          );
     }
 
 pub returns : goal.returns

@@ -1,7 +1,7 @@
 use Rattle.std.proofs.Common.{rules, refl}
 use Rattle.std.proofs.lemmas.Result.{on_err_weaker, on_ok_weaker}
 use Rattle.tt_io.proofs.Passing.{part_after, passes_all}
-use Rattle.tt_io.proofs.buffer.Buffer.put.Goals as goal
+use Rattle.tt_io.proofs.buffer.Buffer.put_beyond.Goals as goal
 
 -- the piece went to the sink at once, after what waited
 pub returns-clause-ok : goal.returns-clause-ok
