@@ -3,6 +3,8 @@ pub mod Enabling
 pub mod Highest
 pub mod LastUnfinished
 pub mod Leaving
+pub mod Running
+pub mod Opened
 pub mod Marks
 pub mod Playing
 pub mod Served

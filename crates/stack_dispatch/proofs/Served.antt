@@ -1,8 +1,9 @@
 -- The checks of the entries that are due are those of the jobs whose point is due.
 use Rattle.std.proofs.Common.{ℕ, ◌≡◌, ◌<◌, ◌≤◌, ◌+◌, ◌-◌, List, [], length, Bool, true, false, Option, None, Some, refl, ap, sym, ◌∙◌, subst, arith, ⊎_elim}
-use Rattle.std.specs.Prelude.{ℤ, pos, negsuc}
-use Rattle.std.proofs.lemmas.Bool.{cond-true, cases_lt, eqb-true, leb-true, eqb-false, false_from_ne_true}
+use Rattle.std.specs.Prelude.{ℤ, pos, negsuc, ◌&&◌, nat_le, nat_lt}
+use Rattle.std.proofs.lemmas.Bool.{cond-true, cases_lt, eqb-true, leb-true, ltb-true, and_parts, false_from_ne_true}
 use Rattle.tt_base.specs.declared.event.Event.{Event}
+use Rattle.tt_world.specs.declared.config.Activation.{Activation}
 use Rattle.tt_world.specs.declared.config.ConfigParts.{ConfigParts}
 use Rattle.tt_world.specs.declared.config.ModeDef.{ModeDef}
 use Rattle.tt_world.specs.declared.script.ScriptParts.{ScriptParts}
@@ -24,7 +25,6 @@ use Rattle.tt_world.proofs.TableRows.{AreRows, mode_rows, deadline_after, list_a
 use Rattle.tt_world.proofs.Time.{Stands}
 use Rattle.round_table.specs.DueRows.{entries_due}
 use Rattle.round_table.specs.TableRows.{TableRows}
-use Rattle.round_table.proofs.ModeRows.{deadline_parts}
 use Rattle.stack_dispatch.specs.Checking.{monitored_entries}
 use Rattle.stack_dispatch.specs.Served.{IsServed, IsTableOf}
 use Rattle.stack_dispatch.proofs.Checking.{checked_by_entry}
@@ -43,6 +43,13 @@ pub least_length : (c : ConfigParts) (latched : Option ℕ) (offset : ℕ) → i
     → Stands Latched c latched offset → c.round - c.adjust ≤ offset
 least_length c None offset e h = cc
 least_length c (Some length) offset e h = let same = eqb-true length offset e in let l = h.0.0 in omega arith
+
+early : (c : ConfigParts) (row : Activation) → is_activation c row ≡ true → row.offset < c.round - c.adjust
+early c row e =
+    let parts = and_parts (nat_lt row.task.0 (length c.tasks)) (nat_lt row.offset row.deadline && nat_le row.deadline (c.round - c.adjust)) e in
+    let both = and_parts (nat_lt row.offset row.deadline) (nat_le row.deadline (c.round - c.adjust)) parts.1 in
+    let before = ltb-true row.offset row.deadline both.0 in
+    let upto = leb-true row.deadline (c.round - c.adjust) both.1 in omega arith
 
 module _ (phase : Phase) (c : ConfigParts) (s : ScriptParts) (table : TableRows) (w : World)
     (served : IsServed phase c s w) (is_table : IsTableOf c table w) where
@@ -69,9 +76,8 @@ module _ (phase : Phase) (c : ConfigParts) (s : ScriptParts) (table : TableRows)
       ⊎_elim (λ (there : entry < length w.jobs). there)
       (λ (past : length w.jobs ≤ entry).
       let later = served.placed.later entry past l in
-      let parts = deadline_parts c (row_of mode entry) (list_all_get (is_activation c) mode.activations entry no_row rows.activations l) in
-      let early = parts.0 in
-      let low = parts.1 in absurd (omega arith))
+      let below = early c (row_of mode entry) (list_all_get (is_activation c) mode.activations entry no_row rows.activations l) in
+      absurd (omega arith))
       (cases_lt entry (length w.jobs))
 
   by_entry : (is_due : Point → Bool)

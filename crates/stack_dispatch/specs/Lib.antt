@@ -1,7 +1,7 @@
 pub mod Checking
 pub mod Due
+pub mod First
 pub mod Lefts
-pub mod RunEnd
 pub mod Served
 pub mod Serving
 pub mod State

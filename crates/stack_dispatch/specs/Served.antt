@@ -1,5 +1,6 @@
 -- What the parts of an opening rest on.
-use Rattle.std.specs.Prelude.{◌≡◌, ℕ, ◌+◌, ◌-◌, ◌<◌, ◌≤◌, List, Option, None, Some, length, slice_range}
+use Rattle.std.specs.Prelude.{◌≡◌, ℕ, ◌+◌, ◌^◌, ◌<◌, ◌≤◌, List, Option, IfSome, length, slice_range}
+use Rattle.std.specs.Option.{ForSome}
 use Rattle.tt_base.specs.declared.number.IsrNo.{IsrNo}
 use Rattle.tt_world.specs.declared.config.ConfigParts.{ConfigParts}
 use Rattle.tt_world.specs.declared.script.ScriptParts.{ScriptParts}
@@ -8,12 +9,20 @@ use Rattle.tt_world.specs.ScriptRules.{IsScript}
 use Rattle.tt_world.specs.World.{World}
 use Rattle.tt_world.specs.Monitoring.{is_at}
 use Rattle.tt_world.specs.Rows.{offset_of, mode_of, enables_at, entry_at}
-use Rattle.tt_world.proofs.Parts.{Phase}
+use Rattle.tt_world.proofs.Late.{Late}
+use Rattle.tt_world.proofs.Modes.{Named}
+use Rattle.tt_world.proofs.Parts.{Phase, Before}
 use Rattle.tt_world.proofs.Places.{Placed}
 use Rattle.tt_world.proofs.Time.{Timed}
+use Rattle.isr_window.specs.Played.{AreLeftFrom, AreSourcesOf}
+use Rattle.isr_window.specs.Window.{next_tick}
+use Rattle.round_end.specs.Round.{Round, next_own}
 use Rattle.round_table.specs.declared.due.Due.{Due}
+use Rattle.round_table.specs.ExpiryPoints.{IsCursor, IsFree}
 use Rattle.round_table.specs.DueRows.{checks_of, enables_of, entries_due, isrs_of}
 use Rattle.round_table.specs.TableRows.{TableRows, table_of}
+use Rattle.stack_dispatch.specs.Due.{NoneAccepted}
+use Rattle.stack_dispatch.specs.State.{RunState, IsFor, window_in}
 
 -- the parts meet the rules, the round stands where it can stand at this part of an opening, and the jobs stand as the rows of the mode
 pub record IsServed (phase : Phase) (c : ConfigParts) (s : ScriptParts) (w : World) : Type 0 where
@@ -21,10 +30,6 @@ pub record IsServed (phase : Phase) (c : ConfigParts) (s : ScriptParts) (w : Wor
   pub script : IsScript c s
   pub timed : Timed phase c s w
   pub placed : Placed c 0 w
-
--- the length of a round is latched only after the offset L - A: k is 0 before the opening of an instant, and 1 after it
-abbrev pub IsLate : ConfigParts → (k : ℕ) → World → Type 0
-IsLate c k w = (length : ℕ) → w.latched ≡ Some length → c.round - c.adjust < offset_of w + k
 
 -- a table is that of the present mode
 abbrev pub IsTableOf : ConfigParts → TableRows → World → Type 0
@@ -37,3 +42,58 @@ pub record StandsAt (table : TableRows) (offset : ℕ) (due : Due) : Type 0 wher
   pub enables : slice_range (enables_of table) due.enables_from due.enables_to ≡ isrs_of (enables_at offset table.mode.enables)
   pub enables_within : due.enables_to ≤ length (enables_of table)
   pub activation : due.activation ≡ entry_at offset table.mode.activations
+  pub activation_within : IfSome due.activation (λ entry. entry < length table.mode.activations)
+
+-- the interrupt sources are those of the configuration, and the arrivals to come are those of the script from a tick on
+pub record HasSources (c : ConfigParts) (s : ScriptParts) (tick : ℕ) (st : RunState) : Type 0 where
+  pub sources : AreSourcesOf c (window_in st)
+  pub left : AreLeftFrom c s tick (window_in st)
+
+-- after the opening of an instant at a tick: the sources are those from the next tick on, and nothing can be accepted
+pub record IsOpened (c : ConfigParts) (s : ScriptParts) (tick : ℕ) (st : RunState) : Type 0 where
+  pub sources : HasSources c s (tick + 1) st
+  pub none : NoneAccepted c st.world
+
+-- a run can take the instant
+pub record CanPass (c : ConfigParts) (s : ScriptParts) (st : RunState) : Type 0 where
+  pub served : IsServed Before c s st.world
+  pub late : Late 0 c st.world
+  pub named : Named c st.world
+  pub fixed : IsFor c s st.beside
+  pub sources : HasSources c s st.world.tick st
+  pub tick : st.world.tick + 1 < 2 ^ 64
+
+-- a place of the present table is that of the first expiry point at or after an offset
+abbrev pub IsPlace : ConfigParts → World → (place offset : ℕ) → Type 0
+IsPlace c w place offset = IsCursor (table_of c (mode_of c w)) place offset
+
+-- the same for the present offset; at the start of a round any place does
+abbrev pub IsPlaceNow : ConfigParts → World → ℕ → Type 0
+IsPlaceNow c w place = (offset_of w ≡ 0 → ⊥) → IsPlace c w place (offset_of w)
+
+-- the round of a state
+abbrev pub round_in : RunState → Round
+round_in st = record {
+  round = st.beside.round;
+  adjust = st.beside.adjust;
+  modes = st.beside.modes;
+  rounds = st.beside.rounds;
+  times = st.beside.times;
+  start = st.world.start;
+  number = st.world.number;
+  mode = st.world.mode;
+  wanted = st.world.wanted;
+  pending = st.world.pending;
+  latched = st.world.latched;
+  times_used = st.world.times_used;
+}
+
+-- nothing is due from the present tick on up to below the next one: no expiry point, latch, round's end or arrival. The place is that
+-- of the expiry points up to there. k is 0 before the opening of an instant, and 1 after it. At tick 0 the head of the run is due
+pub record IsAhead (c : ConfigParts) (k : ℕ) (st : RunState) (place next : ℕ) : Type 0 where
+  pub head : st.world.tick + k ≡ 0 → next ≡ 0
+  pub ahead : st.world.tick + k ≤ next
+  pub places : (offset : ℕ) → offset_of st.world + k ≤ offset → st.world.start + offset ≤ next → IsPlace c st.world place offset
+  pub free : (offset : ℕ) → offset_of st.world + k ≤ offset → st.world.start + offset < next → IsFree offset (mode_of c st.world)
+  pub own : next ≤ next_own (round_in st)
+  pub arrivals : ForSome (next_tick (window_in st)) (λ tick. next ≤ tick)

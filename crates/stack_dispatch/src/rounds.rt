@@ -6,9 +6,10 @@ ghost use Rattle.tt_world.specs.Moved.{Gives};
 ghost use Rattle.tt_world.specs.Monitoring.{is_at_end, monitored};
 ghost use Rattle.tt_world.specs.Rounds.{head, latch, next_round, round_end};
 ghost use Rattle.tt_world.specs.Rows.{offset_of};
+ghost use Rattle.tt_world.proofs.Late.{Late};
 ghost use Rattle.tt_world.proofs.Parts.{Latched};
 ghost use Rattle.stack_dispatch.specs.State.{IsFor};
-ghost use Rattle.stack_dispatch.specs.Served.{IsServed, IsLate, IsTableOf};
+ghost use Rattle.stack_dispatch.specs.Served.{IsServed, IsTableOf};
 
 use crate::plain::Events;
 use crate::state::State;
@@ -38,7 +39,7 @@ impl State {
     #[tactic(auto, using(crate::proofs::Served::no_change), unfolding(tt_world::specs::Rounds::latch))]
     pub(crate) fn latch(&mut self, config: &ConfigParts, events: &mut Events) -> Result<(), Memory>
         requires round { self.old.beside.round ≡ config.now.round }
-        requires late { IsLate config.now 0 self.old.world }
+        requires late { Late 0 config.now self.old.world }
         ensures gives { IfOk result (λ _. Gives events.old events.new self.new.world None (latch config.now self.old.world)) }
         ensures beside { IfOk result (λ _. self.new.beside ≡ self.old.beside) }
     {

@@ -140,6 +140,13 @@ pub(crate) fn row(mode: &ModeDef, entry: usize) -> Activation
 }
 
 impl State {
+    /// The present tick.
+    pub(crate) fn tick(&self) -> Tick
+        ensures { result ≡ self.now.world.tick }
+    {
+        self.tick
+    }
+
     /// The offset of the instant in the present round.
     pub(crate) fn offset(&self) -> u64
         ensures { result ≡ offset_of self.now.world }

@@ -356,8 +356,10 @@ module _ (c : ConfigParts) (s : ScriptParts) (rules : IsConfig c) where
   first_lefts (runner.Osek i) = oseks_named i.0
   first_lefts runner.Nobody = refl
 
+  pub run_named : IsScript c s → (n : ℕ) → GoesOnBefore c s n → Named c (world_at c s n)
+  unfolding world_at
+  run_named script n g = named_at (record { mode = script.start; wanted = script.start; lefts = first_lefts }) n g
+
   -- the present and the wanted mode exist at each instant of a run
   pub mode_at : IsScript c s → (n : ℕ) → GoesOnBefore c s n → HasMode c (world_at c s n)
-  unfolding world_at
-  mode_at script n g = has_mode c (world_at c s n)
-      (named_at (record { mode = script.start; wanted = script.start; lefts = first_lefts }) n g)
+  mode_at script n g = has_mode c (world_at c s n) (run_named script n g)

@@ -1,0 +1,57 @@
+use Rattle.std.proofs.Common.{◌≡◌, List, [], sym, ◌∙◌, ap, subst, refl}
+use Rattle.tt_base.specs.declared.event.Event.{Event}
+use Rattle.tt_world.specs.Schedule.{first_world, most_ticks}
+use Rattle.tt_world.specs.Status.{status_by}
+use Rattle.tt_world.proofs.Ends.{are_bounded, few_ticks}
+use Rattle.stack_dispatch.specs.Served.{HasSources}
+use Rattle.stack_dispatch.specs.State.{RunState, IsFor, fixed_in}
+use Rattle.stack_dispatch.proofs.Opened.{can_pass, first_sources}
+use Rattle.stack_dispatch.proofs.Running.{AtTick, at_first, at_next, tick_next, events_all, status_is, stamp_is, nearer}
+use Rattle.stack_dispatch.proofs.plain.run.Goals as goal
+
+pub instants-init : goal.instants-init
+instants-init c = record {
+  at = subst (λ (z : RunState). AtTick c.args.config.now c.args.script.now z.world c.new-events.result) (sym c.requires.state)
+      (subst (λ (es : List Event). AtTick c.args.config.now c.args.script.now (first_world c.args.config.now c.args.script.now) es) (sym c.new-events.ensures) (at_first c.args.config.now c.args.script.now));
+  fixed = ap (λ (z : RunState). fixed_in z.beside) c.requires.state;
+  sources = subst (λ (z : RunState). HasSources c.args.config.now c.args.script.now z.world.tick z) (sym c.requires.state)
+      (first_sources c.args.config.now c.args.script.now c.requires.script);
+}
+
+pub pass-requires-clause-can : goal.pass-requires-clause-can
+pass-requires-clause-can c =
+    can_pass c.args.config.now c.args.script.now c.instants.state c.instants.events c.requires.config c.requires.script c.instants.invariant.at
+    c.instants.invariant.fixed c.instants.invariant.sources
+
+pub instants-preserved : goal.instants-preserved
+instants-preserved c =
+    let g = c.in_ok-end.ensures.gives in
+    let next = tick_next c.args.config.now c.args.script.now c.instants.state.world c.pass.new.self.world _ _ _ c.instants.invariant.at g c.in_default.is in
+    record {
+      at = at_next c.args.config.now c.args.script.now c.instants.state.world c.pass.new.self.world _ _ _ c.instants.invariant.at g c.in_default.is;
+      fixed = c.in_ok-end.ensures.fixed ∙ c.instants.invariant.fixed;
+      sources = subst (λ t. HasSources c.args.config.now c.args.script.now t c.pass.new.self) (sym next) (c.in_ok-end.ensures.sources (sym c.in_default.is));
+    }
+
+pub instants-smaller : goal.instants-smaller
+instants-smaller c =
+    nearer (most_ticks c.args.config.now c.args.script.now) c.instants.state.world.tick c.pass.new.self.world.tick
+    (few_ticks c.args.config.now c.args.script.now (are_bounded _ _ c.requires.config c.requires.script) c.instants.state.world.tick c.instants.invariant.at.going)
+    (tick_next c.args.config.now c.args.script.now c.instants.state.world c.pass.new.self.world _ _ _ c.instants.invariant.at c.in_ok-end.ensures.gives c.in_default.is)
+
+pub returns-in-Some-clause-events : goal.returns-in-Some-clause-events
+returns-in-Some-clause-events c =
+    events_all c.args.config.now c.args.script.now c.instants.state.world c.pass.new.self.world _ _ _ c.instants.invariant.at c.in_ok-end.ensures.gives
+    c.in-Some.end c.in-Some.is (are_bounded _ _ c.requires.config c.requires.script)
+
+pub returns-in-Some-clause-end : goal.returns-in-Some-clause-end
+returns-in-Some-clause-end c =
+    ap (status_by c.in-Some.end) c.tick-tick.ensures
+    ∙ status_is c.args.config.now c.args.script.now c.instants.state.world c.pass.new.self.world _ _ _ c.instants.invariant.at c.in_ok-end.ensures.gives
+    c.in-Some.end c.in-Some.is (are_bounded _ _ c.requires.config c.requires.script)
+
+pub returns-in-Some-clause-tick : goal.returns-in-Some-clause-tick
+returns-in-Some-clause-tick c =
+    c.tick-tick.ensures
+    ∙ stamp_is c.args.config.now c.args.script.now c.instants.state.world c.pass.new.self.world _ _ _ c.instants.invariant.at c.in_ok-end.ensures.gives
+    c.in-Some.end c.in-Some.is (are_bounded _ _ c.requires.config c.requires.script)
