@@ -1,3 +1,4 @@
+pub mod Accepted
 pub mod Highest
 pub mod LastUnfinished
 pub mod Leaving

@@ -59,8 +59,7 @@ somebody_ready w (runner.Oisr i) h n = h
 somebody_ready w (runner.Osek i) h n = h
 somebody_ready w runner.Nobody h n = absurd (n refl)
 
--- ---- a call
-
+-- what follows lines
 gives_after : (a b d line : List Event) (w : World) (end : Outcome) (m : Moved) → b ≡ a ++ line → Gives b d w end m
     → Gives a d w end (preceded line m)
 gives_after a b d line w end m e g = record {
@@ -68,34 +67,6 @@ gives_after a b d line w end m e g = record {
   events_are = g.events_are ∙ ap (λ x. x ++ m.events) e ∙ append_assoc a line m.events;
   end_is = g.end_is;
 }
-
-module _ (c : ConfigParts) (s : ScriptParts) (r : Runner) (who : Owner) (k : Call) (now after : World) (result : ℕ) (ended : Bool)
-    (serves : Serves c s r k now after result ended) (a b : List Event) (e : b ≡ a ++ Called after.tick who k result ∷ []) where
-  line_is : (v : World) (n : ℕ) → after ≡ v → result ≡ n → b ≡ a ++ Called v.tick who k n ∷ []
-  line_is v n p q = e ∙ ap (λ (x : World). a ++ Called x.tick who k result ∷ []) p
-      ∙ ap (λ m. a ++ Called v.tick who k m ∷ []) q
-
-  pub call_goes_on : is_shutdown k ≡ false → Calls c s r who k now a b after None ended
-  call_goes_on f = record {
-    calls = λ left w h.
-        let g = serves left w h in
-        rw f (record {
-          gives = record { world_is = g.world_is; events_are = line_is _ _ g.world_is g.result_is; end_is = refl };
-          ended_is = g.ended_is;
-        });
-  }
-
-  pub call_shuts_down : (d : List Event) (world : World) (end : Outcome) → is_shutdown k ≡ true
-      → Gives b d world end (shuts_down c (Some ending.Shutdown) after) → Calls c s r who k now a d world end ended
-  call_shuts_down d world end f g = record {
-    calls = λ left w h.
-        let q = serves left w h in
-        rw f (record {
-          gives = gives_after a b d _ world end _ (line_is _ _ q.world_is q.result_is)
-              (subst (λ (v : World). Gives b d world end (shuts_down c (Some ending.Shutdown) v)) q.world_is g);
-          ended_is = q.ended_is;
-        });
-  }
 
 -- ---- a tick
 

@@ -12,8 +12,9 @@ use Rattle.tt_world.specs.declared.script.ScriptParts.{ScriptParts}
 use Rattle.tt_world.specs.declared.world.Runner.{Runner}
 use Rattle.tt_world.specs.declared.world.Runner.TheVariants.{Nobody}
 use Rattle.tt_world.specs.ConfigRules.{IsConfig}
-use Rattle.tt_world.specs.World.{World, Job}
+use Rattle.tt_world.specs.World.{World, Job, Source}
 use Rattle.tt_world.specs.Rows.{HasMode}
+use Rattle.tt_world.specs.Gates.{is_accepted}
 use Rattle.tt_world.specs.Runners.{is_done, left_of, leaving, runner_of, with_left}
 use Rattle.tt_world.specs.Moved.{Outcome, Gives}
 use Rattle.tt_world.specs.Services.{service}
@@ -59,3 +60,7 @@ pub record Calls (c : ConfigParts) (s : ScriptParts) (caller : Runner) (who : Ow
     (before after : List Event) (world : World) (end : Outcome) (ended : Bool) : Type 0 where
   pub calls : (left : List Stmt) (w : World) → IsCalling caller left w now
       → IsTick before after world end ended (called c caller who call (service c s caller call left w))
+
+-- no source accepts an interrupt that it did not accept before
+abbrev pub NoMoreAccepted : World → World → Type 0
+NoMoreAccepted old new = (source : Source) → is_accepted old source ≡ false → is_accepted new source ≡ false

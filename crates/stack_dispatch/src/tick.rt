@@ -8,7 +8,7 @@ ghost use Rattle.tt_world.specs.Runners.{is_done, left_of, job_at, runner_of};
 ghost use Rattle.tt_world.specs.Services.{is_shutdown};
 ghost use Rattle.tt_world.specs.Step.{run_line, is_somebody, runner_tick, tick_over, step};
 ghost use Rattle.stack_dispatch.specs.State.{IsFor};
-ghost use Rattle.stack_dispatch.specs.Ticking.{CanTick, TicksLeft, IsJobTicked, IsTick, Calls};
+ghost use Rattle.stack_dispatch.specs.Ticking.{CanTick, TicksLeft, IsJobTicked, IsTick, Calls, NoMoreAccepted};
 
 use crate::runner::ran_before;
 use crate::state::{Job, State};
@@ -231,6 +231,7 @@ impl State {
         requires can { CanTick config.now script.now self.old }
         requires runs { runner ≡ runner_of config.now self.old.world }
         ensures gives { IfOk result (λ ticked. Gives events.old events.new self.new.world ticked.end (step config.now script.now self.old.world)) }
+        ensures still { IfOk result (λ ticked. ticked.ended ≡ false → NoMoreAccepted self.old.world self.new.world) }
         ensures beside { IfOk result (λ _. self.new.beside ≡ self.old.beside) }
     {
         let who = self.owner(config, runner);
@@ -254,6 +255,7 @@ impl State {
     ) -> Result<Ticked, Memory>
         requires { CanTick config.now script.now self.old }
         ensures gives { IfOk result (λ ticked. Gives events.old events.new self.new.world ticked.end (step config.now script.now self.old.world)) }
+        ensures still { IfOk result (λ ticked. ticked.ended ≡ false → NoMoreAccepted self.old.world self.new.world) }
         ensures beside { IfOk result (λ _. self.new.beside ≡ self.old.beside) }
     {
         let runner = self.runner(config);
