@@ -1,5 +1,5 @@
 -- A tick that ends nobody makes no source accept an interrupt that it did not accept before.
-use Rattle.std.proofs.Common.{ℕ, ◌≡◌, List, [], ◌∷◌, ◌++◌, true, false, Bool, refl, ap, sym, ◌∙◌, None, Some, subst, get_or, ⊎_elim}
+use Rattle.std.proofs.Common.{ℕ, ◌≡◌, List, [], ◌∷◌, true, false, Bool, refl, ap, sym, ◌∙◌, None, subst, get_or, ⊎_elim}
 use Rattle.std.specs.Prelude.{◌&&◌, ◌||◌, slice_index_or, slice_set}
 use Rattle.std.proofs.lemmas.Bool.{cond_both}
 use Rattle.task_lang.specs.Tick.{tick}
@@ -15,9 +15,9 @@ use Rattle.tt_world.specs.declared.world.Runner.TheVariants as runner
 use Rattle.tt_world.specs.World.{World, Source, IsrSource, OisrSource}
 use Rattle.tt_world.specs.Gates.{is_accepted}
 use Rattle.tt_world.specs.Moved.{Moved, Outcome, Gives}
-use Rattle.tt_world.specs.Runners.{is_done, left_of, leaving}
+use Rattle.tt_world.specs.Runners.{is_done, leaving}
 use Rattle.tt_world.specs.Services.{service, is_shutdown}
-use Rattle.tt_world.specs.Step.{state_after, effected, runner_tick, is_somebody, tick_over}
+use Rattle.tt_world.specs.Step.{effected, runner_tick, is_somebody, tick_over}
 use Rattle.tt_world.proofs.Keeps.{service_answers}
 use Rattle.tt_world.proofs.Modes.{set_cases}
 use Rattle.stack_dispatch.specs.Ticking.{IsTick, NoMoreAccepted}
@@ -31,7 +31,13 @@ record Sources : Type 0 where
   oisrs : List (List Stmt)
 
 abbrev sources_of : World → Sources
-sources_of w = record { isrs_enabled = w.isrs_enabled; isrs_held = w.isrs_held; isrs = w.isrs; oisrs_held = w.oisrs_held; oisrs = w.oisrs }
+sources_of w = record {
+  isrs_enabled = w.isrs_enabled;
+  isrs_held = w.isrs_held;
+  isrs = w.isrs;
+  oisrs_held = w.oisrs_held;
+  oisrs = w.oisrs;
+}
 
 abbrev accepts : Sources → Source → Bool
 accepts g (IsrSource i) = slice_index_or g.isrs_held i.0 false
@@ -47,7 +53,8 @@ abbrev Still : Sources → Sources → Type 0
 Still old new = (x : Source) → accepts old x ≡ false → accepts new x ≡ false
 
 not_left : (a b : Bool) (lefts : List (List Stmt)) (i j : ℕ) (left : List Stmt) → is_done left ≡ false
-    → a && (b && is_done (get_or lefts j [])) ≡ false → a && (b && is_done (get_or (slice_set lefts i left) j [])) ≡ false
+    → a && (b && is_done (get_or lefts j [])) ≡ false
+    → a && (b && is_done (get_or (slice_set lefts i left) j [])) ≡ false
 not_left false b lefts i j left some h = refl
 not_left true false lefts i j left some h = refl
 not_left true true lefts i j left some h =
@@ -64,7 +71,8 @@ or_false : (a b : Bool) → a || b ≡ false → b ≡ false
 or_false false b e = e
 or_false true b e = cc
 
-effected_still : (c : ConfigParts) (s : ScriptParts) (r : Runner) (who : Owner) (effects : List Effect) (left : List Stmt) (w : World)
+effected_still : (c : ConfigParts) (s : ScriptParts) (r : Runner) (who : Owner) (effects : List Effect)
+    (left : List Stmt) (w : World)
     → (effected c s r who effects left w).ended ≡ false
     → Still (sources_of w) (sources_of (effected c s r who effects left w).move.world)
 effected_still c s r who [] left w e = leaving_still w r left e
@@ -88,8 +96,8 @@ and_false : (a : Bool) → a && false ≡ false
 and_false true = refl
 and_false false = refl
 
-module _ (c : ConfigParts) (s : ScriptParts) (w : World) (r : Runner) (who : Owner) (b d : List Event) (v : World) (end : Outcome)
-    (ended : Bool) (t : IsTick b d v end ended (runner_tick c s r who w)) where
+module _ (c : ConfigParts) (s : ScriptParts) (w : World) (r : Runner) (who : Owner) (b d : List Event) (v : World)
+    (end : Outcome) (ended : Bool) (t : IsTick b d v end ended (runner_tick c s r who w)) where
   still_then : (u : World) → sources_of u ≡ sources_of v → is_somebody r && ended ≡ false → NoMoreAccepted w u
   still_then u same e x h =
       accepts_is u x ∙ ap (λ g. accepts g x) (same ∙ ap sources_of t.gives.world_is)
