@@ -92,10 +92,6 @@ unfolding tick
 tick_still c s runner.Nobody who w e = λ x h. h
 tick_still c s r who w e = effected_still c s r who _ _ _ e
 
-and_false : (a : Bool) → a && false ≡ false
-and_false true = refl
-and_false false = refl
-
 module _ (c : ConfigParts) (s : ScriptParts) (w : World) (r : Runner) (who : Owner) (b d : List Event) (v : World)
     (end : Outcome) (ended : Bool) (t : IsTick b d v end ended (runner_tick c s r who w)) where
   still_then : (u : World) → sources_of u ≡ sources_of v → is_somebody r && ended ≡ false → NoMoreAccepted w u
@@ -103,8 +99,8 @@ module _ (c : ConfigParts) (s : ScriptParts) (w : World) (r : Runner) (who : Own
       accepts_is u x ∙ ap (λ g. accepts g x) (same ∙ ap sources_of t.gives.world_is)
       ∙ tick_still c s r who w (subst (λ z. is_somebody r && z ≡ false) t.ended_is e) x (sym (accepts_is w x) ∙ h)
 
-  pub still_at_end : ended ≡ false → NoMoreAccepted w v
-  still_at_end e = still_then v refl (ap (λ z. is_somebody r && z) e ∙ and_false (is_somebody r))
+  pub still_at_end : (over : Bool) → over ≡ (is_somebody r && ended) → over ≡ false → NoMoreAccepted w v
+  still_at_end over e n = still_then v refl (sym e ∙ n)
 
   pub still_after : (f : List Event) (u : World) (over : Bool) → Gives d f u None (tick_over who over v)
       → over ≡ (is_somebody r && ended) → over ≡ false → NoMoreAccepted w u

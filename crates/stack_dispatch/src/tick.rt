@@ -8,7 +8,7 @@ ghost use Rattle.tt_world.specs.Runners.{is_done, left_of, job_at, runner_of};
 ghost use Rattle.tt_world.specs.Services.{is_shutdown};
 ghost use Rattle.tt_world.specs.Step.{run_line, is_somebody, runner_tick, tick_over, step};
 ghost use Rattle.stack_dispatch.specs.State.{IsFor};
-ghost use Rattle.stack_dispatch.specs.Ticking.{CanTick, TicksLeft, IsJobTicked, IsTick, Calls, NoMoreAccepted};
+ghost use Rattle.stack_dispatch.specs.Ticking.{CanTick, TicksLeft, IsJobTicked, IsTick, Calls, ends_runner, NoMoreAccepted};
 
 use crate::runner::ran_before;
 use crate::state::{Job, State};
@@ -242,6 +242,8 @@ impl State {
         requires runs { runner ≡ runner_of config.now self.old.world }
         ensures gives { IfOk result (λ ticked. Gives events.old events.new self.new.world ticked.end
             (step config.now script.now self.old.world)) }
+        ensures ended { IfOk result (λ ticked.
+            ticked.ended ≡ ends_runner config.now script.now self.old.world) }
         ensures still { IfOk result (λ ticked.
             ticked.ended ≡ false → NoMoreAccepted self.old.world self.new.world) }
         ensures beside { IfOk result (λ _. self.new.beside ≡ self.old.beside) }
@@ -249,10 +251,11 @@ impl State {
         let who = self.owner(config, runner);
         self.note_run(who, events)?;
         let ticked = self.runner_tick(alloc, config, script, runner, who, events)?;
-        if let Some(_end) = ticked.end {
-            return Ok(ticked);
-        }
         let ended = somebody_ended(runner, ticked.ended);
+        let end = ticked.end;
+        if let Some(_end) = end {
+            return Ok(Ticked { end, ended });
+        }
         self.end_tick(who, ended, events)?;
         Ok(Ticked { end: None, ended })
     }
@@ -268,6 +271,8 @@ impl State {
         requires { CanTick config.now script.now self.old }
         ensures gives { IfOk result (λ ticked. Gives events.old events.new self.new.world ticked.end
             (step config.now script.now self.old.world)) }
+        ensures ended { IfOk result (λ ticked.
+            ticked.ended ≡ ends_runner config.now script.now self.old.world) }
         ensures still { IfOk result (λ ticked.
             ticked.ended ≡ false → NoMoreAccepted self.old.world self.new.world) }
         ensures beside { IfOk result (λ _. self.new.beside ≡ self.old.beside) }
