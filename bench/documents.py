@@ -182,6 +182,31 @@ def much_output():
     return head + body + "at 0 m activate A 2000000 stringent\nstart m\nrounds 1\n"
 
 
+def comment_lines():
+    """38,836 lines that say nothing."""
+    return "# a line that says nothing\n" * (LIMIT // 27)
+
+
+def work_rows():
+    """One body of 149,780 statements."""
+    return "osektime 1\nround 10\nmode m\ntask A 8\n" + "work 5\n" * 149780 + "end\nstart m\nrounds 1\n"
+
+
+def long_expressions():
+    """6,300 lines, each of an expression of 81 terms."""
+    line = "out " + "+ " * 40 + " ".join(["a"] * 41) + "\n"
+    return "osektime 1\nround 10\nmode m\nvar a 1\ntask A 8\n" + line * 6300 + "end\nstart m\nrounds 1\n"
+
+
+def full_modes():
+    """4,096 activations, the most of a mode, in each of 7 modes, from the last offset to the first."""
+    rows = ["osektime 1\nround 10000\n"] + [f"mode {mode}\n" for mode in MODES[:7]] + ["task A 8\nwork 1\nend\n"]
+    for i in reversed(range(4096)):
+        rows += [f"at {2 * i} {mode} activate A {2 * i + 2} stringent\n" for mode in MODES[:7]]
+    rows.append("start a\nrounds 1\n")
+    return "".join(rows)
+
+
 DOCUMENTS = [
     every_row,
     many_ends,
@@ -196,6 +221,10 @@ DOCUMENTS = [
     many_tasks,
     long_table,
     much_output,
+    comment_lines,
+    work_rows,
+    long_expressions,
+    full_modes,
 ]
 
 

@@ -10,6 +10,7 @@ pub record AreCounted (f : FlagsInside) : Type 0 where
   pub few : f.len ≤ 16
   pub counted : f.set ≡ count_by (λ flag. flag) (take f.len f.flags)
 
+-- there is a flag for each number below 16
 pub record AreSixteen (b : BusyInside) : Type 0 where
   pub isrs : length b.isrs ≡ 16
   pub oisrs : length b.oisrs ≡ 16
@@ -20,6 +21,7 @@ untaken taken [] = []
 untaken [] (ticks ∷ rest) = ticks ∷ rest
 untaken (count ∷ taken) (ticks ∷ rest) = drop count ticks ∷ untaken taken rest
 
+-- the fields of the gates as the sources of a run
 abbrev pub window_of : GatesInside → Window
 window_of g = record {
   isrs_enabled = g.isrs_enabled;
@@ -29,8 +31,10 @@ window_of g = record {
   oisrs_left = g.oisrs_left;
 }
 
--- there is a flag for each list, and the least tick is known
+-- there are at most 16 sources of each kind, there is a flag for each, and the least tick is known
 pub record IsWindow (g : GatesInside) : Type 0 where
+  pub isrs : length g.isrs_left ≤ 16
+  pub oisrs : length g.oisrs_left ≤ 16
   pub isrs_enabled : length g.isrs_enabled ≡ length g.isrs_left
   pub isrs_held : length g.isrs_held ≡ length g.isrs_left
   pub oisrs_held : length g.oisrs_held ≡ length g.oisrs_left

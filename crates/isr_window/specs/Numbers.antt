@@ -1,9 +1,7 @@
 -- The sources of one kind, by number.
-use Rattle.std.specs.Prelude.{ℕ, Bool, List, [], Option, None, Some, drop, find, length, slice_index_or, slice_set}
+use Rattle.std.specs.Prelude.{ℕ, ◌&&◌, not, Bool, false, List, [], Option, None, Some, drop, find, length, slice_index_or, slice_set}
 use Rattle.std.specs.List.{range_with_len}
-use Rattle.tt_world.specs.World.{IsrSource, OisrSource}
-use Rattle.isr_window.specs.Busy.{BusySources}
-use Rattle.isr_window.specs.Window.{Window, is_next, is_ready}
+use Rattle.isr_window.specs.Window.{is_next}
 
 -- the first of this many numbers, from 0 on, that passes a test
 abbrev pub first_number : (ℕ → Bool) → ℕ → Option ℕ
@@ -23,9 +21,11 @@ abbrev pub with_flag : Option ℕ → Bool → List Bool → List Bool
 with_flag None flag flags = flags
 with_flag (Some number) flag flags = slice_set flags number flag
 
--- the number of the first source of either kind of which an interrupt can be accepted
-abbrev pub first_isr : BusySources → Window → Option ℕ
-first_isr busy g = first_number (λ number. is_ready busy g (IsrSource (record { 0 = number }))) (length g.isrs_left)
+-- whether an interrupt of a source can be accepted: one that is held, at a source that is enabled and not busy
+abbrev pub is_ready_in : (held enabled busy : List Bool) → ℕ → Bool
+is_ready_in held enabled busy number =
+    slice_index_or held number false && (slice_index_or enabled number false && not (slice_index_or busy number false))
 
-abbrev pub first_oisr : BusySources → Window → Option ℕ
-first_oisr busy g = first_number (λ number. is_ready busy g (OisrSource (record { 0 = number }))) (length g.oisrs_left)
+-- the number of the first such source
+abbrev pub first_ready_in : (held enabled busy : List Bool) → Option ℕ
+first_ready_in held enabled busy = first_number (is_ready_in held enabled busy) (length held)

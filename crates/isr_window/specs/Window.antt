@@ -1,14 +1,18 @@
 -- The interrupt sources of a run: which are enabled, where an interrupt is held, and which arrivals are to come.
-use Rattle.std.specs.Prelude.{◌≡◌, ℕ, ◌<◌, ◌==◌, ◌&&◌, not, min, Bool, true, false, List, [], ◌∷◌, ◌++◌, Option, None, Some, drop, find, length, map, replicate, slice_get, slice_index_or, slice_set}
+use Rattle.std.specs.Prelude.{◌<◌, ◌≡◌, ℕ, ◌==◌, ◌&&◌, not, min, Bool, true, false, List, [], ◌∷◌, ◌++◌, Option, None, Some, drop, find, length, map, replicate, slice_get, slice_index_or, slice_set}
 use Rattle.std.specs.List.{range_with_len}
 use Rattle.tt_base.specs.declared.number.IsrNo.{IsrNo}
+use Rattle.tt_base.specs.declared.event.Owner.{Owner}
+use Rattle.tt_base.specs.declared.event.Owner.TheVariants as owner
 use Rattle.tt_world.specs.declared.script.Arrivals.{Arrivals}
 use Rattle.tt_world.specs.World.{Source, IsrSource, OisrSource}
 use Rattle.tt_world.specs.Gates.{source_owner}
 use Rattle.isr_window.specs.Busy.{BusySources, is_busy}
 
+-- what is known of the sources at an instant
 pub record Window : Type 0 where
-  -- of each time-triggered source: whether it is enabled, whether an interrupt is held, and the ticks of the arrivals to come
+  -- of each time-triggered source: whether it is enabled, whether an interrupt is held, and the ticks of the arrivals
+  -- to come
   pub isrs_enabled : List Bool
   pub isrs_held : List Bool
   pub isrs_left : List (List ℕ)
@@ -52,6 +56,12 @@ held_at g (OisrSource oisr) = slice_index_or g.oisrs_held oisr.0 false
 abbrev pub enabled_at : Window → Source → Bool
 enabled_at g (IsrSource isr) = slice_index_or g.isrs_enabled isr.0 false
 enabled_at g (OisrSource oisr) = true
+
+-- the owner is a source of one of these numbers
+abbrev pub IsSourceOf : Window → Owner → Type 0
+IsSourceOf g (owner.Isr isr) = isr.0 < length g.isrs_left
+IsSourceOf g (owner.Oisr oisr) = oisr.0 < length g.oisrs_left
+IsSourceOf g _ = ⊥
 
 -- ---- the next arrival
 
@@ -103,6 +113,7 @@ taking (Some (OisrSource oisr)) g = record g {
 
 -- ---- enables
 
+-- a time-triggered source is enabled
 abbrev pub enabling : IsrNo → Window → Window
 enabling isr g = record g { isrs_enabled = slice_set g.isrs_enabled isr.0 true }
 

@@ -1,14 +1,14 @@
 //! The sources whose routines are unfinished.
 
-ghost use Rattle.std.specs.Prelude.{◌≡◌, false, slice_index_or};
+ghost use Rattle.std.specs.Prelude.{◌≡◌};
 ghost use Rattle.isr_window.specs.Busy.{IsNumbered, is_busy, marked, none_busy};
 
 use crate::flags::{Flags, MOST};
 use std::marker::Model;
 use tt_base::Owner;
 
-/// A set of sources. Contracts see it as a record of two lists of flags, by the numbers of the time-triggered sources and of those of the
-/// OSEK subsystem.
+/// A set of sources. Contracts see it as a record of two lists of flags, by the numbers of the
+/// time-triggered sources and of those of the OSEK subsystem.
 #[derive(Debug, Drop)]
 pub struct Busy {
     isrs: Flags,
@@ -56,23 +56,23 @@ impl Busy {
         ensures { result ≡ is_busy self.now source }
     {
         match source {
-            Owner::Isr(isr) => self.isr(usize::from(isr.0)),
-            Owner::Oisr(oisr) => self.oisr(usize::from(oisr.0)),
+            Owner::Isr(isr) => self.isrs.is(usize::from(isr.0)),
+            Owner::Oisr(oisr) => self.oisrs.is(usize::from(oisr.0)),
             _ => unreachable!(),
         }
     }
 
-    /// Whether the time-triggered source of a number is in the set.
-    pub(crate) fn isr(&self, number: usize) -> bool
-        ensures { result ≡ slice_index_or self.now.isrs number false }
+    /// The flags of the time-triggered sources.
+    pub(crate) fn isrs(&self) -> &Flags
+        ensures { result.now ≡ self.now.isrs }
     {
-        self.isrs.is(number)
+        &self.isrs
     }
 
-    /// Whether the source of a number of the OSEK subsystem is in the set.
-    pub(crate) fn oisr(&self, number: usize) -> bool
-        ensures { result ≡ slice_index_or self.now.oisrs number false }
+    /// The flags of the sources of the OSEK subsystem.
+    pub(crate) fn oisrs(&self) -> &Flags
+        ensures { result.now ≡ self.now.oisrs }
     {
-        self.oisrs.is(number)
+        &self.oisrs
     }
 }

@@ -38,7 +38,7 @@ impl Flags {
         Flags {
             flags: [value; MOST],
             len,
-            set: if value { len } else { 0 },
+            set: len * usize::from(value),
         }
     }
 
@@ -68,12 +68,7 @@ impl Flags {
         requires { number < length self.old }
         ensures { self.new ≡ slice_set self.old number value }
     {
-        if self.flags[number] {
-            self.set -= 1;
-        }
-        if value {
-            self.set += 1;
-        }
+        self.set = self.set + usize::from(value) - usize::from(self.flags[number]);
         self.flags[number] = value;
     }
 }

@@ -1,10 +1,10 @@
 //! The gates of the interrupt sources.
 
-ghost use Rattle.std.specs.Prelude.{◌≡◌, ◌<◌, ◌≤◌, true, false, length, option_map, slice_index_or};
+ghost use Rattle.std.specs.Prelude.{◌≡◌, ◌<◌, ◌≤◌, true, false, length, option_map, slice_index_or, IfSome};
 ghost use Rattle.std.specs.Option.{ForSome};
 ghost use Rattle.tt_world.specs.Gates.{source_owner};
-ghost use Rattle.isr_window.specs.Window.{first_due, first_ready, new_window, next_tick, taking, accepting, enabling};
-ghost use Rattle.isr_window.specs.Numbers.{first_at, first_isr, first_oisr, with_flag, without_next};
+ghost use Rattle.isr_window.specs.Window.{IsSourceOf, first_due, first_ready, least_next, lesser, new_window, next_tick, taking, accepting, enabling};
+ghost use Rattle.isr_window.specs.Numbers.{first_at, first_ready_in, is_ready_in, with_flag, without_next};
 ghost use Rattle.isr_window.specs.Arrived.{arrived_at};
 
 use crate::busy::Busy;
@@ -14,14 +14,15 @@ use std::marker::Model;
 use tt_base::{IsrNo, OisrNo, Owner, Tick};
 use tt_world::Arrivals;
 
-/// An arrival that was taken: at this source, and whether it was lost into an interrupt that is held there.
+/// An arrival that was taken: at this source, and whether it was lost into an interrupt that is
+/// held there.
 #[derive(Clone, Copy, Debug, PartialEq, Eq)]
 pub struct Arrived {
     pub source: Owner,
     pub merged: bool,
 }
 
-/// The interrupt sources of a run. Contracts see them as a record of these.
+/// The interrupt sources of a run. Contracts see them as a record of these, but for the tick.
 #[derive(Debug, Drop)]
 pub struct Gates {
     isrs_enabled: Flags,
@@ -45,11 +46,20 @@ impl Model for Gates {
     ghost invariant = { IsWindow };
 }
 
-/// Takes the first arrival at a tick among sources of one kind: its number, and whether an interrupt was held there.
+/// The least tick that is not taken, if there is one.
+fn least_of(isrs: &Queues, oisrs: &Queues) -> Option<Tick>
+    ensures { result ≡ lesser (least_next isrs.now) (least_next oisrs.now) }
+{
+    lesser(isrs.least(), oisrs.least())
+}
+
+/// Takes the first arrival at a tick among sources of one kind: its number, and whether an
+/// interrupt was held there.
 fn take_first(left: &mut Queues, held: &mut Flags, now: Tick) -> Option<(usize, bool)>
     requires { length held.old ≡ length left.old }
     ensures value { result
-        ≡ option_map (λ number. record { 0 = number; 1 = slice_index_or held.old number false }) (first_at now left.old) }
+        ≡ option_map (λ number. record { 0 = number; 1 = slice_index_or held.old number false })
+        (first_at now left.old) }
     ensures left { left.new ≡ without_next (first_at now left.old) left.old }
     ensures held { held.new ≡ with_flag (first_at now left.old) true held.old }
 {
@@ -60,8 +70,33 @@ fn take_first(left: &mut Queues, held: &mut Flags, now: Tick) -> Option<(usize, 
     Some((number, merged))
 }
 
+/// Whether an interrupt of a source can be accepted: it is held, and the source is enabled and not
+/// busy.
+fn is_ready(held: &Flags, enabled: &Flags, busy: &Flags, number: usize) -> bool
+    ensures { result ≡ is_ready_in held.now enabled.now busy.now number }
+{
+    held.is(number) && (enabled.is(number) && !busy.is(number))
+}
+
+/// The number of the first source of one kind of which an interrupt can be accepted. Where none is
+/// held, it is one step.
+fn first_ready(held: &Flags, enabled: &Flags, busy: &Flags) -> Option<usize>
+    ensures { result ≡ first_ready_in held.now enabled.now busy.now }
+{
+    if held.are_clear() {
+        return None;
+    }
+    for number in 0..held.len() {
+        if is_ready(held, enabled, busy, number) {
+            return Some(number);
+        }
+    }
+    None
+}
+
 impl Gates {
-    /// Sources with these arrivals: all enabled, and nothing held. There are at most 16 of each kind.
+    /// Sources with these arrivals: all enabled, and nothing held. There are at most 16 of each
+    /// kind.
     pub fn new(arrivals: Arrivals) -> Gates
         requires isrs { length arrivals.isrs ≤ 16 }
         requires oisrs { length arrivals.oisrs ≤ 16 }
@@ -69,7 +104,7 @@ impl Gates {
     {
         let isrs_left = Queues::new(arrivals.isrs);
         let oisrs_left = Queues::new(arrivals.oisrs);
-        let next = lesser(isrs_left.least(), oisrs_left.least());
+        let next = least_of(&isrs_left, &oisrs_left);
         Gates {
             isrs_enabled: Flags::new(isrs_left.len(), true),
             isrs_held: Flags::new(isrs_left.len(), false),
@@ -80,14 +115,16 @@ impl Gates {
         }
     }
 
-    /// The least tick of an arrival that is not taken, if there is one. It is kept, and costs one step.
+    /// The least tick of an arrival that is not taken, if there is one: the ticks of each source
+    /// ascend. It is kept, and costs one step.
     pub fn next_arrival(&self) -> Option<Tick>
         ensures { result ≡ next_tick self.now }
     {
         self.next
     }
 
-    /// Takes the first arrival at a tick, in the order of the sources, if there is one. No arrival before the tick is left.
+    /// Takes the first arrival at a tick, if there is one: time-triggered sources by number, then
+    /// those of the OSEK subsystem by number. No arrival before the tick is left.
     pub fn arrive(&mut self, now: Tick) -> Option<Arrived>
         requires { ForSome (next_tick self.old) (λ tick. now ≤ tick) }
         ensures value { result ≡ option_map (arrived_at self.old) (first_due now self.old) }
@@ -96,74 +133,43 @@ impl Gates {
         if !is_at(self.next, now) {
             return None;
         }
-        let arrived = match take_first(&mut self.isrs_left, &mut self.isrs_held, now) {
-            Some((number, merged)) => Some(Arrived {
-                source: Owner::Isr(IsrNo(number as u16)),
-                merged,
-            }),
-            None => match take_first(&mut self.oisrs_left, &mut self.oisrs_held, now) {
-                Some((number, merged)) => Some(Arrived {
-                    source: Owner::Oisr(OisrNo(number as u16)),
-                    merged,
-                }),
-                None => None,
-            },
-        };
-        self.next = lesser(self.isrs_left.least(), self.oisrs_left.least());
-        arrived
+        if let Some((number, merged)) = take_first(&mut self.isrs_left, &mut self.isrs_held, now) {
+            self.next = least_of(&self.isrs_left, &self.oisrs_left);
+            let source = Owner::Isr(IsrNo(number as u16));
+            return Some(Arrived { source, merged });
+        }
+        let (number, merged) = take_first(&mut self.oisrs_left, &mut self.oisrs_held, now)?;
+        self.next = least_of(&self.isrs_left, &self.oisrs_left);
+        let source = Owner::Oisr(OisrNo(number as u16));
+        Some(Arrived { source, merged })
     }
 
-    /// Enables a time-triggered source.
+    /// Enables a time-triggered source, where it is there.
     pub fn enable(&mut self, isr: IsrNo)
-        requires { isr.0 < length self.old.isrs_enabled }
         ensures { self.new ≡ enabling isr self.old }
     {
-        self.isrs_enabled.put(usize::from(isr.0), true);
+        let number = usize::from(isr.0);
+        if number < self.isrs_enabled.len() {
+            self.isrs_enabled.put(number, true);
+        }
     }
 
-    /// Accepts the interrupt of the first source that is held, enabled and not busy, in the order of the sources, if there is one: it is
-    /// no longer held, and a time-triggered source is disabled.
+    /// Accepts the interrupt of the first source that is held, enabled and not busy, if there is
+    /// one, in the order of arrivals: it is no longer held, and a time-triggered source is
+    /// disabled.
     pub fn accept_next(&mut self, busy: &Busy) -> Option<Owner>
         ensures value { result ≡ option_map source_owner (first_ready busy.now self.old) }
         ensures state { self.new ≡ accepting (first_ready busy.now self.old) self.old }
+        ensures source { IfSome result (IsSourceOf self.old) }
     {
-        if let Some(number) = self.ready_isr(busy) {
+        if let Some(number) = first_ready(&self.isrs_held, &self.isrs_enabled, busy.isrs()) {
             self.isrs_held.put(number, false);
             self.isrs_enabled.put(number, false);
             return Some(Owner::Isr(IsrNo(number as u16)));
         }
-        let number = self.ready_oisr(busy)?;
+        // Nothing closes a source of the OSEK subsystem: it is open wherever an interrupt is held.
+        let number = first_ready(&self.oisrs_held, &self.oisrs_held, busy.oisrs())?;
         self.oisrs_held.put(number, false);
         Some(Owner::Oisr(OisrNo(number as u16)))
-    }
-
-    /// The number of the first time-triggered source of which an interrupt can be accepted.
-    fn ready_isr(&self, busy: &Busy) -> Option<usize>
-        ensures { result ≡ first_isr busy.now self.now }
-    {
-        if self.isrs_held.are_clear() {
-            return None;
-        }
-        for number in 0..self.isrs_held.len() {
-            if self.isrs_held.is(number) && self.isrs_enabled.is(number) && !busy.isr(number) {
-                return Some(number);
-            }
-        }
-        None
-    }
-
-    /// The number of the first source of the OSEK subsystem of which an interrupt can be accepted.
-    fn ready_oisr(&self, busy: &Busy) -> Option<usize>
-        ensures { result ≡ first_oisr busy.now self.now }
-    {
-        if self.oisrs_held.are_clear() {
-            return None;
-        }
-        for number in 0..self.oisrs_held.len() {
-            if self.oisrs_held.is(number) && !busy.oisr(number) {
-                return Some(number);
-            }
-        }
-        None
     }
 }

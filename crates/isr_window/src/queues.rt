@@ -8,7 +8,8 @@ use crate::flags::MOST;
 use std::marker::Model;
 use tt_base::{Series, Tick};
 
-/// A list of ticks for each source of one kind. Contracts see the ticks of each list that are not taken.
+/// A list of ticks for each source of one kind. Contracts see the ticks of each list that are not
+/// taken.
 #[derive(Debug, Drop)]
 pub(crate) struct Queues {
     lists: Series<Series<Tick>>,
@@ -36,6 +37,13 @@ pub(crate) fn is_at(tick: Option<Tick>, now: Tick) -> bool
         None => false,
         Some(tick) => tick == now,
     }
+}
+
+/// The tick at a place of a list, if there is one.
+fn tick_at(ticks: &[Tick], place: usize) -> Option<Tick>
+    ensures { result ≡ slice_get ticks.now place }
+{
+    ticks.get(place).copied()
 }
 
 /// The lesser of two ticks, of those that there are.
@@ -69,19 +77,23 @@ impl Queues {
     }
 
     /// The next tick of a source, if there is one.
+    #[tactic(auto, using(crate::proofs::Taken::length_untaken))]
     pub(crate) fn next(&self, number: usize) -> Option<Tick>
+        requires { number < length self.now }
         ensures { result ≡ slice_get (slice_index_or self.now number []) 0 }
     {
-        let ticks = self.lists.as_slice().get(number)?;
-        ticks.as_slice().get(*self.taken.get(number)?).copied()
+        let ticks = self.lists.as_slice()[number].as_slice();
+        tick_at(ticks, self.taken[number])
     }
 
     /// Takes the next tick of a source.
+    #[tactic(auto, using(crate::proofs::Taken::length_untaken, crate::proofs::Taken::untaken_more, crate::proofs::Taken::untaken_all))]
     pub(crate) fn take(&mut self, number: usize)
         requires { number < length self.old }
         ensures { self.new ≡ slice_set self.old number (drop 1 (slice_index_or self.old number [])) }
     {
-        if self.taken[number] < self.lists.as_slice()[number].as_slice().len() {
+        let ticks = self.lists.as_slice()[number].as_slice();
+        if self.taken[number] < ticks.len() {
             self.taken[number] += 1;
         }
     }

@@ -1,1 +1,2 @@
 pub mod Corrections
+pub mod ExampleRules

@@ -1,3 +1,4 @@
 pub mod Round
 pub mod Step
 pub mod State
+pub mod Example

@@ -4,6 +4,7 @@ use Rattle.tt_base.specs.declared.number.ModeNo.{ModeNo}
 use Rattle.tt_world.specs.declared.config.ConfigParts.{ConfigParts}
 use Rattle.tt_world.specs.Correction.{correction_of, length_with}
 
+-- what is known of the round at an instant
 pub record Round : Type 0 where
   -- the length of a round without a correction, the greatest correction, and the number of modes
   pub round : ℕ
@@ -105,6 +106,7 @@ sync_result (Some global) = 0
 
 -- ---- the round's end
 
+-- whether the round is the last one
 abbrev pub is_last : Round → Bool
 is_last r = r.number == r.rounds
 

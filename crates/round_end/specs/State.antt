@@ -2,6 +2,7 @@
 use Rattle.round_end.specs.declared.state.RoundState.TheInside.{Inside}
 use Rattle.round_end.specs.Round.{Round}
 
+-- the same by name
 abbrev pub round_of : Inside → Round
 round_of s = record {
   round = s.round;

@@ -48,7 +48,8 @@ impl Model for RoundState {
 }
 
 impl RoundState {
-    /// Round 1 of a run, which begins at tick 0 in the start mode: of this many rounds, with these global times in ticks.
+    /// Round 1 of a run, which begins at tick 0 in the start mode: of this many rounds, with these
+    /// global times in ticks.
     pub fn new(config: &Config, start: ModeNo, rounds: u32, times: Series<u64>) -> RoundState
         requires mode { start.0 < length config.now.modes }
         requires rounds { 1 ≤ rounds }
@@ -122,7 +123,8 @@ impl RoundState {
         self.latched
     }
 
-    /// ttSwitchAppMode: the next round has this application mode, unless another is wanted before it begins.
+    /// The next round has this application mode, unless another is wanted before it begins. The
+    /// OSEK/VDX standard: ttSwitchAppMode.
     pub fn want_mode(&mut self, mode: ModeNo)
         requires { mode.0 < self.old.modes }
         ensures { self.new ≡ wanting mode self.old }
@@ -130,8 +132,9 @@ impl RoundState {
         self.wanted = mode;
     }
 
-    /// ttSyncTimes at a tick: 0, and the next global time asks for a correction of the next round whose length is latched; 1 where no
-    /// global time is left, and then nothing has changed.
+    /// A call at a tick: 0, and the next global time asks for a correction of the next round whose
+    /// length is latched; 1 where no global time is left, and then nothing has changed. The
+    /// OSEK/VDX standard: ttSyncTimes.
     pub fn sync(&mut self, now: Tick) -> u8
         requires { self.old.start ≤ now }
         ensures value { result ≡ sync_result (next_time self.old) }
@@ -147,7 +150,8 @@ impl RoundState {
         }
     }
 
-    /// The latch, which fixes the length of the round: the correction that it takes, in ticks.
+    /// The latch, which fixes the length of the round: the correction that it takes, in ticks. The
+    /// latch is the bench's own.
     pub fn latch(&mut self) -> i64
         requires { self.old.latched ≡ None }
         ensures value { result ≡ self.old.pending }
@@ -159,7 +163,8 @@ impl RoundState {
         correction
     }
 
-    /// The round's end, at the offset that is its length: the next round begins, where there is one.
+    /// The round's end, at the offset that is its length: the next round begins, where there is
+    /// one. The OSEK/VDX standard: dispatcher rounds.
     pub fn end_round(&mut self, now: Tick) -> RoundStep
         requires { self.old.latched ≡ Some (now - self.old.start) }
         ensures value { result ≡ step_after self.old }

@@ -1,107 +1,92 @@
--- The order of checks.
-use Rattle.std.proofs.Common.{ℕ, suc, ◌≡◌, Bool, true, false, List, get_or, refl, sym, ◌∙◌, arith}
-use Rattle.std.specs.Prelude.{◌&&◌, ◌||◌, not, filter}
-use Rattle.std.specs.Cmp.{IsStrictWeakOrder}
-use Rattle.std.specs.List.Sorted.{IsSortedBy, IsPartitionedBy, ties}
-use Rattle.std.proofs.lemmas.Bool.{ltb-true, ltb-false, lt-ltb, le-ltb, leb-true, le-leb}
+-- The checks of a mode, by entry number and by offset.
+use Rattle.std.proofs.Common.{ℕ, zero, suc, ◌≡◌, ◌+◌, ◌<◌, Bool, true, false, cond, List, [], ◌∷◌, ◌++◌, length, get_or, map, take, refl, sym, ap, ◌∙◌, add-one, arith}
+use Rattle.std.specs.Prelude.{◌&&◌, ◌==◌, not, nat_lt, filter, flat_map}
+use Rattle.std.specs.List.{range_with_len}
+use Rattle.std.specs.List.Sorted.{IsStableByKey, ties}
+use Rattle.std.specs.Ordering.{is_lt, nat_cmp}
 use Rattle.std.proofs.lemmas.Bool.Decides.{nat_tests}
-use Rattle.std.proofs.lemmas.List.Elements.{filter_agree}
-use Rattle.std.proofs.lemmas.List.Sorted.{sorted_far}
+use Rattle.std.proofs.lemmas.Grind.{flat_map-append}
+use Rattle.std.proofs.lemmas.List.{append-nil, get_or_default, map-append, take_more}
+use Rattle.std.proofs.lemmas.List.Elements.{filter-append, filter_agree}
+use Rattle.tt_world.specs.declared.config.Activation.{Activation}
+use Rattle.tt_world.specs.declared.config.ModeDef.{ModeDef}
 use Rattle.tt_world.specs.declared.world.Point.{Point}
 use Rattle.tt_world.specs.declared.world.Point.TheVariants as point
-use Rattle.tt_world.specs.Monitoring.{is_at, is_at_end}
+use Rattle.tt_world.specs.Monitoring.{is_at}
+use Rattle.tt_world.specs.Points.{point_of}
+use Rattle.tt_world.specs.Rows.{no_row, row_of}
 use Rattle.round_table.specs.declared.checks.Check.{Check}
-use Rattle.round_table.specs.CheckLists.{comes_before, is_below, is_up_to, is_earlier, numbered, AreChecks}
-use Rattle.round_table.specs.DueRows.{is_round_end}
+use Rattle.round_table.specs.CheckLists.{check_if, checks_among, ends_among, entries_in}
+use Rattle.round_table.specs.DueRows.{entries_due, entries_of, is_round_end}
 
--- ---- the order of points
+range_more : (from n last : ℕ) → from + n ≡ last → range_with_len from (suc n) ≡ range_with_len from n ++ last ∷ []
+range_more from zero last is = let same : from ≡ last = omega arith in ap (λ k. k ∷ []) same
+range_more from (suc n) last is = ap (λ ks. from ∷ ks) (range_more (from + 1) n last (omega arith))
 
-one_way : (p q : Point) → comes_before p q ≡ true → comes_before q p ≡ false
-one_way (point.At a) (point.At b) h = le-ltb b a (omega (arith, ltb-true a b h))
-one_way (point.At a) point.RoundEnd h = refl
-one_way point.RoundEnd q h = cc
+below_more : (n : ℕ) → range_with_len 0 (n + 1) ≡ range_with_len 0 n ++ n ∷ []
+below_more n = ap (range_with_len 0) (add-one n) ∙ range_more 0 n n (omega arith)
 
-chain : (p q r : Point) → comes_before p q ≡ false → comes_before q r ≡ false → comes_before p r ≡ false
-chain (point.At a) (point.At b) (point.At c) h k = le-ltb a c (omega (arith, ltb-false a b h, ltb-false b c k))
-chain (point.At a) (point.At b) point.RoundEnd h k = cc
-chain (point.At a) point.RoundEnd r h k = cc
-chain point.RoundEnd q r h k = refl
+-- the points, the checks and the ends with one more entry
+module _ (mode : ModeDef) (n : ℕ) (within : n < length mode.activations) (p : Point) (d : Activation) (is : p ≡ point_of mode (get_or mode.activations n d)) where
+  is_here : p ≡ point_of mode (row_of mode n)
+  is_here = is ∙ ap (point_of mode) (get_or_default mode.activations n d no_row within)
 
-pub earlier_order : IsStrictWeakOrder is_earlier
-earlier_order = record {
-  one_way = λ x y. one_way x.point y.point;
-  chain = λ x y z. chain x.point y.point z.point;
-}
+  pub points_more : (points : List Point) → points ≡ map (point_of mode) (take n mode.activations)
+      → points ++ p ∷ [] ≡ map (point_of mode) (take (n + 1) mode.activations)
+  points_more points same =
+      ap (λ ps. ps ++ p ∷ []) same ∙ ap (λ q. map (point_of mode) (take n mode.activations) ++ q ∷ []) is
+      ∙ sym (ap (map (point_of mode)) (take_more mode.activations n d within)
+      ∙ map-append (point_of mode) (take n mode.activations) (get_or mode.activations n d ∷ []))
 
--- ---- tests of points
+  pub checks_more : (checks : List Check) → checks ≡ checks_among mode n → checks ++ check_if n p ≡ checks_among mode (n + 1)
+  checks_more checks same =
+      ap (λ cs. cs ++ check_if n p) same ∙ ap (λ q. checks_among mode n ++ check_if n q) is_here
+      ∙ sym (ap (flat_map (λ entry. check_if entry (point_of mode (row_of mode entry)))) (below_more n)
+      ∙ flat_map-append (λ entry. check_if entry (point_of mode (row_of mode entry))) (range_with_len 0 n) (n ∷ [])
+      ∙ ap (λ cs. checks_among mode n ++ cs) (append-nil (check_if n (point_of mode (row_of mode n)))))
 
-below_too : (offset : ℕ) (p q : Point) → comes_before q p ≡ false → is_below offset q ≡ true → is_below offset p ≡ true
-below_too offset (point.At a) (point.At b) h k = lt-ltb a offset (omega (arith, ltb-false b a h, ltb-true b offset k))
-below_too offset point.RoundEnd (point.At b) h k = cc
-below_too offset p point.RoundEnd h k = cc
+  pub ends_more : (ends : List ℕ) → ends ≡ ends_among mode n → ends ++ cond (is_round_end p) (n ∷ []) [] ≡ ends_among mode (n + 1)
+  ends_more ends same =
+      ap (λ es. es ++ cond (is_round_end p) (n ∷ []) []) same
+      ∙ ap (λ q. ends_among mode n ++ cond (is_round_end q) (n ∷ []) []) is_here
+      ∙ sym (ap (filter (λ entry. is_round_end (point_of mode (row_of mode entry)))) (below_more n)
+      ∙ filter-append (λ entry. is_round_end (point_of mode (row_of mode entry))) (range_with_len 0 n) (n ∷ []))
 
-up_to_too : (offset : ℕ) (p q : Point) → comes_before q p ≡ false → is_up_to offset q ≡ true → is_up_to offset p ≡ true
-up_to_too offset (point.At a) (point.At b) h k = le-leb a offset (omega (arith, ltb-false b a h, leb-true b offset k))
-up_to_too offset point.RoundEnd (point.At b) h k = cc
-up_to_too offset p point.RoundEnd h k = cc
+-- the checks of an offset, among those of some entries
+module _ (mode : ModeDef) (offset : ℕ) where
+  among : (entries : List ℕ)
+      → entries_in (filter (λ (check : Check). check.offset == offset) (flat_map (λ entry. check_if entry (point_of mode (row_of mode entry))) entries))
+      ≡ filter (λ entry. is_at offset (point_of mode (row_of mode entry))) entries
+  among [] = refl
+  among (entry ∷ entries) = at (point_of mode (row_of mode entry)) (among entries) where
+    checks : List Check
+    checks = flat_map (λ e. check_if e (point_of mode (row_of mode e))) entries
 
-pub below_partitioned : (offset : ℕ) (checks : List Check) → IsSortedBy is_earlier checks → IsPartitionedBy (λ (check : Check). is_below offset check.point) checks
-below_partitioned offset checks sorted i j d le l =
-    below_too offset (get_or checks i d).point (get_or checks j d).point (sorted_far is_earlier earlier_order checks sorted i j d le l)
+    rest : List ℕ
+    rest = filter (λ e. is_at offset (point_of mode (row_of mode e))) entries
 
-pub up_to_partitioned : (offset : ℕ) (checks : List Check) → IsSortedBy is_earlier checks → IsPartitionedBy (λ (check : Check). is_up_to offset check.point) checks
-up_to_partitioned offset checks sorted i j d le l =
-    up_to_too offset (get_or checks i d).point (get_or checks j d).point (sorted_far is_earlier earlier_order checks sorted i j d le l)
+    kept : List Check → List Check
+    kept xs = filter (λ (check : Check). check.offset == offset) xs
 
-pub below_up_to : (offset : ℕ) (p : Point) → is_below offset p ≡ true → is_up_to offset p ≡ true
-below_up_to offset (point.At a) h = le-leb a offset (omega (arith, ltb-true a offset h))
-below_up_to offset point.RoundEnd h = cc
+    at : (p : Point) → entries_in (kept checks) ≡ rest → entries_in (kept (check_if entry p ++ checks)) ≡ cond (is_at offset p) (entry ∷ rest) rest
+    at (point.At place) e = by (place == offset) where
+      by : (b : Bool) → entries_in (cond b (record { offset = place; entry = entry } ∷ kept checks) (kept checks)) ≡ cond b (entry ∷ rest) rest
+      by true = ap (λ es. entry ∷ es) e
+      by false = e
+    at point.RoundEnd e = e
 
-pub below_apart : (offset : ℕ) (p : Point) → is_below offset p ≡ true → is_at offset p ≡ false
-below_apart offset (point.At a) h = grind (arith, nat_tests)
-below_apart offset point.RoundEnd h = refl
+tied : (offset n : ℕ) → (not (is_lt (nat_cmp offset n)) && not (is_lt (nat_cmp n offset))) ≡ (n == offset)
+tied offset n = grind (arith, nat_tests)
 
-pub up_to_is : (offset : ℕ) (p : Point) → (is_up_to offset p && not (is_below offset p)) ≡ is_at offset p
-up_to_is offset (point.At a) = grind (arith, nat_tests)
-up_to_is offset point.RoundEnd = refl
-
-pub below_more : (offset : ℕ) (p : Point) → (is_below offset p || is_at offset p) ≡ is_below (suc offset) p
-below_more offset (point.At a) = grind (arith, nat_tests)
-below_more offset point.RoundEnd = refl
-
-pub below_none : (p : Point) → is_below 0 p ≡ false
-below_none (point.At a) = le-ltb a 0 (omega arith)
-below_none point.RoundEnd = refl
-
-pub end_is : (offset : ℕ) (p : Point) → not (is_below offset p) ≡ is_at_end offset p
-end_is offset (point.At a) = grind (arith, nat_tests)
-end_is offset point.RoundEnd = refl
-
-pub below_no_end : (offset : ℕ) (p : Point) → is_below offset p ≡ true → is_round_end p ≡ false
-below_no_end offset (point.At a) h = refl
-below_no_end offset point.RoundEnd h = cc
-
--- ---- those of one point
-
-tied_at : (offset : ℕ) (p : Point) → (not (comes_before (point.At offset) p) && not (comes_before p (point.At offset))) ≡ is_at offset p
-tied_at offset (point.At a) = grind (arith, nat_tests)
-tied_at offset point.RoundEnd = refl
-
-tied_end : (p : Point) → (not (comes_before point.RoundEnd p) && not (comes_before p point.RoundEnd)) ≡ is_round_end p
-tied_end (point.At a) = refl
-tied_end point.RoundEnd = refl
-
-module _ (points : List Point) (checks : List Check) (are : AreChecks points checks) where
-  grouped : (is_due : Point → Bool) (one : Check) → ((p : Point) → (not (comes_before one.point p) && not (comes_before p one.point)) ≡ is_due p)
-      → filter (λ (check : Check). is_due check.point) checks ≡ filter (λ (check : Check). is_due check.point) (numbered points)
-  grouped is_due one same =
-      sym (filter_agree (ties is_earlier one) (λ (check : Check). is_due check.point) (λ check. same check.point) checks)
-      ∙ are.stable one
-      ∙ filter_agree (ties is_earlier one) (λ (check : Check). is_due check.point) (λ check. same check.point) (numbered points)
-
-  -- the checks of one offset, and those of the round's end, stand in the order of their entries
-  pub grouped_at : (offset : ℕ) → filter (λ (check : Check). is_at offset check.point) checks ≡ filter (λ (check : Check). is_at offset check.point) (numbered points)
-  grouped_at offset = grouped (is_at offset) (record { point = point.At offset; entry = 0 }) (tied_at offset)
-
-  pub grouped_end : filter (λ (check : Check). is_round_end check.point) checks ≡ filter (λ (check : Check). is_round_end check.point) (numbered points)
-  grouped_end = grouped is_round_end (record { point = point.RoundEnd; entry = 0 }) tied_end
+-- in a stable order by offset, the checks of an offset are those of the entries that are due there
+pub in_order : (mode : ModeDef) (checks sorted : List Check) → checks ≡ checks_among mode (length mode.activations)
+    → IsStableByKey (λ (check : Check). check.offset) nat_cmp checks sorted
+    → (offset : ℕ) → entries_in (filter (λ (check : Check). check.offset == offset) sorted) ≡ entries_due (is_at offset) mode
+in_order mode checks sorted are stable offset =
+    let one : Check = record { offset = offset; entry = 0 } in
+    let at : Check → Bool = λ check. check.offset == offset in
+    let ties_one : Check → Bool = ties (λ (x y : Check). is_lt (nat_cmp x.offset y.offset)) one in
+    ap entries_in
+    (sym (filter_agree ties_one at (λ check. tied offset check.offset) sorted) ∙ stable one
+    ∙ filter_agree ties_one at (λ check. tied offset check.offset) checks ∙ ap (filter at) are)
+    ∙ among mode offset (entries_of mode)

@@ -1,9 +1,13 @@
 -- Cursors in the list of expiry points.
-use Rattle.std.proofs.Common.{ℕ, zero, suc, ◌≡◌, ◌≤◌, ◌<◌, ◌+◌, ◌-◌, Bool, true, false, List, [], ◌∷◌, length, length-append, Option, None, Some, refl, sym, ap, ◌∙◌, subst, ⊎_elim, add-one, arith}
-use Rattle.std.specs.Prelude.{◌&&◌, ◌==◌, is_none, IfSome, slice_get}
-use Rattle.std.proofs.lemmas.Bool.{and_parts, cases_lt, cases_Bool, cond-true, cond-false, eqb-true}
-use Rattle.std.proofs.lemmas.List.{nil_from_length}
-use Rattle.std.proofs.lemmas.Option.{slice_get_past, IfSome_then}
+use Rattle.std.proofs.Common.{ℕ, zero, suc, ◌≡◌, ◌≤◌, ◌<◌, ◌+◌, ◌-◌, Bool, true, false, List, [], ◌∷◌, ◌++◌, length, length-append, Option, None, Some, refl, sym, ap, ◌∙◌, subst, ⊎_elim, add-one, arith}
+use Rattle.std.specs.Prelude.{◌&&◌, ◌==◌, nat_lt, filter, is_none, IfSome, slice_get}
+use Rattle.std.specs.List.{All, AllPairs}
+use Rattle.std.specs.List.Sorted.{IsNonDecreasingBy}
+use Rattle.std.proofs.lemmas.Bool.{and_parts, cases_lt, cases_Bool, cond_both, cond-true, cond-false, eqb-true, le-ltb, lt-ltb}
+use Rattle.std.proofs.lemmas.List.{append-nil, nil_from_length}
+use Rattle.std.proofs.lemmas.List.Elements.{All-cons, All-nil, All-push, All-weaker, filter-append}
+use Rattle.std.proofs.lemmas.List.Quantifiers.{all_pairs_push}
+use Rattle.std.proofs.lemmas.Option.{get_or_from_slice_get, slice_get_past, slice_get_within, IfSome_then}
 use Rattle.tt_base.specs.declared.number.IsrNo.{IsrNo}
 use Rattle.tt_world.specs.declared.config.Enable.{Enable}
 use Rattle.tt_world.specs.declared.config.ModeDef.{ModeDef}
@@ -11,10 +15,13 @@ use Rattle.tt_world.specs.Monitoring.{is_at}
 use Rattle.tt_world.specs.Rows.{enables_at, entry_at}
 use Rattle.round_table.specs.declared.due.ExpiryPoint.{ExpiryPoint}
 use Rattle.round_table.specs.Below.{below}
+use Rattle.round_table.specs.Cuts.{IsCut}
 use Rattle.round_table.specs.DueRows.{due_at, entries_due}
 use Rattle.round_table.specs.ExpiryPoints.{IsFree, is_free, expiry_at, expiry_below, expiry_points, IsCursor, IsNextPoint}
 use Rattle.round_table.specs.TableRows.{TableRows}
-use Rattle.round_table.proofs.Laid.{below_get, below_still}
+use Rattle.round_table.proofs.Cutting.{cut_length, filter_all}
+use Rattle.round_table.proofs.Laid.{all_below, below_get, below_still}
+use Rattle.round_table.proofs.RowOrder.{rises}
 
 none_is : {X : Type 0} (o : Option X) → is_none o ≡ true → o ≡ None
 none_is None e = refl
@@ -38,8 +45,63 @@ module _ (table : TableRows) where
   abbrev point_at : ℕ → ExpiryPoint
   point_at offset = record { offset = offset; due = due_at offset table }
 
-  none_at : (offset : ℕ) → is_free offset table.mode ≡ true → expiry_at table offset ≡ []
+  pub none_at : (offset : ℕ) → is_free offset table.mode ≡ true → expiry_at table offset ≡ []
   none_at offset e = cond-true (is_free offset table.mode) _ _ e
+
+  -- the expiry points ascend strictly, and those of the offsets below a number are at such offsets
+  points_ascend : (n : ℕ) → All (λ (p : ExpiryPoint). p.offset < n) (expiry_below table n)
+      × AllPairs (λ (p later : ExpiryPoint). p.offset < later.offset) (expiry_below table n)
+  unfolding below
+  points_ascend zero = (All-nil (λ (p : ExpiryPoint). p.offset < 0), λ i j d lt l. absurd (omega arith))
+  points_ascend (suc n) =
+      let Before : ℕ → ExpiryPoint → Type 0 = λ k p. p.offset < k in
+      let Earlier : ExpiryPoint → ExpiryPoint → Type 0 = λ p later. p.offset < later.offset in
+      let before = points_ascend n in
+      let all = All-weaker (Before n) (Before (suc n)) (λ p less. omega arith) (expiry_below table n) before.0 in
+      cond_both (is_free n table.mode) [] (point_at n ∷ [])
+      (λ ps. All (Before (suc n)) (expiry_below table n ++ ps) × AllPairs Earlier (expiry_below table n ++ ps))
+      (λ _. subst (λ ps. All (Before (suc n)) ps × AllPairs Earlier ps) (sym (append-nil (expiry_below table n))) (all, before.1))
+      (λ _. (All-push (Before (suc n)) (expiry_below table n) (point_at n) all (omega arith), all_pairs_push Earlier (expiry_below table n) (point_at n) before.1 before.0))
+
+  pub points_rise : IsNonDecreasingBy (λ (p : ExpiryPoint). p.offset) (expiry_points table)
+  points_rise =
+      rises (λ (p : ExpiryPoint). p.offset) (λ p later. p.offset < later.offset) (λ p later less. omega arith) (expiry_points table) (points_ascend (suc table.limit)).1
+
+  pub points_within : All (λ (p : ExpiryPoint). p.offset < suc table.limit) (expiry_points table)
+  points_within = (points_ascend (suc table.limit)).0
+
+  -- each has what is due at its offset
+  pub points_due : All (λ (p : ExpiryPoint). p.due ≡ due_at p.offset table) (expiry_points table)
+  points_due =
+      let IsOwn : ExpiryPoint → Type 0 = λ p. p.due ≡ due_at p.offset table in
+      all_below (expiry_at table) IsOwn
+      (λ n. cond_both (is_free n table.mode) [] (point_at n ∷ []) (All IsOwn) (λ _. All-nil IsOwn) (λ _. All-cons IsOwn (point_at n) [] refl (All-nil IsOwn)))
+      (suc table.limit)
+
+  module _ (offset : ℕ) where
+    abbrev before : ExpiryPoint → Bool
+    before p = nat_lt p.offset offset
+
+    all_before : (n : ℕ) → n ≤ offset → filter before (expiry_below table n) ≡ expiry_below table n
+    all_before n le =
+        filter_all (λ (p : ExpiryPoint). nat_lt p.offset offset) (expiry_below table n)
+        (λ k d l. let less = (points_ascend n).0 k d l in lt-ltb _ offset (omega arith))
+
+    -- those before an offset are those of the offsets below it
+    some_before : (n : ℕ) → offset ≤ n → filter before (expiry_below table n) ≡ expiry_below table offset
+    unfolding below
+    some_before zero le = let none : 0 ≡ offset = omega arith in ap (expiry_below table) none
+    some_before (suc n) le =
+        ⊎_elim
+        (λ (l : n < offset). let same : suc n ≡ offset = omega arith in all_before (suc n) (omega arith) ∙ ap (expiry_below table) same)
+        (λ (g : offset ≤ n).
+        let none = cond_both (is_free n table.mode) [] (point_at n ∷ []) (λ ps. filter before ps ≡ []) (λ _. refl)
+        (λ _. cond-false (nat_lt n offset) _ _ (le-ltb n offset g)) in
+        filter-append before (expiry_below table n) (expiry_at table n)
+        ∙ ap (λ ps. ps ++ filter before (expiry_at table n)) (some_before n g)
+        ∙ ap (λ ps. expiry_below table offset ++ ps) none
+        ∙ append-nil (expiry_below table offset))
+        (cases_lt n offset)
 
   -- the cursor of offset 0
   pub cursor_first : IsCursor table 0 0
@@ -121,6 +183,17 @@ module _ (table : TableRows) where
         ⊎_elim (λ e. later offset e (next_from (suc offset) more (omega arith))) (λ e. here offset (omega arith) e)
         (cases_Bool (is_free offset table.mode))
 
+    -- the place before which the points with lesser offsets stand is the cursor
+    pub cursor_at : (place offset : ℕ) → IsCut (λ (p : ExpiryPoint). nat_lt p.offset offset) (expiry_points table) place → IsCursor table place offset
+    cursor_at place offset cut =
+        cut_length (λ (p : ExpiryPoint). nat_lt p.offset offset) (expiry_points table) place cut
+        ∙ ap length
+        (⊎_elim (λ (l : offset < end). some_before offset end (omega arith))
+        (λ (g : end ≤ offset).
+        all_before offset end g
+        ∙ sym (below_still (expiry_at table) end offset g (λ j ej jo. none_at j (free_test j table.mode (past j (omega arith))))))
+        (cases_lt offset end))
+
     pub cursor_next : (place offset : ℕ) → IsCursor table place offset → (found : Option ExpiryPoint) → found ≡ slice_get (expiry_points table) place
         → IsNextPoint table place offset found
     unfolding Next
@@ -128,3 +201,9 @@ module _ (table : TableRows) where
         let next = ⊎_elim (λ (l : offset < end). next_from offset (end - offset) (omega arith)) (λ (g : end ≤ offset). past_end offset g) (cases_lt offset end) in
         subst (IsNextPoint table place offset) (sym is)
         (subst (λ (p : ℕ). IsNextPoint table p offset (slice_get (expiry_points table) p)) (sym cursor) next)
+
+-- what holds of the elements of a list holds of the one at a place
+pub if_found : {X : Type 0} (P : X → Type 0) (xs : List X) (place : ℕ) (found : Option X) → found ≡ slice_get xs place → All P xs → IfSome found P
+if_found P xs place None is h = tt
+if_found P xs place (Some x) is h =
+    subst P (get_or_from_slice_get xs place x x (sym is)) (h place x (slice_get_within xs place x (sym is)))

@@ -1,8 +1,10 @@
 -- Lists that are laid out number after number.
 use Rattle.std.proofs.Common.{ℕ, zero, suc, ◌≡◌, ◌≤◌, ◌<◌, ◌+◌, ◌-◌, List, [], ◌∷◌, ◌++◌, Some, length, take, drop, refl, sym, ap, ◌∙◌, ⊎_elim, append_assoc, arith, length-append}
 use Rattle.std.specs.Prelude.{slice_get, slice_range}
+use Rattle.std.specs.List.{All}
 use Rattle.std.proofs.lemmas.Bool.{cases_lt}
 use Rattle.std.proofs.lemmas.List.{append-nil, nil_from_length}
+use Rattle.std.proofs.lemmas.List.Elements.{All-append, All-nil}
 use Rattle.std.proofs.Math.Seq.{take-append_seam, drop-append_seam}
 use Rattle.round_table.specs.Below.{below}
 
@@ -19,6 +21,12 @@ slice_range-seam front part rest i j is js =
     ∙ ap (λ n. take (length part) (drop n (front ++ (part ++ rest)))) is
     ∙ ap (take (length part)) (drop-append_seam front (part ++ rest))
     ∙ take-append_seam part rest
+
+-- the end after a front
+pub slice_range-end : {X : Type 0} (front rest : List X) → slice_range (front ++ rest) (length front) (length (front ++ rest)) ≡ rest
+slice_range-end front rest =
+    ap (λ xs. slice_range (front ++ xs) (length front) (length (front ++ rest))) (sym (append-nil rest))
+    ∙ slice_range-seam front rest [] (length front) (length (front ++ rest)) refl (length-append front rest)
 
 module _ {X : Type 0} (at : ℕ → List X) where
   -- what there is below a number begins with what there is below a smaller one
@@ -67,6 +75,10 @@ module _ {X : Type 0} (at : ℕ → List X) where
       ap (λ xs. below at n ++ xs) (none n l (omega arith)) ∙ append-nil (below at n) ∙ below_still k n l (λ j kj jn. none j kj (omega arith)))
       (cases_lt n k)
 
+  pub below_nothing : (n : ℕ) → at n ≡ [] → length (below at (suc n)) ≡ length (below at n)
+  unfolding below
+  below_nothing n none = ap (λ xs. length (below at n ++ xs)) none ∙ ap length (append-nil (below at n))
+
   -- where nothing is added there is nothing
   pub below_none : (k n : ℕ) → length (below at n) ≡ length (below at k) → (j : ℕ) → k ≤ j → j < n → at j ≡ []
   unfolding below
@@ -75,3 +87,26 @@ module _ {X : Type 0} (at : ℕ → List X) where
       (let first = below_rises k j kj in
       let last = below_rises (suc j) n (omega arith) in
       omega (arith, length-append (below at j) (at j)))
+
+  pub all_below : (P : X → Type 0) → ((k : ℕ) → All P (at k)) → (n : ℕ) → All P (below at n)
+  unfolding below
+  all_below P h zero = All-nil P
+  all_below P h (suc n) = All-append P (below at n) (at n) (all_below P h n) (h n)
+
+  -- a list that is laid out below a number from which on there is nothing, with others after it
+  module _ (n : ℕ) (others : List X) (past : (k : ℕ) → n ≤ k → at k ≡ []) where
+    pub below_past : (k : ℕ) → n ≤ k → below at k ≡ below at n
+    below_past k g = below_still n k g (λ j nj jk. past j nj)
+
+    pub below_within : (k : ℕ) → length (below at k) ≤ length (below at n ++ others)
+    below_within k =
+        ⊎_elim (λ (l : k < n). omega (arith, below_rises k n (omega arith), length-append (below at n) others))
+        (λ (g : n ≤ k). omega (arith, ap length (below_past k g), length-append (below at n) others)) (cases_lt k n)
+
+    pub below_part : (k : ℕ) → slice_range (below at n ++ others) (length (below at k)) (length (below at (suc k))) ≡ at k
+    below_part k =
+        ⊎_elim (λ (l : k < n). below_range k n others l)
+        (λ (g : n ≤ k).
+        let none : length (below at (suc k)) - length (below at k) ≡ 0 = omega (arith, below_nothing k (past k g)) in
+        ap (λ m. take m (drop (length (below at k)) (below at n ++ others))) none ∙ sym (past k g))
+        (cases_lt k n)

@@ -1,136 +1,126 @@
--- The order of what is due together.
-use Rattle.std.proofs.Common.{ℕ, zero, suc, ◌≡◌, ◌≤◌, ◌<◌, ◌+◌, ◌-◌, Bool, true, false, cond, List, [], ◌∷◌, length, get_or, map, Option, None, Some, refl, subst, ⊎_elim, add-one, arith}
-use Rattle.std.specs.Prelude.{◌&&◌, ◌==◌, nat_lt, filter}
-use Rattle.std.specs.List.{All, list_all, range_with_len}
-use Rattle.std.specs.List.Sorted.{IsStrictlyIncreasing}
-use Rattle.std.proofs.lemmas.Bool.{and_parts, or_cases, eqb-true, ltb-true}
-use Rattle.std.proofs.lemmas.List.Elements.{All-cons, All-nil}
-use Rattle.tt_base.specs.declared.number.IsrNo.{IsrNo}
+-- The order of the rows of a mode.
+use Rattle.std.proofs.Common.{ℕ, zero, suc, ◌≡◌, ◌≤◌, ◌<◌, ◌+◌, ◌-◌, Bool, true, List, [], ◌∷◌, length, get_or, map, refl, sym, ap, ◌∙◌, subst, inl, inr, ⊎_elim, arith}
+use Rattle.std.specs.Prelude.{◌⊎◌, ◌&&◌, ◌==◌, nat_le, nat_lt, filter}
+use Rattle.std.specs.List.{All, AllPairs, list_all}
+use Rattle.std.specs.List.Sorted.{IsNonDecreasingBy, IsStrictlyIncreasing}
+use Rattle.std.proofs.lemmas.Bool.{and_parts, or_cases, cases_lt, eqb-true, leb-true, ltb-true, lt-ltb, le-leb}
+use Rattle.std.proofs.lemmas.List.{get_or-map, get_or_default, get_or_past, length-map}
+use Rattle.std.proofs.lemmas.List.Elements.{All-get_or, All-cons, All-nil, All-weaker, filter_passes}
+use Rattle.std.proofs.lemmas.List.FromFn.{get_or-range_with_len, length-range_with_len}
+use Rattle.std.proofs.lemmas.List.Kept.{AllPairs-cons, AllPairs-filter}
+use Rattle.tt_world.specs.declared.config.Activation.{Activation}
 use Rattle.tt_world.specs.declared.config.Enable.{Enable}
 use Rattle.tt_world.specs.declared.config.ModeDef.{ModeDef}
 use Rattle.tt_world.specs.declared.config.ConfigParts.{ConfigParts}
-use Rattle.tt_world.specs.declared.world.Point.{Point}
-use Rattle.tt_world.specs.declared.world.Point.TheVariants as point
-use Rattle.tt_world.specs.ConfigRules.{comes_before, enables_ascend, is_activation}
-use Rattle.tt_world.specs.Points.{at_or_end, least_from, offsets_in, point_by, point_of}
-use Rattle.tt_world.specs.Rows.{no_row, row_of}
-use Rattle.tt_world.specs.RunLaws.{IsAfter}
-use Rattle.tt_world.proofs.Deadlines.{IsFrom, point_is_from}
-use Rattle.tt_world.proofs.TableRows.{AreRows, deadline_after, list_all_get, rows_ascend}
-use Rattle.round_table.specs.DueRows.{isrs_of}
-use Rattle.round_table.specs.TableLaws.{PointsComeAfterActivations, PointsHaveOneEnd, ChecksAreByOffset, EnablesAreByNumber, point_at, offset_at}
-use Rattle.round_table.proofs.FreeOffsets.{all_before}
-use Rattle.round_table.proofs.LeastOffsets.{IsLeastFrom, least_is}
-use Rattle.round_table.proofs.ModeRows.{deadline_parts, mode_within}
-use Rattle.round_table.proofs.PointLimits.{IfOffset, IsOffset, points_one_end}
+use Rattle.tt_world.specs.ConfigRules.{IsConfig, IsMode, is_activation, is_enable, comes_before, enables_ascend, offsets_ascend}
+use Rattle.tt_world.specs.Rows.{mode_at, no_mode, no_row, row_of}
+use Rattle.tt_world.proofs.TableRows.{list_all_get}
+use Rattle.round_table.specs.DueRows.{entries_of}
+use Rattle.round_table.specs.Inside.{IsWithin}
 
--- ---- numbers that ascend
+-- ---- lists
 
-Rises : List ℕ → Type 0
-Rises [] = Unit {0}
-Rises (x ∷ xs) = All (λ y. x < y) xs × Rises xs
+module _ {X : Type 0} (key : X → ℕ) (R : X → X → Type 0) where
+  pub rises : ((x y : X) → R x y → key x ≤ key y) → (xs : List X) → AllPairs R xs → IsNonDecreasingBy key xs
+  rises weaker xs pairs i j d le l =
+      ⊎_elim (λ (lt : i < j). weaker (get_or xs i d) (get_or xs j d) (pairs i j d lt l))
+      (λ (ge : j ≤ i). let same : i ≡ j = omega arith in let keys = ap (λ n. key (get_or xs n d)) same in omega arith) (cases_lt i j)
 
-rises_at : (xs : List ℕ) → Rises xs → (k : ℕ) → suc k < length xs → get_or xs k 0 < get_or xs (suc k) 0
-unfolding Rises
-rises_at [] h k l = absurd (omega arith)
-rises_at (x ∷ xs) h zero l = h.0 0 0 (omega arith)
-rises_at (x ∷ xs) h (suc k) l = rises_at xs h.1 k (omega arith)
+  pub increases : (d : X) (xs : List X) → ((x y : X) → R x y → key x < key y) → AllPairs R xs → IsStrictlyIncreasing (map key xs)
+  increases d xs less pairs k l =
+      let long = length-map xs key in
+      let one = get_or-map key xs k d 0 (omega arith) in
+      let other = get_or-map key xs (k + 1) d 0 (omega arith) in
+      let up = less _ _ (pairs k (k + 1) d (omega arith) (omega arith)) in
+      omega arith
 
-increasing : (xs : List ℕ) → Rises xs → IsStrictlyIncreasing xs
-increasing xs h k l = rw add-one (rises_at xs h k (omega arith))
+-- ---- activations
 
--- ---- checks
+-- one row comes before another
+abbrev pub IsEarlier : Activation → Activation → Type 0
+IsEarlier row later = row.offset < later.offset
 
-module _ (f : ℕ → ℕ) (test : ℕ → Bool) (end : ℕ) (up : (i j : ℕ) → i < j → j < end → f i < f j) where
-  above : (x n m : ℕ) → x < n → n + m ≤ end → All (λ y. f x < y) (map f (filter test (range_with_len n m)))
-  above x n zero l le = All-nil (λ y. f x < y)
-  above x n (suc m) l le = at (test n) (above x (n + 1) m (omega arith) (omega arith)) where
-    rest : List ℕ
-    rest = filter test (range_with_len (n + 1) m)
-
-    at : (b : Bool) → All (λ y. f x < y) (map f rest) → All (λ y. f x < y) (map f (cond b (n ∷ rest) rest))
-    at true h = All-cons (λ y. f x < y) (f n) (map f rest) (up x n l (omega arith)) h
-    at false h = h
-
-  rises_range : (n m : ℕ) → n + m ≤ end → Rises (map f (filter test (range_with_len n m)))
-  unfolding Rises
-  rises_range n zero le = tt
-  rises_range n (suc m) le = at (test n) (above n (n + 1) m (omega arith) (omega arith)) (rises_range (n + 1) m (omega arith)) where
-    rest : List ℕ
-    rest = filter test (range_with_len (n + 1) m)
-
-    at : (b : Bool) → All (λ y. f n < y) (map f rest) → Rises (map f rest) → Rises (map f (cond b (n ∷ rest) rest))
-    at true h k = (h, k)
-    at false h k = k
-
-pub checks_by_offset : ChecksAreByOffset
-checks_by_offset c mode rules is_due =
-    let rows : AreRows c mode = record { activations = rules.activations; ascending = rules.ascending; apart = rules.apart } in
-    increasing _
-    (rises_range (offset_at mode) (λ entry. is_due (point_at mode entry)) (length mode.activations) (λ i j lt l. rows_ascend c mode i j rows lt l) 0
-    (length mode.activations) (omega arith))
+pub activation_pairs : (least : ℕ) (rows : List Activation) → offsets_ascend least rows ≡ true
+    → All (λ (row : Activation). least ≤ row.offset) rows × AllPairs IsEarlier rows
+activation_pairs least [] h = (All-nil (λ (row : Activation). least ≤ row.offset), λ i j d lt l. absurd (omega arith))
+activation_pairs least (row ∷ rows) h =
+    let parts = and_parts (nat_le least row.offset) (offsets_ascend (row.offset + 1) rows) h in
+    let here = leb-true least row.offset parts.0 in
+    let rest = activation_pairs (row.offset + 1) rows parts.1 in (
+      All-cons (λ (r : Activation). least ≤ r.offset) row rows here
+          (All-weaker (λ (r : Activation). row.offset + 1 ≤ r.offset) (λ (r : Activation). least ≤ r.offset) (λ r le. omega arith) rows rest.0),
+      AllPairs-cons IsEarlier row rows
+          (All-weaker (λ (r : Activation). row.offset + 1 ≤ r.offset) (IsEarlier row) (λ r le. omega arith) rows rest.0) rest.1,
+    )
 
 -- ---- enables
 
-later_number : (e later : Enable) (offset : ℕ) → e.offset ≡ offset → later.offset ≡ offset → comes_before e later ≡ true → e.isr.0 < later.isr.0
-later_number e later offset one other h =
-    ⊎_elim (λ (less : nat_lt e.offset later.offset ≡ true). absurd (let lt = ltb-true e.offset later.offset less in omega arith))
-    (λ (tied : ((e.offset == later.offset) && nat_lt e.isr.0 later.isr.0) ≡ true).
-    ltb-true e.isr.0 later.isr.0 (and_parts (e.offset == later.offset) (nat_lt e.isr.0 later.isr.0) tied).1)
-    (or_cases (nat_lt e.offset later.offset) ((e.offset == later.offset) && nat_lt e.isr.0 later.isr.0) h)
+abbrev pub IsBefore : Enable → Enable → Type 0
+IsBefore row later = comes_before row later ≡ true
 
-numbers_at : ℕ → List Enable → List ℕ
-numbers_at offset rows = map (λ (isr : IsrNo). isr.0) (isrs_of (filter (λ (row : Enable). row.offset == offset) rows))
+pub enable_pairs : (rows : List Enable) → enables_ascend rows ≡ true → AllPairs IsBefore rows
+enable_pairs [] h = λ i j d lt l. absurd (omega arith)
+enable_pairs (row ∷ rows) h =
+    let parts = and_parts (list_all (comes_before row) rows) (enables_ascend rows) h in
+    AllPairs-cons IsBefore row rows (λ k d l. list_all_get (comes_before row) rows k d parts.0 l) (enable_pairs rows parts.1)
 
-numbers_above : (offset : ℕ) (e : Enable) → e.offset ≡ offset → (rows : List Enable) → list_all (comes_before e) rows ≡ true → All (λ n. e.isr.0 < n) (numbers_at offset rows)
-unfolding numbers_at
-numbers_above offset e here [] h = All-nil (λ n. e.isr.0 < n)
-numbers_above offset e here (row ∷ rows) h =
-    at (row.offset == offset) refl (numbers_above offset e here rows (and_parts (comes_before e row) (list_all (comes_before e) rows) h).1) where
-      rest : List Enable
-      rest = filter (λ (r : Enable). r.offset == offset) rows
+-- by offset, and then by number
+pub before_cases : (row later : Enable) → IsBefore row later → (row.offset < later.offset) ⊎ ((row.offset ≡ later.offset) × (row.isr.0 < later.isr.0))
+before_cases row later h =
+    ⊎_elim (λ (less : nat_lt row.offset later.offset ≡ true). inl (ltb-true row.offset later.offset less))
+    (λ (tied : ((row.offset == later.offset) && nat_lt row.isr.0 later.isr.0) ≡ true).
+    let parts = and_parts (row.offset == later.offset) (nat_lt row.isr.0 later.isr.0) tied in
+    inr (eqb-true row.offset later.offset parts.0, ltb-true row.isr.0 later.isr.0 parts.1))
+    (or_cases (nat_lt row.offset later.offset) ((row.offset == later.offset) && nat_lt row.isr.0 later.isr.0) h)
 
-      at : (b : Bool) → (row.offset == offset) ≡ b → All (λ n. e.isr.0 < n) (map (λ (isr : IsrNo). isr.0) (isrs_of rest))
-          → All (λ n. e.isr.0 < n) (map (λ (isr : IsrNo). isr.0) (isrs_of (cond b (row ∷ rest) rest)))
-      at true is k =
-          All-cons (λ n. e.isr.0 < n) row.isr.0 (map (λ (isr : IsrNo). isr.0) (isrs_of rest))
-          (later_number e row offset here (eqb-true row.offset offset is) (and_parts (comes_before e row) (list_all (comes_before e) rows) h).0) k
-      at false is k = k
+-- ---- the rows of a mode within a limit
 
-rises_numbers : (offset : ℕ) (rows : List Enable) → enables_ascend rows ≡ true → Rises (numbers_at offset rows)
-unfolding Rises numbers_at
-rises_numbers offset [] h = tt
-rises_numbers offset (row ∷ rows) h =
-    at (row.offset == offset) refl (rises_numbers offset rows (and_parts (list_all (comes_before row) rows) (enables_ascend rows) h).1) where
-      rest : List Enable
-      rest = filter (λ (r : Enable). r.offset == offset) rows
+pub activations_rise : (limit : ℕ) (mode : ModeDef) → IsWithin limit mode → IsNonDecreasingBy (λ (row : Activation). row.offset) mode.activations
+activations_rise limit mode within =
+    rises (λ (row : Activation). row.offset) IsEarlier (λ row later less. omega arith) mode.activations (activation_pairs 0 mode.activations within.ascending).1
 
-      at : (b : Bool) → (row.offset == offset) ≡ b → Rises (map (λ (isr : IsrNo). isr.0) (isrs_of rest)) → Rises (map (λ (isr : IsrNo). isr.0) (isrs_of (cond b (row ∷ rest) rest)))
-      at true is k =
-          (numbers_above offset row (eqb-true row.offset offset is) rows (and_parts (list_all (comes_before row) rows) (enables_ascend rows) h).0, k)
-      at false is k = k
+pub enables_rise : (limit : ℕ) (mode : ModeDef) → IsWithin limit mode → IsNonDecreasingBy (λ (row : Enable). row.offset) mode.enables
+enables_rise limit mode within =
+    rises (λ (row : Enable). row.offset) IsBefore
+    (λ row later h.
+    ⊎_elim (λ (less : row.offset < later.offset). omega arith)
+    (λ (tied : (row.offset ≡ later.offset) × (row.isr.0 < later.isr.0)). let same = tied.0 in omega arith) (before_cases row later h))
+    mode.enables (enable_pairs mode.enables within.enables_ascending)
 
-pub enables_by_number : EnablesAreByNumber
-unfolding numbers_at
-enables_by_number c mode rules offset = increasing _ (rises_numbers offset mode.enables rules.enables_ascending)
+-- ---- the modes of a configuration
 
--- ---- points
+all_weaker : {X : Type 0} (p q : X → Bool) → ((x : X) → p x ≡ true → q x ≡ true) → (xs : List X) → list_all p xs ≡ true → list_all q xs ≡ true
+all_weaker p q imp [] h = refl
+all_weaker p q imp (x ∷ xs) h =
+    let parts = and_parts (p x) (list_all p xs) h in rw (imp x parts.0, all_weaker p q imp xs parts.1) refl
 
-pub points_after : PointsComeAfterActivations
-points_after c mode rules entry l =
-    after (point_at mode entry) (deadline_after c mode entry rows l) (deadline_parts c (row_of mode entry) (list_all_get (is_activation c) mode.activations entry no_row rules.activations l)).1 (point_is_from mode (row_of mode entry)) where
-      rows : AreRows c mode
-      rows = record { activations = rules.activations; ascending = rules.ascending; apart = rules.apart }
+module _ (c : ConfigParts) where
+  -- a row's offset comes before its deadline, and that not after the limit
+  pub deadline_parts : (row : Activation) → is_activation c row ≡ true → (row.offset < row.deadline) × (row.deadline ≤ c.round - c.adjust)
+  deadline_parts row h =
+      let later = (and_parts (nat_lt row.task.0 (length c.tasks)) (nat_lt row.offset row.deadline && nat_le row.deadline (c.round - c.adjust)) h).1 in
+      let both = and_parts (nat_lt row.offset row.deadline) (nat_le row.deadline (c.round - c.adjust)) later in
+      (ltb-true row.offset row.deadline both.0, leb-true row.deadline (c.round - c.adjust) both.1)
 
-      after : {offset deadline : ℕ} (p : Point) → offset < deadline → deadline ≤ c.round - c.adjust → IsFrom deadline p → IsAfter c None offset p
-      after (point.At place) before within from = omega arith
-      after point.RoundEnd before within from = omega arith
+  -- a mode that meets the rules
+  pub mode_within : (mode : ModeDef) → IsMode c mode → IsWithin (c.round - c.adjust) mode
+  mode_within mode h = record {
+    ascending = h.ascending;
+    enables_ascending = h.enables_ascending;
+    below = all_weaker (is_activation c) (λ (row : Activation). nat_lt row.offset (c.round - c.adjust)) (λ row e. let parts = deadline_parts row e in let one = parts.0 in let other = parts.1 in lt-ltb _ _ (omega arith)) mode.activations h.activations;
+    enables_below = all_weaker (is_enable c) (λ (row : Enable). nat_lt row.offset (c.round - c.adjust)) (λ row e. (and_parts (nat_lt row.isr.0 (length c.isrs)) (nat_lt row.offset (c.round - c.adjust)) e).1) mode.enables h.enables;
+    deadlines = all_weaker (is_activation c) (λ (row : Activation). nat_le row.deadline (c.round - c.adjust)) (λ row e. le-leb _ _ (deadline_parts row e).1) mode.activations h.activations;
+  }
 
-pub points_one : PointsHaveOneEnd
-points_one c mode rules entry other l m at_limit at_end =
-    ⊎_elim
-    (λ h.
-    let point = all_before (IfOffset (λ offset. offset < c.round - c.adjust)) (point_of mode) mode.activations h entry no_row l in
-    let less = subst (IfOffset (λ offset. offset < c.round - c.adjust)) at_limit point in omega arith)
-    (λ h. subst (IsOffset (λ offset. offset ≤ c.round - c.adjust)) at_end (all_before (IsOffset (λ offset. offset ≤ c.round - c.adjust)) (point_of mode) mode.activations h other no_row m))
-    (points_one_end (c.round - c.adjust) mode (mode_within c mode rules))
+  -- each mode of a configuration, also one that is not there
+  pub config_within : (n : ℕ) → IsConfig c → IsWithin (c.round - c.adjust) (mode_at c n)
+  config_within n rules =
+      ⊎_elim (λ (l : n < length c.modes). mode_within (mode_at c n) (All-get_or (IsMode c) c.modes n no_mode l rules.modes))
+      (λ (g : length c.modes ≤ n). subst (IsWithin (c.round - c.adjust)) (sym (get_or_past c.modes n no_mode g)) no_rows)
+      (cases_lt n (length c.modes)) where
+        no_rows : IsWithin (c.round - c.adjust) no_mode
+        no_rows = record { ascending = refl; enables_ascending = refl; below = refl; enables_below = refl; deadlines = refl }
+
+  pub found_within : (n : ℕ) (mode : ModeDef) → IsConfig c → n < length c.modes → mode ≡ get_or c.modes n mode → IsWithin (c.round - c.adjust) mode
+  found_within n mode rules l is =
+      subst (IsWithin (c.round - c.adjust)) (sym (is ∙ get_or_default c.modes n mode no_mode l)) (config_within n rules)

@@ -1,43 +1,38 @@
--- Lists of checks, and the order of monitoring points.
-use Rattle.std.specs.Prelude.{ℕ, nat_le, nat_lt, Bool, true, false, List, map}
-use Rattle.std.specs.List.{enumerate_from}
-use Rattle.std.specs.List.Sorted.{IsPermutation, IsSortedBy, IsStableBy}
+-- The checks of a mode, before and after they are put in order.
+use Rattle.std.specs.Prelude.{◌≡◌, ℕ, ◌==◌, List, [], ◌∷◌, map, flat_map, filter, cond}
+use Rattle.std.specs.List.{range_with_len}
+use Rattle.std.specs.List.Sorted.{IsNonDecreasing, IsNonDecreasingBy, IsPermutation}
+use Rattle.tt_world.specs.declared.config.ModeDef.{ModeDef}
 use Rattle.tt_world.specs.declared.world.Point.{Point}
 use Rattle.tt_world.specs.declared.world.Point.TheVariants as point
+use Rattle.tt_world.specs.Monitoring.{is_at}
+use Rattle.tt_world.specs.Points.{offsets_in, point_of}
+use Rattle.tt_world.specs.Rows.{row_of}
 use Rattle.round_table.specs.declared.checks.Check.{Check}
+use Rattle.round_table.specs.DueRows.{entries_due, is_round_end}
 
--- ---- points
+-- the offsets at which a mode has an activation, an enable or a stringent deadline, in ascending order
+pub record AreOffsets (mode : ModeDef) (offsets : List ℕ) : Type 0 where
+  pub all : IsPermutation (offsets_in mode) offsets
+  pub ascending : IsNonDecreasing offsets
 
--- whether a point comes before another: by offset, and the round's end last
-abbrev pub comes_before : Point → Point → Bool
-comes_before (point.At offset) (point.At other) = nat_lt offset other
-comes_before (point.At offset) point.RoundEnd = true
-comes_before point.RoundEnd other = false
+-- the check of an entry number, where its monitoring point is an offset
+abbrev pub check_if : ℕ → Point → List Check
+check_if entry (point.At offset) = record { offset = offset; entry = entry } ∷ []
+check_if entry point.RoundEnd = []
 
--- whether a point is an offset below this one
-abbrev pub is_below : ℕ → Point → Bool
-is_below offset (point.At place) = nat_lt place offset
-is_below offset point.RoundEnd = false
+-- those of the entry numbers below n
+abbrev pub checks_among : ModeDef → ℕ → List Check
+checks_among mode n = flat_map (λ entry. check_if entry (point_of mode (row_of mode entry))) (range_with_len 0 n)
 
--- whether a point is an offset up to this one
-abbrev pub is_up_to : ℕ → Point → Bool
-is_up_to offset (point.At place) = nat_le place offset
-is_up_to offset point.RoundEnd = false
-
--- ---- checks
-
--- the checks of points, each with its place in the list as the entry number
-abbrev pub numbered : List Point → List Check
-numbered points = map (λ (e : ℕ × Point). record { point = e.1; entry = e.0 }) (enumerate_from 0 points)
+-- the entry numbers below n whose monitoring point is the round's end
+abbrev pub ends_among : ModeDef → ℕ → List ℕ
+ends_among mode n = filter (λ entry. is_round_end (point_of mode (row_of mode entry))) (range_with_len 0 n)
 
 abbrev pub entries_in : List Check → List ℕ
 entries_in checks = map (λ (check : Check). check.entry) checks
 
-abbrev pub is_earlier : Check → Check → Bool
-is_earlier check other = comes_before check.point other.point
-
--- checks are those of the points, in the order of the points, and those of one point in the order of the entries
-pub record AreChecks (points : List Point) (checks : List Check) : Type 0 where
-  pub permutation : IsPermutation (numbered points) checks
-  pub sorted : IsSortedBy is_earlier checks
-  pub stable : IsStableBy is_earlier (numbered points) checks
+-- the checks ascend by offset, and those of an offset are of the entries that are due there, in their order
+pub record AreChecks (mode : ModeDef) (checks : List Check) : Type 0 where
+  pub ascending : IsNonDecreasingBy (λ (check : Check). check.offset) checks
+  pub entries : (offset : ℕ) → entries_in (filter (λ (check : Check). check.offset == offset) checks) ≡ entries_due (is_at offset) mode

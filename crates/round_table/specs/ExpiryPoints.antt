@@ -1,8 +1,8 @@
 -- The expiry points of a dispatcher table.
-use Rattle.std.specs.Prelude.{◌≡◌, ℕ, suc, ◌+◌, ◌≤◌, ◌<◌, ◌==◌, ◌&&◌, Bool, List, [], ◌∷◌, map, length, Option, None, is_none, slice_range, IfSome, if◌then◌else◌}
+use Rattle.std.specs.Prelude.{◌≡◌, ℕ, suc, ◌+◌, ◌≤◌, ◌<◌, ◌==◌, ◌&&◌, Bool, List, [], ◌∷◌, length, Option, None, is_none, slice_get, slice_range, IfSome, if◌then◌else◌}
+use Rattle.std.specs.Option.{option_map}
 use Rattle.tt_world.specs.declared.config.ModeDef.{ModeDef}
 use Rattle.tt_world.specs.Monitoring.{is_at}
-use Rattle.tt_world.specs.Points.{least_from}
 use Rattle.tt_world.specs.Rows.{enables_at, entry_at}
 use Rattle.round_table.specs.declared.due.Due.{Due}
 use Rattle.round_table.specs.declared.due.ExpiryPoint.{ExpiryPoint}
@@ -45,9 +45,10 @@ expiry_below table offset = below (expiry_at table) offset
 abbrev pub expiry_points : TableRows → List ExpiryPoint
 expiry_points table = expiry_below table (suc table.limit)
 
--- the least offset after this one at which something stands
+-- the offset of the first expiry point after this offset
 abbrev pub next_after : ℕ → TableRows → Option ℕ
-next_after offset table = least_from (offset + 1) (map (λ (p : ExpiryPoint). p.offset) (expiry_points table))
+next_after offset table =
+    option_map (λ (p : ExpiryPoint). p.offset) (slice_get (expiry_points table) (length (expiry_below table (suc offset))))
 
 -- ---- cursors
 

@@ -1,10 +1,9 @@
+pub mod Below
 pub mod TableRows
 pub mod DueRows
-pub mod NextOffset
-pub mod Cuts
-pub mod Below
 pub mod ExpiryPoints
+pub mod Cuts
 pub mod CheckLists
+pub mod Merged
 pub mod Inside
 pub mod TableLaws
-pub mod Example

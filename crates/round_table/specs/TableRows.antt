@@ -5,8 +5,8 @@ use Rattle.tt_world.specs.declared.config.ModeDef.{ModeDef}
 use Rattle.tt_world.specs.declared.config.ConfigParts.{ConfigParts}
 use Rattle.tt_world.specs.Rows.{no_mode}
 
--- the rows of a mode, and the round's length L less the greatest correction A: the offset at which a round ends at the earliest,
--- before which each activation and enable stands, and up to which each deadline
+-- the rows of a mode, and the round's length L less the greatest correction A: the offset at which a round ends at the
+-- earliest, before which each activation and enable stands, and up to which each deadline
 pub record TableRows : Type 0 where
   pub mode : ModeDef
   pub limit : ℕ
@@ -14,9 +14,6 @@ pub record TableRows : Type 0 where
 -- the table of a mode of a configuration
 abbrev pub table_of : ConfigParts → ModeDef → TableRows
 table_of c mode = record { mode = mode; limit = c.round - c.adjust }
-
-abbrev pub mode_at : ConfigParts → ModeNo → ModeDef
-mode_at c mode = slice_index_or c.modes mode.0 no_mode
 
 -- the tables of all modes, in order
 abbrev pub tables_of : ConfigParts → List TableRows

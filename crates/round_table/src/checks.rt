@@ -1,104 +1,163 @@
-//! The checks of a mode in the order of their monitoring points.
+//! The monitoring points of a mode, and its checks at them.
 
-ghost use Rattle.std.specs.Prelude.{◌≡◌, ◌<◌, IfOk, OnOk, length, slice_get};
-ghost use Rattle.std.specs.List.Sorted.{IsSortedBy};
-ghost use Rattle.std.specs.Ordering.{is_lt};
-ghost use Rattle.round_table.specs.CheckLists.{AreChecks, comes_before, entries_in, is_below, is_earlier, is_up_to, numbered};
-ghost use Rattle.round_table.specs.Cuts.{IsCut};
+ghost use Rattle.std.specs.Prelude.{◌≡◌, ◌∷◌, [], ◌++◌, ◌<◌, map, cond, IfOk, OnOk, length};
+ghost use Rattle.tt_world.specs.Points.{least_from, offsets_in, point_of, stringent_deadlines};
+ghost use Rattle.round_table.specs.CheckLists.{AreChecks, check_if, checks_among, ends_among};
+ghost use Rattle.round_table.specs.DueRows.{entries_due, is_round_end};
 
+use crate::rows::{Row, before, offset_at};
 use std::alloc::Global;
-use std::cmp::Ordering;
+use std::marker::Model;
 use tt_base::Memory;
-use tt_world::Point;
+use tt_world::{Activation, ModeDef, Point};
 
-/// A check: the activation of an entry number, at its monitoring point.
+/// A check at an offset of the round: it looks at the job of an entry number.
 #[derive(Clone, Copy, Debug)]
 pub(crate) struct Check {
-    pub(crate) point: Point,
+    pub(crate) offset: u64,
     pub(crate) entry: usize,
 }
 
-/// The order of points: by offset, and the round's end last.
-fn compare(point: Point, other: Point) -> Ordering
-    ensures { is_lt result ≡ comes_before point other }
+/// Appends the offsets of rows.
+fn put_offsets<T: Row>(rows: &[T], offsets: &mut Vec<u64>) -> Result<(), Memory>
+    ensures { OnOk result (offsets.new.items ≡ offsets.old.items ++ map T.at rows.now) }
 {
-    match (point, other) {
-        (Point::At(offset), Point::At(place)) => offset.cmp(&place),
-        (Point::At(_), Point::RoundEnd) => Ordering::Less,
-        (Point::RoundEnd, Point::At(_)) => Ordering::Greater,
-        (Point::RoundEnd, Point::RoundEnd) => Ordering::Equal,
-    }
-}
-
-/// Whether a point is an offset below this one.
-fn is_below(offset: u64, point: Point) -> bool
-    ensures { result ≡ is_below offset point }
-{
-    match point {
-        Point::At(place) => place < offset,
-        Point::RoundEnd => false,
-    }
-}
-
-/// Whether a point is an offset up to this one.
-fn is_up_to(offset: u64, point: Point) -> bool
-    ensures { result ≡ is_up_to offset point }
-{
-    match point {
-        Point::At(place) => place <= offset,
-        Point::RoundEnd => false,
-    }
-}
-
-/// The checks of points, by their places.
-#[tactic(auto, using(crate::proofs::Entries::numbered_more))]
-fn numbered(alloc: Global, points: &[Point]) -> Result<Vec<Check>, Memory>
-    ensures { IfOk result (λ checks. checks.items ≡ numbered points.now) }
-{
-    let mut checks = Vec::new(alloc);
-    for (entry, point) in points.iter().enumerate() {
-        let check = Check {
-            point: *point,
-            entry,
-        };
-        if checks.push(check).is_err() {
+    for row in rows {
+        if offsets.push(row.offset()).is_err() {
             return Err(Memory);
         }
     }
-    Ok(checks)
+    Ok(())
 }
 
-/// The checks of points in order: by point, and those of one point by their places, in time that is n log n in their number.
-pub(crate) fn in_order(alloc: Global, points: &[Point]) -> Result<Vec<Check>, Memory>
-    ensures { IfOk result (λ checks. AreChecks points.now checks.items) }
+/// Appends the deadlines that are monitored stringently.
+fn put_deadlines(rows: &[Activation], offsets: &mut Vec<u64>) -> Result<(), Memory>
+    ensures { OnOk result (offsets.new.items ≡ offsets.old.items ++ stringent_deadlines rows.now) }
 {
-    let mut checks = numbered(alloc, points)?;
-    match checks.sort_by(|check, other| compare(check.point, other.point)) {
-        Ok(()) => Ok(checks),
-        Err(_) => Err(Memory),
+    for row in rows {
+        if row.stringent && offsets.push(row.deadline).is_err() {
+            return Err(Memory);
+        }
+    }
+    Ok(())
+}
+
+/// The offsets at which a mode has an activation, an enable or a stringent deadline.
+fn offsets_in(alloc: Global, mode: &ModeDef) -> Result<Vec<u64>, Memory>
+    ensures { IfOk result (λ offsets. offsets.items ≡ offsets_in mode.now) }
+{
+    let mut offsets = Vec::new(alloc);
+    put_offsets(mode.activations.as_slice(), &mut offsets)?;
+    put_offsets(mode.enables.as_slice(), &mut offsets)?;
+    put_deadlines(mode.activations.as_slice(), &mut offsets)?;
+    Ok(offsets)
+}
+
+/// A mode, with the offsets at which it has an activation, an enable or a stringent deadline in ascending order. Contracts see the mode.
+#[derive(Drop)]
+struct Monitor<'a> {
+    mode: &'a ModeDef,
+    offsets: Vec<u64>,
+}
+
+impl<'a> Model for Monitor<'a> {
+    ghost use Rattle.tt_world.specs.declared.config.ModeDef.{ModeDef};
+    ghost use Rattle.round_table.specs.CheckLists.{AreOffsets};
+
+    ghost Value = { ModeDef };
+
+    ghost view = { λ m. m.mode.now };
+
+    ghost invariant = { λ m. AreOffsets m.mode.now m.offsets.items };
+}
+
+impl<'a> Monitor<'a> {
+    fn new(alloc: Global, mode: &'a ModeDef) -> Result<Monitor<'a>, Memory>
+        ensures { IfOk result (λ monitor. monitor ≡ mode.now) }
+    {
+        let mut offsets = offsets_in(alloc, mode)?;
+        offsets.sort_unstable();
+        Ok(Monitor { mode, offsets })
+    }
+
+    /// The least of the offsets at or after this one, if there is one.
+    fn least_from(&self, from: u64) -> Option<u64>
+        ensures { result ≡ least_from from (offsets_in self.now) }
+    {
+        offset_at(&self.offsets, before(&self.offsets, from))
+    }
+
+    /// The monitoring point of an activation of the mode.
+    fn point_of(&self, row: Activation) -> Point
+        ensures { result ≡ point_of self.now row }
+    {
+        if row.stringent {
+            return Point::At(row.deadline);
+        }
+        match self.least_from(row.deadline) {
+            Some(offset) => Point::At(offset),
+            None => Point::RoundEnd,
+        }
     }
 }
 
-/// The entry number of the check at a place.
-pub(crate) fn entry_in(checks: &[Check], place: usize) -> usize
-    requires { place < length checks.now }
-    ensures { slice_get (entries_in checks.now) place ≡ Some result }
-{
-    checks[place].entry
+/// The monitoring points of activations, and the checks at them.
+#[derive(Debug, Drop)]
+pub(crate) struct Checks {
+    /// The point of each activation, by entry number.
+    pub(crate) points: Vec<Point>,
+    /// The checks at offsets of the round.
+    pub(crate) due: Vec<Check>,
+    /// The entry numbers of those at its end, in ascending order.
+    pub(crate) ends: Vec<usize>,
 }
 
-/// The place behind the checks whose points are offsets below this one.
-pub(crate) fn first_from(checks: &[Check], offset: u64) -> usize
-    requires { IsSortedBy is_earlier checks.now }
-    ensures { IsCut (λ check. is_below offset check.point) checks.now result }
-{
-    checks.partition_point(|check| is_below(offset, check.point))
-}
+impl Checks {
+    /// Appends the monitoring point of an entry number.
+    fn put(&mut self, entry: usize, point: Point) -> Result<(), Memory>
+        ensures points { OnOk result (self.new.points.items ≡ self.old.points.items ++ point ∷ []) }
+        ensures due { OnOk result (self.new.due.items ≡ self.old.due.items ++ check_if entry point) }
+        ensures ends { OnOk result (self.new.ends.items ≡ self.old.ends.items ++ cond (is_round_end point) (entry ∷ []) []) }
+    {
+        let wanting = match point {
+            Point::At(offset) => self.due.push(Check { offset, entry }).is_err(),
+            Point::RoundEnd => self.ends.push(entry).is_err(),
+        };
+        if wanting || self.points.push(point).is_err() {
+            return Err(Memory);
+        }
+        Ok(())
+    }
 
-/// The place behind the checks whose points are offsets up to this one.
-pub(crate) fn first_behind(checks: &[Check], offset: u64) -> usize
-    requires { IsSortedBy is_earlier checks.now }
-    ensures { IsCut (λ check. is_up_to offset check.point) checks.now result }
-{
-    checks.partition_point(|check| is_up_to(offset, check.point))
+    /// The monitoring points of a mode, and its checks by entry number.
+    fn by_entry(alloc: Global, mode: &ModeDef) -> Result<Checks, Memory>
+        ensures points { IfOk result (λ checks. checks.points.items ≡ map (point_of mode.now) mode.now.activations) }
+        ensures due { IfOk result (λ checks. checks.due.items ≡ checks_among mode.now (length mode.now.activations)) }
+        ensures ends { IfOk result (λ checks. checks.ends.items ≡ ends_among mode.now (length mode.now.activations)) }
+    {
+        let monitor = Monitor::new(alloc, mode)?;
+        let mut checks = Checks {
+            points: Vec::new(alloc),
+            due: Vec::new(alloc),
+            ends: Vec::new(alloc),
+        };
+        for (entry, row) in mode.activations.as_slice().iter().enumerate() {
+            checks.put(entry, monitor.point_of(*row))?;
+        }
+        Ok(checks)
+    }
+
+    /// The monitoring points of a mode, and its checks by offset, and those of one offset by entry number, in time that is n log n in
+    /// its rows.
+    pub(crate) fn of_mode(alloc: Global, mode: &ModeDef) -> Result<Checks, Memory>
+        ensures points { IfOk result (λ checks. checks.points.items ≡ map (point_of mode.now) mode.now.activations) }
+        ensures due { IfOk result (λ checks. AreChecks mode.now checks.due.items) }
+        ensures ends { IfOk result (λ checks. checks.ends.items ≡ entries_due is_round_end mode.now) }
+    {
+        let mut checks = Checks::by_entry(alloc, mode)?;
+        match checks.due.sort_by_key(|check| check.offset) {
+            Ok(()) => Ok(checks),
+            Err(_) => Err(Memory),
+        }
+    }
 }

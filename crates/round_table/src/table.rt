@@ -1,28 +1,27 @@
 //! The dispatcher table of a mode.
 
-ghost use Rattle.std.specs.Prelude.{◌≡◌, ◌≤◌, ◌<◌, ℕ, nat_le, nat_lt, length, slice_get, slice_range, IfOk, IfSome};
-ghost use Rattle.std.specs.List.Sorted.{IsNonDecreasingBy};
+ghost use Rattle.std.specs.Prelude.{◌≡◌, ◌++◌, ◌≤◌, ◌<◌, ℕ, suc, length, slice_get, slice_range, IfOk, IfSome};
 ghost use Rattle.tt_world.specs.Monitoring.{is_at, is_at_end};
 ghost use Rattle.tt_world.specs.Points.{point_of};
-ghost use Rattle.tt_world.specs.Rows.{entry_at, row_of};
-ghost use Rattle.round_table.specs.Cuts.{IsCut};
-ghost use Rattle.round_table.specs.DueRows.{checks_below, checks_of, due_at, enables_at, enables_of, entries_due};
+ghost use Rattle.tt_world.specs.Rows.{enables_at, entry_at, mode_at, row_of};
+ghost use Rattle.round_table.specs.CheckLists.{entries_in};
+ghost use Rattle.round_table.specs.DueRows.{checks_below, checks_of, due_at, enables_of, entries_due, isrs_of, none_due};
+ghost use Rattle.round_table.specs.ExpiryPoints.{IsCursor, IsDue, IsFree, IsNextPoint, expiry_points, next_after};
 ghost use Rattle.round_table.specs.Inside.{IsWithin};
-ghost use Rattle.round_table.specs.NextOffset.{IsBefore, IsFree, next_after};
-ghost use Rattle.round_table.specs.TableRows.{mode_at, table_of};
+ghost use Rattle.round_table.specs.TableRows.{table_of};
 
-use crate::checks::{Check, entry_in, first_behind, first_from, in_order};
-use crate::due::Due;
-use crate::offsets::Offsets;
-use crate::points::{instants_of, points_of};
+use crate::checks::{Check, Checks};
+use crate::due::{Due, ExpiryPoint};
+use crate::merging::CheckedMode;
+use crate::rows::{before, item, offset_at, up_to};
 use std::alloc::Global;
 use std::marker::Model;
 use tt_base::{IsrNo, Memory, ModeNo};
 use tt_world::{Activation, Config, Enable, ModeDef, Point};
 
-/// The dispatcher table of an application mode: its rows, and the checks of its deadlines at their monitoring points, which are computed
-/// once. Offsets are in ticks from the start of the round. Contracts see the rows, and the round's length less the greatest correction,
-/// at which a round ends at the earliest. No call but `build` takes memory.
+/// The dispatcher table of an application mode: its rows, the checks of its deadlines at their monitoring points, and its expiry points.
+/// Offsets are in ticks from the start of the round. Contracts see the rows, and the round's length less the greatest correction, at
+/// which a round ends at the earliest. No call but `build` takes memory.
 #[derive(Debug, Drop)]
 pub struct Table {
     activations: Vec<Activation>,
@@ -31,10 +30,11 @@ pub struct Table {
     limit: u64,
     /// The monitoring point of each activation.
     points: Vec<Point>,
-    /// By point, and those of one point by entry number.
-    checks: Vec<Check>,
-    /// The offsets at which something stands.
-    instants: Offsets,
+    /// The entry numbers of the checks, by point, and of those of one point in ascending order.
+    checks: Vec<usize>,
+    /// The place of the first check at the round's end.
+    end: usize,
+    expiry: Vec<ExpiryPoint>,
 }
 
 impl Model for Table {
@@ -45,45 +45,7 @@ impl Model for Table {
 
     ghost view = { λ t. record { mode = record { activations = t.activations.items; enables = t.enables.items }; limit = t.limit } };
 
-    ghost invariant = { λ t. IsTable t.limit (record { activations = t.activations.items; enables = t.enables.items }) t.points.items t.checks.items t.instants };
-}
-
-/// The place behind the activations that come before an offset.
-fn activations_before(rows: &[Activation], offset: u64) -> usize
-    requires { IsNonDecreasingBy (λ row. row.offset) rows.now }
-    ensures { IsCut (λ row. nat_lt row.offset offset) rows.now result }
-{
-    rows.partition_point(|row| row.offset < offset)
-}
-
-/// The place behind the enables that come before an offset.
-fn enables_before(rows: &[Enable], offset: u64) -> usize
-    requires { IsNonDecreasingBy (λ row. row.offset) rows.now }
-    ensures { IsCut (λ row. nat_lt row.offset offset) rows.now result }
-{
-    rows.partition_point(|row| row.offset < offset)
-}
-
-/// The place behind the enables up to an offset.
-fn enables_up_to(rows: &[Enable], offset: u64) -> usize
-    requires { IsNonDecreasingBy (λ row. row.offset) rows.now }
-    ensures { IsCut (λ row. nat_le row.offset offset) rows.now result }
-{
-    rows.partition_point(|row| row.offset <= offset)
-}
-
-/// The entry number of the row that activates at an offset, if there is one.
-fn entry_at(rows: &[Activation], offset: u64) -> Option<usize>
-    requires { IsNonDecreasingBy (λ row. row.offset) rows.now }
-    ensures { result ≡ entry_at offset rows.now }
-{
-    let place = activations_before(rows, offset);
-    let row = rows.get(place)?;
-    if row.offset == offset {
-        Some(place)
-    } else {
-        None
-    }
+    ghost invariant = { λ t. IsTable (record { mode = record { activations = t.activations.items; enables = t.enables.items }; limit = t.limit }) t.points.items t.checks.items t.end t.expiry.items };
 }
 
 fn copied<T: Copy>(alloc: Global, items: &[T]) -> Result<Vec<T>, Memory>
@@ -95,33 +57,64 @@ fn copied<T: Copy>(alloc: Global, items: &[T]) -> Result<Vec<T>, Memory>
     }
 }
 
-/// The table of a mode whose activations and enables come before a limit.
-pub(crate) fn of_mode(alloc: Global, mode: &ModeDef, limit: u64) -> Result<Table, Memory>
-    requires { IsWithin limit mode.now }
-    ensures { IfOk result (λ table. table ≡ record { mode = mode.now; limit = limit }) }
+/// What is due at an offset where nothing stands, before the checks and the enables at these places.
+fn nothing_before(check: usize, enable: usize) -> Due
+    ensures { result ≡ none_due check enable }
 {
-    let points = points_of(alloc, mode)?;
-    let checks = in_order(alloc, &points)?;
-    let instants = Offsets::new(instants_of(alloc, mode, &points)?);
-    Ok(Table {
-        activations: copied(alloc, mode.activations.as_slice())?,
-        enables: copied(alloc, mode.enables.as_slice())?,
-        limit,
-        points,
-        checks,
-        instants,
-    })
+    Due {
+        checks_from: check,
+        checks_to: check,
+        enables_from: enable,
+        enables_to: enable,
+        activation: None,
+    }
+}
+
+/// The entry numbers of checks, and after them these.
+fn entries_then(alloc: Global, checks: &[Check], ends: &[usize]) -> Result<Vec<usize>, Memory>
+    ensures { IfOk result (λ entries. entries.items ≡ entries_in checks.now ++ ends.now) }
+{
+    let mut entries = Vec::new(alloc);
+    for check in checks {
+        if entries.push(check.entry).is_err() {
+            return Err(Memory);
+        }
+    }
+    match entries.extend_from_slice(ends) {
+        Ok(()) => Ok(entries),
+        Err(_) => Err(Memory),
+    }
 }
 
 impl Table {
+    /// The table of a mode whose rows ascend, with offsets below a limit and deadlines up to it.
+    pub(crate) fn of_mode(alloc: Global, mode: &ModeDef, limit: u64) -> Result<Table, Memory>
+        requires { IsWithin limit mode.now }
+        ensures { IfOk result (λ table. table ≡ record { mode = mode.now; limit = limit }) }
+    {
+        let checks = Checks::of_mode(alloc, mode)?;
+        let due = checks.due.as_slice();
+        let checked = CheckedMode { mode, checks: due };
+        let expiry = checked.expiry_points(alloc)?;
+        Ok(Table {
+            activations: copied(alloc, mode.activations.as_slice())?,
+            enables: copied(alloc, mode.enables.as_slice())?,
+            limit,
+            checks: entries_then(alloc, due, &checks.ends)?,
+            end: due.len(),
+            expiry,
+            points: checks.points,
+        })
+    }
+
     /// The dispatcher table of a mode, in time that is n log n in its rows. `Memory` is its one refusal.
     pub fn build(alloc: Global, config: &Config, mode: ModeNo) -> Result<Table, Memory>
         requires { mode.0 < length config.now.modes }
-        ensures { IfOk result (λ table. table ≡ table_of config.now (mode_at config.now mode)) }
+        ensures { IfOk result (λ table. table ≡ table_of config.now (mode_at config.now mode.0)) }
     {
         let parts = config.parts();
         let mode = &parts.modes.as_slice()[usize::from(mode.0)];
-        of_mode(alloc, mode, parts.round - parts.adjust)
+        Table::of_mode(alloc, mode, parts.round - parts.adjust)
     }
 
     /// How many rows activate. Their entry numbers are those below it.
@@ -155,7 +148,7 @@ impl Table {
         ensures at { slice_get (checks_of self.now) place ≡ Some result }
         ensures within { result < length self.now.mode.activations }
     {
-        entry_in(&self.checks, place)
+        self.checks[place]
     }
 
     /// The routine of the enable at a place of the table's list of enables.
@@ -166,6 +159,48 @@ impl Table {
         self.enables[place].isr
     }
 
+    /// The expiry points in ascending order of offset: one for each offset at which a check, an enable or an activation stands. The
+    /// OSEK/VDX standard: the dispatcher table.
+    pub fn expiry_points(&self) -> &[ExpiryPoint]
+        ensures { result.now ≡ expiry_points self.now }
+    {
+        &self.expiry
+    }
+
+    /// The expiry point at a place of their list, if there is one. A dispatcher keeps the number of the expiry points before the present
+    /// offset, its cursor: the point there is the one that comes next.
+    pub fn expiry_at(&self, place: usize) -> Option<ExpiryPoint>
+        ensures at { result ≡ slice_get (expiry_points self.now) place }
+        ensures due { IfSome result (λ point. IsDue self.now point.offset point.due) }
+        ensures next { (offset : ℕ) → IsCursor self.now place offset → IsNextPoint self.now place offset result }
+    {
+        item(&self.expiry, place)
+    }
+
+    /// The place after the expiry points that come before an offset.
+    fn place_before(&self, offset: u64) -> usize
+        ensures { IsCursor self.now result offset }
+    {
+        before(&self.expiry, offset)
+    }
+
+    /// The place after those that come at the offset or before it.
+    fn place_after(&self, offset: u64) -> usize
+        ensures { IsCursor self.now result (suc offset) }
+    {
+        up_to(&self.expiry, offset)
+    }
+
+    fn found(&self, offset: u64) -> Due
+        ensures { IsDue self.now offset result }
+    {
+        match self.expiry_at(self.place_before(offset)) {
+            Some(point) if point.offset == offset => point.due,
+            Some(point) => nothing_before(point.due.checks_from, point.due.enables_from),
+            None => nothing_before(self.end, self.enables.len()),
+        }
+    }
+
     /// What is due at an offset of the round, found by binary search: the places of the checks whose monitoring point it is, in ascending
     /// order of entry, which is that of the offset of activation; the places of the enables at it, by number of the routine; and the
     /// entry number of the activation, which is None exactly where there is none.
@@ -173,18 +208,12 @@ impl Table {
         ensures exact { result ≡ due_at offset self.now }
         ensures checks { slice_range (checks_of self.now) result.checks_from result.checks_to ≡ entries_due (is_at offset) self.now.mode }
         ensures checks_within { result.checks_to ≤ length (checks_of self.now) }
-        ensures enables { slice_range (enables_of self.now) result.enables_from result.enables_to ≡ enables_at offset self.now.mode }
+        ensures enables { slice_range (enables_of self.now) result.enables_from result.enables_to ≡ isrs_of (enables_at offset self.now.mode.enables) }
         ensures enables_within { result.enables_to ≤ length (enables_of self.now) }
         ensures activation { result.activation ≡ entry_at offset self.now.mode.activations }
         ensures activation_within { IfSome result.activation (λ entry. entry < length self.now.mode.activations) }
     {
-        Due {
-            checks_from: first_from(&self.checks, offset),
-            checks_to: first_behind(&self.checks, offset),
-            enables_from: enables_before(&self.enables, offset),
-            enables_to: enables_up_to(&self.enables, offset),
-            activation: entry_at(&self.activations, offset),
-        }
+        self.found(offset)
     }
 
     /// The places, from the first up to below the second, of the checks at the end of a round of this length, in ticks: those whose
@@ -196,16 +225,16 @@ impl Table {
         ensures to { result.1 ≡ length (checks_of self.now) }
         ensures checks { slice_range (checks_of self.now) result.0 result.1 ≡ entries_due (is_at_end round_length) self.now.mode }
     {
-        (first_from(&self.checks, round_length), self.checks.len())
+        (self.due(round_length).checks_from, self.checks.len())
     }
 
-    /// The least offset behind this one at which a check, an enable or an activation stands, found by binary search. It is None exactly
+    /// The least offset after this one at which a check, an enable or an activation stands, found by binary search. It is None exactly
     /// where there is none. At no offset between does anything stand.
     pub fn next_after(&self, offset: u64) -> Option<u64>
-        ensures least { result ≡ next_after offset self.now.mode }
+        ensures least { result ≡ next_after offset self.now }
         ensures ahead { IfSome result (λ next. (offset < next) × (next ≤ self.now.limit)) }
-        ensures free { (between : ℕ) → offset < between → IsBefore between result → IsFree between self.now.mode }
+        ensures free { (between : ℕ) → offset < between → IfSome result (λ next. between < next) → IsFree between self.now.mode }
     {
-        self.instants.least_after(offset)
+        offset_at(&self.expiry, self.place_after(offset))
     }
 }

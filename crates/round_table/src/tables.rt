@@ -3,7 +3,7 @@
 ghost use Rattle.std.specs.Prelude.{◌≡◌, ◌<◌, length, IfOk};
 ghost use Rattle.round_table.specs.TableRows.{table_at, tables_of};
 
-use crate::table::{Table, of_mode};
+use crate::table::Table;
 use std::alloc::Global;
 use std::marker::Model;
 use tt_base::{Memory, ModeNo, Series};
@@ -33,7 +33,7 @@ impl Tables {
         let limit = parts.round - parts.adjust;
         let mut tables = Series::new(alloc);
         for mode in parts.modes.as_slice() {
-            tables.push(of_mode(alloc, mode, limit)?)?;
+            tables.push(Table::of_mode(alloc, mode, limit)?)?;
         }
         Ok(Tables { tables })
     }

@@ -1,7 +1,10 @@
-pub mod Accepted
+pub mod Checking
+pub mod Enabling
 pub mod Highest
 pub mod LastUnfinished
 pub mod Leaving
+pub mod Marks
 pub mod Playing
+pub mod Served
 pub mod Serving
 pub mod Ticks

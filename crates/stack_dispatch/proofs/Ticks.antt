@@ -23,9 +23,10 @@ use Rattle.tt_world.proofs.Fates.{effected_mid}
 use Rattle.tt_world.proofs.IsrAccounts.{highest_undone}
 use Rattle.tt_world.proofs.Modes.{EffectsNamed, effects_named}
 use Rattle.tt_world.proofs.Moves.{gives_next, gives_stop}
+use Rattle.tt_world.proofs.Still.{owner_ends}
 use Rattle.tt_world.proofs.TaskAccounts.{last_found_at}
 use Rattle.stack_dispatch.specs.Serving.{IsCalling}
-use Rattle.stack_dispatch.specs.Ticking.{ends_runner, IsReady, TicksLeft, IsTick, Calls}
+use Rattle.stack_dispatch.specs.Ticking.{IsReady, TicksLeft, IsTick, Calls}
 use Rattle.stack_dispatch.proofs.Leaving.{left_then}
 
 -- ---- the one who runs has something left
@@ -191,7 +192,7 @@ module _ (c : ConfigParts) (s : ScriptParts) (w : World) (r : Runner) (who : Own
   pub step_room : end ≡ None → v.tick ≡ w.tick
   step_room e = tick_stays c s r who w v b d (subst (λ o. Gives b d v o (runner_tick c s r who w).move) e t.gives)
 
-  pub ends_is : (over : Bool) → over ≡ (is_somebody r && ended) → over ≡ ends_runner c s w
+  pub ends_is : (over : Bool) → over ≡ (is_somebody r && ended) → over ≡ owner_ends c s w
   ends_is over e =
-      let same : (is_somebody r && (runner_tick c s r who w).ended) ≡ ends_runner c s w = rw (owns, runs) refl in
+      let same : (is_somebody r && (runner_tick c s r who w).ended) ≡ owner_ends c s w = rw (owns, runs) refl in
       e ∙ ap (λ x. is_somebody r && x) t.ended_is ∙ same

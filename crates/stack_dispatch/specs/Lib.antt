@@ -1,4 +1,8 @@
+pub mod Checking
+pub mod Due
 pub mod Lefts
+pub mod RunEnd
+pub mod Served
 pub mod Serving
 pub mod State
 pub mod Ticking

@@ -3,6 +3,8 @@ use Rattle.std.specs.Prelude.{◌≡◌, ℕ, List, length}
 use Rattle.tt_world.specs.declared.config.ConfigParts.{ConfigParts}
 use Rattle.tt_world.specs.declared.script.ScriptParts.{ScriptParts}
 use Rattle.tt_world.specs.World.{World}
+use Rattle.isr_window.specs.Window.{Window}
+use Rattle.isr_window.specs.Played.{with_window}
 
 -- what the runner keeps beside the world: how long a round is, how far it is corrected, how many modes and rounds there are, the
 -- global times, and the ticks of the arrivals that were not yet taken
@@ -36,3 +38,20 @@ fixed_of c s = record { round = c.round; adjust = c.adjust; modes = length c.mod
 -- what is kept is that of a configuration and of a script
 abbrev pub IsFor : ConfigParts → ScriptParts → Beside → Type 0
 IsFor c s b = fixed_in b ≡ fixed_of c s
+
+-- the interrupt sources of a state
+abbrev pub window_in : RunState → Window
+window_in st = record {
+  isrs_enabled = st.world.isrs_enabled;
+  isrs_held = st.world.isrs_held;
+  isrs_left = st.beside.isrs_ticks;
+  oisrs_held = st.world.oisrs_held;
+  oisrs_left = st.beside.oisrs_ticks;
+}
+
+-- the state with these sources
+abbrev pub with_sources : Window → RunState → RunState
+with_sources g st = record {
+  world = with_window st.world g;
+  beside = record st.beside { isrs_ticks = g.isrs_left; oisrs_ticks = g.oisrs_left };
+}

@@ -1,5 +1,5 @@
 -- The tick of the one who runs.
-use Rattle.std.specs.Prelude.{ℕ, ℤ, ◌≡◌, ◌&&◌, ◌+◌, ◌^◌, ◌<◌, ◌≤◌, Bool, false, List, length}
+use Rattle.std.specs.Prelude.{ℕ, ℤ, ◌≡◌, ◌+◌, ◌^◌, ◌<◌, ◌≤◌, Bool, false, List, length}
 use Rattle.task_lang.specs.declared.tick.Effect.{Effect}
 use Rattle.task_lang.specs.Tick.{State}
 use Rattle.task_lang.specs.Limits.{HasCallees}
@@ -12,13 +12,12 @@ use Rattle.tt_world.specs.declared.script.ScriptParts.{ScriptParts}
 use Rattle.tt_world.specs.declared.world.Runner.{Runner}
 use Rattle.tt_world.specs.declared.world.Runner.TheVariants.{Nobody}
 use Rattle.tt_world.specs.ConfigRules.{IsConfig}
-use Rattle.tt_world.specs.World.{World, Job, Source}
+use Rattle.tt_world.specs.World.{World, Job}
 use Rattle.tt_world.specs.Rows.{HasMode}
-use Rattle.tt_world.specs.Gates.{is_accepted}
-use Rattle.tt_world.specs.Runners.{is_done, left_of, leaving, runner_of, owner_of, with_left}
+use Rattle.tt_world.specs.Runners.{is_done, left_of, leaving, runner_of, with_left}
 use Rattle.tt_world.specs.Moved.{Outcome, Gives}
 use Rattle.tt_world.specs.Services.{service}
-use Rattle.tt_world.specs.Step.{RunnerTick, state_after, called, runner_tick, is_somebody}
+use Rattle.tt_world.specs.Step.{RunnerTick, state_after, called}
 use Rattle.stack_dispatch.specs.Serving.{IsCalling}
 use Rattle.stack_dispatch.specs.State.{RunState, IsFor}
 
@@ -63,11 +62,3 @@ pub record Calls (c : ConfigParts) (s : ScriptParts) (caller : Runner) (who : Ow
     (before after : List Event) (world : World) (end : Outcome) (ended : Bool) : Type 0 where
   pub calls : (left : List Stmt) (w : World) → IsCalling caller left w now
       → IsTick before after world end ended (called c caller who call (service c s caller call left w))
-
--- whether the tick ends the one who runs; idle time has no end
-abbrev pub ends_runner : ConfigParts → ScriptParts → World → Bool
-ends_runner c s w = let r = runner_of c w in is_somebody r && (runner_tick c s r (owner_of c w r) w).ended
-
--- no source accepts an interrupt that it did not accept before
-abbrev pub NoMoreAccepted : World → World → Type 0
-NoMoreAccepted old new = (source : Source) → is_accepted old source ≡ false → is_accepted new source ≡ false

@@ -2,7 +2,11 @@
 #![tactic(auto)]
 
 mod hooks;
+mod interrupts;
 mod lefts;
+mod monitoring;
+mod plain;
+mod rounds;
 mod runner;
 mod services;
 mod state;

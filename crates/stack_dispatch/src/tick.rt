@@ -7,8 +7,9 @@ ghost use Rattle.tt_world.specs.Moved.{Gives};
 ghost use Rattle.tt_world.specs.Runners.{is_done, left_of, job_at, runner_of};
 ghost use Rattle.tt_world.specs.Services.{is_shutdown};
 ghost use Rattle.tt_world.specs.Step.{run_line, is_somebody, runner_tick, tick_over, step};
+ghost use Rattle.tt_world.proofs.Still.{owner_ends};
 ghost use Rattle.stack_dispatch.specs.State.{IsFor};
-ghost use Rattle.stack_dispatch.specs.Ticking.{CanTick, TicksLeft, IsJobTicked, IsTick, Calls, ends_runner, NoMoreAccepted};
+ghost use Rattle.stack_dispatch.specs.Ticking.{CanTick, TicksLeft, IsJobTicked, IsTick, Calls};
 
 use crate::runner::ran_before;
 use crate::state::{Job, State};
@@ -243,9 +244,7 @@ impl State {
         ensures gives { IfOk result (λ ticked. Gives events.old events.new self.new.world ticked.end
             (step config.now script.now self.old.world)) }
         ensures ended { IfOk result (λ ticked.
-            ticked.ended ≡ ends_runner config.now script.now self.old.world) }
-        ensures still { IfOk result (λ ticked.
-            ticked.ended ≡ false → NoMoreAccepted self.old.world self.new.world) }
+            ticked.ended ≡ owner_ends config.now script.now self.old.world) }
         ensures beside { IfOk result (λ _. self.new.beside ≡ self.old.beside) }
     {
         let who = self.owner(config, runner);
@@ -272,9 +271,7 @@ impl State {
         ensures gives { IfOk result (λ ticked. Gives events.old events.new self.new.world ticked.end
             (step config.now script.now self.old.world)) }
         ensures ended { IfOk result (λ ticked.
-            ticked.ended ≡ ends_runner config.now script.now self.old.world) }
-        ensures still { IfOk result (λ ticked.
-            ticked.ended ≡ false → NoMoreAccepted self.old.world self.new.world) }
+            ticked.ended ≡ owner_ends config.now script.now self.old.world) }
         ensures beside { IfOk result (λ _. self.new.beside ≡ self.old.beside) }
     {
         let runner = self.runner(config);

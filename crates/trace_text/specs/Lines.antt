@@ -39,11 +39,15 @@ correction (negsuc ticks) = signed_decimal (negsuc ticks)
 
 -- the words of an event's line: its stamp in ticks comes first
 abbrev pub words_of_event : List NameEntry → Event → List (List ℕ)
-words_of_event names (On.OsStart at mode) = decimal at ∷ codes "os" ∷ codes "start" ∷ name_of names (Which.Mode mode) ∷ []
-words_of_event names (On.Round at number mode) = decimal at ∷ codes "round" ∷ decimal number ∷ name_of names (Which.Mode mode) ∷ []
+words_of_event names (On.OsStart at mode) =
+    decimal at ∷ codes "os" ∷ codes "start" ∷ name_of names (Which.Mode mode) ∷ []
+words_of_event names (On.Round at number mode) =
+    decimal at ∷ codes "round" ∷ decimal number ∷ name_of names (Which.Mode mode) ∷ []
 words_of_event names (On.Correct at by) = decimal at ∷ codes "correct" ∷ correction by ∷ []
-words_of_event names (On.Check at task true) = decimal at ∷ codes "check" ∷ name_of names (Which.Task task) ∷ codes "met" ∷ []
-words_of_event names (On.Check at task false) = decimal at ∷ codes "check" ∷ name_of names (Which.Task task) ∷ codes "missed" ∷ []
+words_of_event names (On.Check at task true) =
+    decimal at ∷ codes "check" ∷ name_of names (Which.Task task) ∷ codes "met" ∷ []
+words_of_event names (On.Check at task false) =
+    decimal at ∷ codes "check" ∷ name_of names (Which.Task task) ∷ codes "missed" ∷ []
 words_of_event names (On.Enable at isr) = decimal at ∷ codes "enable" ∷ name_of names (Which.Isr isr) ∷ []
 words_of_event names (On.Arrive at source) = decimal at ∷ codes "arrive" ∷ owner_name names source ∷ []
 words_of_event names (On.Merge at source) = decimal at ∷ codes "merge" ∷ owner_name names source ∷ []
@@ -51,14 +55,17 @@ words_of_event names (On.Accept at source) = decimal at ∷ codes "accept" ∷ o
 words_of_event names (On.Activate at task) = decimal at ∷ codes "activate" ∷ name_of names (Which.Task task) ∷ []
 words_of_event names (On.Run at who) = decimal at ∷ codes "run" ∷ owner_name names who ∷ []
 words_of_event names (On.End at owner) = decimal at ∷ codes "end" ∷ owner_name names owner ∷ []
-words_of_event names (On.Out at owner value) = decimal at ∷ codes "out" ∷ owner_name names owner ∷ signed_decimal value ∷ []
-words_of_event names (On.Called at owner call result) = decimal at ∷ codes "call" ∷ owner_name names owner ∷ call_words names call ++ decimal result ∷ []
-words_of_event names (On.ErrorHook at task) = decimal at ∷ codes "hook" ∷ codes "ttErrorHook" ∷ name_of names (Which.Task task) ∷ []
+words_of_event names (On.Out at owner value) =
+    decimal at ∷ codes "out" ∷ owner_name names owner ∷ signed_decimal value ∷ []
+words_of_event names (On.Called at owner call result) =
+    decimal at ∷ codes "call" ∷ owner_name names owner ∷ call_words names call ++ decimal result ∷ []
+words_of_event names (On.ErrorHook at task) =
+    decimal at ∷ codes "hook" ∷ codes "ttErrorHook" ∷ name_of names (Which.Task task) ∷ []
 words_of_event names (On.ShutdownHook at) = decimal at ∷ codes "hook" ∷ codes "ttShutdownHook" ∷ []
 words_of_event names (On.Shutdown at) = decimal at ∷ codes "shutdown" ∷ []
 words_of_event names (On.Stop at) = decimal at ∷ codes "stop" ∷ []
 
--- words with one space between them, and a LF behind them
+-- words with one space between them, and a LF after them
 abbrev pub line : List (List ℕ) → List ℕ
 line words = joined words ++ 10 ∷ []
 

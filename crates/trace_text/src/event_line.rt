@@ -9,8 +9,9 @@ ghost use Rattle.trace_text.specs.Lines.{call_words, correction, line, line_of, 
 use crate::line::Line;
 use tt_base::{Call, Declared, Event, ModeNo, Names, Owner, TaskNo, Tick};
 
-/// The line of an event, its LF included: at most 96 bytes. Its stamp in ticks comes first, and one space stands between
-/// words. A thing that the names do not have stands as an empty word. The words are the bench's own.
+/// The line of an event, its LF included: at most 96 bytes. Its stamp in ticks comes first, and one
+/// space stands between words. A thing that the names do not have stands as an empty word. The
+/// words are the bench's own.
 #[tactic(auto, unfolding(crate::specs::Lines::line_of))]
 pub fn line_of(event: &Event, names: &Names) -> Line
     ensures line { result ≡ line_of names.now event.now }
@@ -87,7 +88,8 @@ fn with_owner(at: Tick, word: &[u8], names: &Names, owner: Owner) -> Line
 
 /// A dispatcher round begins.
 fn round(at: Tick, number: u32, names: &Names, mode: ModeNo) -> Line
-    ensures line { result ≡ line (decimal at ∷ codes "round" ∷ decimal number ∷ name_of names.now (Which.Mode mode) ∷ []) }
+    ensures line { let name = name_of names.now (Which.Mode mode) in
+        result ≡ line (decimal at ∷ codes "round" ∷ decimal number ∷ name ∷ []) }
     ensures few { length result ≤ 96 }
 {
     let mut line = Line::stamped(at);
@@ -112,7 +114,9 @@ fn correct(at: Tick, by: i64) -> Line
 
 /// Deadline monitoring looks at a task.
 fn check(at: Tick, names: &Names, task: TaskNo, met: bool) -> Line
-    ensures line { result ≡ line (decimal at ∷ codes "check" ∷ name_of names.now (Which.Task task) ∷ (if met then codes "met" else codes "missed") ∷ []) }
+    ensures line { let name = name_of names.now (Which.Task task) in
+        let seen = if met then codes "met" else codes "missed" in
+        result ≡ line (decimal at ∷ codes "check" ∷ name ∷ seen ∷ []) }
     ensures few { length result ≤ 96 }
 {
     let mut line = Line::stamped(at);
@@ -125,7 +129,8 @@ fn check(at: Tick, names: &Names, task: TaskNo, met: bool) -> Line
 
 /// A body puts out a value.
 fn out(at: Tick, names: &Names, owner: Owner, value: i32) -> Line
-    ensures line { result ≡ line (decimal at ∷ codes "out" ∷ owner_name names.now owner ∷ signed_decimal value ∷ []) }
+    ensures line { let name = owner_name names.now owner in
+        result ≡ line (decimal at ∷ codes "out" ∷ name ∷ signed_decimal value ∷ []) }
     ensures few { length result ≤ 96 }
 {
     let mut line = Line::stamped(at);
@@ -138,7 +143,9 @@ fn out(at: Tick, names: &Names, owner: Owner, value: i32) -> Line
 
 /// A body calls a service.
 fn called(at: Tick, names: &Names, owner: Owner, call: Call, answer: u8) -> Line
-    ensures line { result ≡ line (decimal at ∷ codes "call" ∷ owner_name names.now owner ∷ call_words names.now call ++ decimal answer ∷ []) }
+    ensures line { let name = owner_name names.now owner in
+        result ≡ line (decimal at ∷ codes "call" ∷ name
+        ∷ call_words names.now call ++ decimal answer ∷ []) }
     ensures few { length result ≤ 96 }
 {
     let mut line = Line::stamped(at);

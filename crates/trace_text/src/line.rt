@@ -12,7 +12,8 @@ use tt_base::{Call, Declared, Names, Owner, Tick};
 /// How many bytes a line has at most, its LF included.
 const LINE_BYTES: usize = 96;
 
-/// A printed line: words with one space between them, and a LF at the end. Contracts see it as the list of its bytes.
+/// A printed line: words with one space between them, and a LF at the end. Contracts see it as the
+/// list of its bytes.
 #[derive(Debug, Drop)]
 pub struct Line {
     bytes: ArrayVec<u8, LINE_BYTES>,

@@ -3,3 +3,4 @@ pub mod NumberLaws
 pub mod Tens
 pub mod LineLaws
 pub mod WordSpans
+pub mod WordCuts

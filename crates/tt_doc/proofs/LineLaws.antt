@@ -1,178 +1,231 @@
 -- Laws of lines: the first line of a text, and what follows it.
-use Rattle.std.proofs.Common.{◌≡◌, ℕ, ◌+◌, ◌-◌, ◌<◌, ◌≤◌, zero, suc, Bool, true, false, not, ◌==◌, cond, List, [], ◌∷◌, ◌++◌, length, take, drop, Option, Some, None, refl, sym, ap, ◌∙◌, subst, arith, inl, inr, unwrap_or, is_some}
+use Rattle.std.proofs.Common.{◌≡◌, ℕ, ◌+◌, ◌-◌, ◌<◌, ◌≤◌, zero, suc, Bool, true, false, not, ◌&&◌, ◌==◌, List, [], ◌∷◌, ◌++◌, length, get_or, take, drop, Some, None, refl, sym, ap, ◌∙◌, subst, arith}
 use Rattle.std.specs.Prelude.{nat_lt, nat_le, slice_range}
-use Rattle.std.specs.List.{list_all, position, position_or_len}
-use Rattle.std.proofs.lemmas.Bool.{cond-true, cond-false, and_parts, cases_Bool, lt-ltb, le-ltb, ne_eqb, leb-true, ltb-false, eqb-false}
-use Rattle.std.proofs.lemmas.Bool.Decides.{nat_tests}
-use Rattle.std.proofs.lemmas.List.{length-take, length-take-le, drop-drop, take_rest}
-use Rattle.std.proofs.lemmas.List.Sums.{prefix_len-le-length}
-use Rattle.tt_doc.specs.declared.lines.LineKind.{LineKind}
+use Rattle.std.specs.List.{list_all, position_or_len}
+use Rattle.std.proofs.lemmas.Bool.{cond_both, cond-true, cond-false, and_parts, and_from, lt-ltb, le-ltb, ne_eqb, leb-true, not-true, not-false}
+use Rattle.std.proofs.lemmas.List.{length-take-le, length-drop, drop-drop, take_all}
+use Rattle.std.proofs.lemmas.List.Sums.{prefix_len-le-length, split_at_first, passes_at_first}
 use Rattle.tt_doc.specs.declared.lines.LineKind.TheVariants.{Byte, Long, Cut}
 use Rattle.tt_doc.specs.LineStep.{BeginsWithFault}
 use Rattle.tt_doc.specs.Lines.{Line, in_front, lines_of, is_plain_byte, fault_of}
 
-abbrev is_lf : ℕ → Bool
-is_lf b = b == 10
-
--- the first line of a text, where `n` bytes stand before the first LF or the text's end
-abbrev first_line : List ℕ → ℕ → Line
-first_line bytes n = record { text = take n bytes; ended = nat_lt n (length bytes) }
-
-abbrev Begins : List ℕ → ℕ → Type 0
-Begins bytes n = lines_of bytes ≡ first_line bytes n ∷ lines_of (drop (suc n) bytes)
-
-less_by_one : (n m : ℕ) → nat_lt n m ≡ nat_lt (suc n) (suc m)
-less_by_one n m = grind (arith, nat_tests)
-
-begins_by_one : (b : ℕ) (bytes : List ℕ) (n : ℕ) → n ≤ length bytes → (0 < length bytes → Begins bytes n) → (b == 10) ≡ false → Begins (b ∷ bytes) (suc n)
-begins_by_one b [] zero within rest other = cond-false (b == 10) (record { text = []; ended = true } ∷ []) (in_front b []) other
-begins_by_one b [] (suc n) within rest other = absurd (omega arith)
-begins_by_one b (next ∷ bytes) n within rest other =
-    cond-false (b == 10) (record { text = []; ended = true } ∷ lines_of (next ∷ bytes)) (in_front b (lines_of (next ∷ bytes))) other
-    ∙ ap (in_front b) (rest (omega arith))
-    ∙ ap (λ ended. record { text = b ∷ take n (next ∷ bytes); ended = ended } ∷ lines_of (drop n bytes)) (less_by_one n (suc (length bytes)))
-
-within : (bytes : List ℕ) → position_or_len is_lf bytes ≤ length bytes
-within bytes = prefix_len-le-length (λ b. not (is_lf b)) bytes
-
-begins : (bytes : List ℕ) → 0 < length bytes → Begins bytes (position_or_len is_lf bytes)
-begins [] some = absurd (omega arith)
-begins (b ∷ bytes) some =
-    let n = position_or_len is_lf bytes in
-    elim (cases_Bool (b == 10)) [
-      | inl lf ↦
-          let first : position_or_len is_lf (b ∷ bytes) ≡ 0 = ap (λ t. cond (not t) (1 + n) 0) lf in
-          subst (Begins (b ∷ bytes)) (sym first)
-          (cond-true (b == 10) (record { text = []; ended = true } ∷ lines_of bytes) (in_front b (lines_of bytes)) lf
-          ∙ ap (λ ended. record { text = []; ended = ended } ∷ lines_of bytes) (sym (lt-ltb 0 (suc (length bytes)) (omega arith))))
-      | inr other ↦
-          let more : position_or_len is_lf (b ∷ bytes) ≡ suc n = ap (λ t. cond (not t) (1 + n) 0) other ∙ omega arith in
-          subst (Begins (b ∷ bytes)) (sym more) (begins_by_one b bytes n (within bytes) (begins bytes) other)
-    ]
-
--- the first line of a text goes up to the first LF, or to the text's end where there is none
-pub lines_of-first : (bytes : List ℕ) (n : ℕ) → n ≡ position_or_len (λ b. b == 10) bytes → 0 < length bytes
-    → lines_of bytes ≡ record { text = take n bytes; ended = nat_lt n (length bytes) } ∷ lines_of (drop (n + 1) bytes)
-lines_of-first bytes n is some =
-    let at : Begins bytes n = subst (Begins bytes) (sym is) (begins bytes some) in
-    let one : suc n ≡ n + 1 = omega arith in
-    at ∙ ap (λ k. first_line bytes n ∷ lines_of (drop k bytes)) one
-
-unwrap_or-cond : (n m : ℕ) → n ≤ m → unwrap_or (cond (nat_lt n m) (Some n) None) m ≡ n
-unwrap_or-cond n m h =
-    elim (cases_Bool (nat_lt n m)) [
-      | inl below ↦ ap (λ t. unwrap_or (cond t (Some n) None) m) below
-      | inr above ↦ ap (λ t. unwrap_or (cond t (Some n) None) m) above ∙ omega (arith, ltb-false n m above)
-    ]
-
-pub unwrap_or-position : (p : ℕ → Bool) (xs : List ℕ) → unwrap_or (position p xs) (length xs) ≡ position_or_len p xs
-unwrap_or-position p xs = unwrap_or-cond (position_or_len p xs) (length xs) (prefix_len-le-length (λ x. not (p x)) xs)
+-- how many plain bytes a text begins with
+abbrev plain_len_of : List ℕ → ℕ
+plain_len_of text = position_or_len (λ b. not (is_plain_byte b)) text
 
 abbrev line_with : List ℕ → Bool → Line
 line_with text ended = record { text = text; ended = ended }
 
-fault_of-byte : (text : List ℕ) (ended : Bool) → list_all is_plain_byte text ≡ false → fault_of (line_with text ended) ≡ Some Byte
-fault_of-byte text ended other = cond-true (not (list_all is_plain_byte text)) (Some Byte) _ (ap not other)
+-- a plain byte is no LF
+plain_is_no_lf : (b : ℕ) → is_plain_byte b ≡ true → (b == 10) ≡ false
+plain_is_no_lf b plain =
+    let low = leb-true 32 b (and_parts (nat_le 32 b) (nat_le b 126) plain).0 in
+    ne_eqb b 10 (λ e. omega (arith, low))
 
-fault_of-long : (text : List ℕ) (ended : Bool) → list_all is_plain_byte text ≡ true → 200 < length text → fault_of (line_with text ended) ≡ Some Long
-fault_of-long text ended plain long =
-    cond-false (not (list_all is_plain_byte text)) (Some Byte) _ (ap not plain)
-    ∙ cond-true (nat_lt 200 (length text)) (Some Long) _ (lt-ltb 200 (length text) long)
-
-fault_of-short : (text : List ℕ) (ended : Bool) → list_all is_plain_byte text ≡ true → length text ≤ 200 → fault_of (line_with text ended) ≡ cond ended None (Some Cut)
-fault_of-short text ended plain short =
-    cond-false (not (list_all is_plain_byte text)) (Some Byte) _ (ap not plain)
-    ∙ cond-false (nat_lt 200 (length text)) (Some Long) _ (le-ltb 200 (length text) short)
+-- a byte that is no LF stands in front of the first line
+lines_of-other : (b : ℕ) (bytes : List ℕ) → (b == 10) ≡ false → lines_of (b ∷ bytes) ≡ in_front b (lines_of bytes)
+lines_of-other b bytes other = cond-false (b == 10) (line_with [] true ∷ lines_of bytes) (in_front b (lines_of bytes)) other
 
 -- a plain text, a LF and a rest are one line and the lines of the rest
-pub lines_of-plain : (text rest : List ℕ) → list_all is_plain_byte text ≡ true → lines_of (text ++ 10 ∷ rest) ≡ record { text = text; ended = true } ∷ lines_of rest
+pub lines_of-plain : (text rest : List ℕ) → list_all is_plain_byte text ≡ true
+    → lines_of (text ++ 10 ∷ rest) ≡ record { text = text; ended = true } ∷ lines_of rest
 lines_of-plain [] rest plain = refl
 lines_of-plain (b ∷ text) rest plain =
     let parts = and_parts (is_plain_byte b) (list_all is_plain_byte text) plain in
-    let low = leb-true 32 b (and_parts (nat_le 32 b) (nat_le b 126) parts.0).0 in
-    cond-false (b == 10) (record { text = []; ended = true } ∷ lines_of (text ++ 10 ∷ rest)) (in_front b (lines_of (text ++ 10 ∷ rest)))
-    (ne_eqb b 10 (λ e. omega (arith, low)))
-    ∙ ap (in_front b) (lines_of-plain text rest parts.1)
+    lines_of-other b (text ++ 10 ∷ rest) (plain_is_no_lf b parts.0) ∙ ap (in_front b) (lines_of-plain text rest parts.1)
+
+-- a plain text is one line that no LF ends
+lines_of-cut : (text : List ℕ) → list_all is_plain_byte text ≡ true → 0 < length text → lines_of text ≡ line_with text false ∷ []
+lines_of-cut [] plain some = absurd (omega arith)
+lines_of-cut (b ∷ []) plain some = lines_of-other b [] (plain_is_no_lf b (and_parts (is_plain_byte b) true plain).0)
+lines_of-cut (b ∷ next ∷ bytes) plain some =
+    let parts = and_parts (is_plain_byte b) (list_all is_plain_byte (next ∷ bytes)) plain in
+    lines_of-other b (next ∷ bytes) (plain_is_no_lf b parts.0) ∙ ap (in_front b) (lines_of-cut (next ∷ bytes) parts.1 (omega arith))
 
 -- a plain line of at most 200 bytes that a LF ends has no fault
-pub fault_of-plain : (text : List ℕ) → list_all is_plain_byte text ≡ true → length text ≤ 200 → fault_of (record { text = text; ended = true }) ≡ None
-fault_of-plain text plain short = fault_of-short text true plain short
+pub fault_of-plain : (text : List ℕ) → list_all is_plain_byte text ≡ true → length text ≤ 200
+    → fault_of (record { text = text; ended = true }) ≡ None
+fault_of-plain text plain short =
+    cond-false (not (list_all is_plain_byte text)) (Some Byte) _ (ap not plain)
+    ∙ cond-false (nat_lt 200 (length text)) (Some Long) None (le-ltb 200 (length text) short)
 
--- what a slice holds from a place on
-abbrev pub rest_at : List ℕ → ℕ → List ℕ
-rest_at bytes at = take (length bytes - at) (drop at bytes)
+-- the first line has a byte that is not plain
+record BeginsUnplain (lines : List Line) : Type 0 where
+  line : Line
+  rest : List Line
+  is : lines ≡ line ∷ rest
+  unplain : list_all is_plain_byte line.text ≡ false
 
--- what a search for the first LF behind a place says: where it stands, and how many bytes stand before it or before the end
-pub record FindsLf (bytes : List ℕ) (at : ℕ) (lf : Option ℕ) (n : ℕ) : Type 0 where
-  pub some : (length (rest_at bytes at) == 0) ≡ false
-  pub lf_is : lf ≡ position (λ b. b == 10) (rest_at bytes at)
-  pub n_is : n ≡ unwrap_or lf (length (rest_at bytes at))
+unplain_in_front : (b : ℕ) (lines : List Line) → is_plain_byte b ≡ false → BeginsUnplain (in_front b lines)
+unplain_in_front b [] unplain = record { line = line_with (b ∷ []) false; rest = []; is = refl; unplain = ap (λ t. t && true) unplain }
+unplain_in_front b (line ∷ lines) unplain = record {
+  line = line_with (b ∷ line.text) line.ended;
+  rest = lines;
+  is = refl;
+  unplain = ap (λ t. t && list_all is_plain_byte line.text) unplain;
+}
 
-n_of_lf : {bytes : List ℕ} {at : ℕ} {lf : Option ℕ} {n : ℕ} → FindsLf bytes at lf n → n ≡ position_or_len is_lf (rest_at bytes at)
-n_of_lf {bytes} {at} {lf} {n} finds =
-    let rest = rest_at bytes at in
-    finds.n_is ∙ ap (λ o. unwrap_or o (length rest)) finds.lf_is ∙ unwrap_or-position is_lf rest
+-- a plain text and a byte that is neither plain nor a LF
+unplain_line : (text : List ℕ) (b : ℕ) (rest : List ℕ) → list_all is_plain_byte text ≡ true → is_plain_byte b ≡ false
+    → (b == 10) ≡ false → BeginsUnplain (lines_of (text ++ b ∷ rest))
+unplain_line [] b rest plain unplain other =
+    subst BeginsUnplain (sym (lines_of-other b rest other)) (unplain_in_front b (lines_of rest) unplain)
+unplain_line (first ∷ text) b rest plain unplain other =
+    let parts = and_parts (is_plain_byte first) (list_all is_plain_byte text) plain in
+    let later = unplain_line text b rest parts.1 unplain other in
+    record {
+      line = line_with (first ∷ later.line.text) later.line.ended;
+      rest = later.rest;
+      is = lines_of-other first (text ++ b ∷ rest) (plain_is_no_lf first parts.0) ∙ ap (in_front first) later.is;
+      unplain = ap (λ t. t && list_all is_plain_byte later.line.text) parts.0 ∙ later.unplain;
+    }
 
-is_some-cond : (t : Bool) (n : ℕ) → is_some (cond t (Some n) None) ≡ t
-is_some-cond true n = refl
-is_some-cond false n = refl
+-- the bytes in front are plain
+front_is_plain : (text : List ℕ) → list_all is_plain_byte (take (plain_len_of text) text) ≡ true
+front_is_plain [] = refl
+front_is_plain (b ∷ bytes) =
+    cond_both (not (not (is_plain_byte b))) (1 + plain_len_of bytes) 0 (λ n. list_all is_plain_byte (take n (b ∷ bytes)) ≡ true)
+    (λ plain.
+    let more : 1 + plain_len_of bytes ≡ suc (plain_len_of bytes) = omega arith in
+    ap (λ n. list_all is_plain_byte (take n (b ∷ bytes))) more
+    ∙ and_from (is_plain_byte b) (list_all is_plain_byte (take (plain_len_of bytes) bytes))
+    (not-false (is_plain_byte b) (not-true (not (is_plain_byte b)) plain)) (front_is_plain bytes))
+    (λ unplain. refl)
 
--- the line is ended where a LF was found
-ended_by_lf : {bytes : List ℕ} {at : ℕ} {lf : Option ℕ} {n : ℕ} → FindsLf bytes at lf n → nat_lt n (length (rest_at bytes at)) ≡ is_some lf
-ended_by_lf {bytes} {at} {lf} {n} finds =
-    let rest = rest_at bytes at in
-    ap (λ k. nat_lt k (length rest)) (n_of_lf finds)
-    ∙ sym (is_some-cond (nat_lt (position_or_len is_lf rest) (length rest)) (position_or_len is_lf rest))
-    ∙ ap (is_some {T = ℕ}) (sym finds.lf_is)
+-- where plain bytes go on for so many, they go on after these
+pub plain_len_more : (n : ℕ) (text : List ℕ) → n ≤ length text → list_all is_plain_byte (take n text) ≡ true
+    → plain_len_of text ≡ n + plain_len_of (drop n text)
+plain_len_more zero text inside plain = omega arith
+plain_len_more (suc n) [] inside plain = absurd (omega arith)
+plain_len_more (suc n) (b ∷ bytes) inside plain =
+    let parts = and_parts (is_plain_byte b) (list_all is_plain_byte (take n bytes)) plain in
+    cond-true (not (not (is_plain_byte b))) (1 + plain_len_of bytes) 0 (ap (λ t. not (not t)) parts.0)
+    ∙ omega (arith, plain_len_more n bytes (omega arith) parts.1)
 
-first_found : {bytes : List ℕ} {at : ℕ} {lf : Option ℕ} {n : ℕ} → FindsLf bytes at lf n
-    → lines_of (rest_at bytes at) ≡ line_with (take n (rest_at bytes at)) (is_some lf) ∷ lines_of (drop (n + 1) (rest_at bytes at))
-first_found {bytes} {at} {lf} {n} finds =
-    let rest = rest_at bytes at in
-    let empty = eqb-false (length rest) 0 finds.some in
-    lines_of-first rest n (n_of_lf finds) (omega (arith, empty))
-    ∙ ap (λ ended. line_with (take n rest) ended ∷ lines_of (drop (n + 1) rest)) (ended_by_lf finds)
+-- a search that passed so many bytes passes a plain chunk more
+pub plain_len_further : (text : List ℕ) (at n : ℕ) → at + n ≤ length text
+    → list_all is_plain_byte (take (at + n - at) (drop at text)) ≡ true
+    → plain_len_of text ≡ at + plain_len_of (drop at text) → plain_len_of text ≡ (at + n) + plain_len_of (drop (at + n) text)
+plain_len_further text at n inside plain passed =
+    let size : at + n - at ≡ n = omega arith in
+    let sum : at + (n + plain_len_of (drop (at + n) text)) ≡ (at + n) + plain_len_of (drop (at + n) text) = omega arith in
+    let more = plain_len_more n (drop at text) (omega (arith, length-drop at text))
+    (ap (λ k. list_all is_plain_byte (take k (drop at text))) (sym size) ∙ plain) in
+    passed
+    ∙ ap (λ k. at + k) (more ∙ ap (λ rest. n + plain_len_of rest) (drop-drop n at text))
+    ∙ sum
 
-begins_with_fault : {bytes : List ℕ} {at : ℕ} {lf : Option ℕ} {n : ℕ} → FindsLf bytes at lf n → (kind : LineKind)
-    → fault_of (line_with (take n (rest_at bytes at)) (is_some lf)) ≡ Some kind → BeginsWithFault (lines_of (drop at bytes)) kind
-begins_with_fault {bytes} {at} {lf} {n} finds kind fault =
-    let rest = rest_at bytes at in
-    let P : List ℕ → Type 0 = λ text. BeginsWithFault (lines_of text) kind in
-    subst P (take_rest bytes at)
-    (record { line = line_with (take n rest) (is_some lf); rest = lines_of (drop (n + 1) rest); is = first_found finds; fault = fault })
+-- plain bytes in front of a text, and how long they are
+record PlainFront (text : List ℕ) (n : ℕ) : Type 0 where
+  plain : list_all is_plain_byte (take n text) ≡ true
+  len : length (take n text) ≡ n
 
-pub begins_with_byte : {bytes : List ℕ} {at : ℕ} {lf : Option ℕ} {n : ℕ} → FindsLf bytes at lf n
-    → list_all is_plain_byte (take n (rest_at bytes at)) ≡ false → BeginsWithFault (lines_of (drop at bytes)) Byte
-begins_with_byte {bytes} {at} {lf} {n} finds other = begins_with_fault finds Byte (fault_of-byte (take n (rest_at bytes at)) (is_some lf) other)
+plain_front : (text : List ℕ) (n : ℕ) → n ≡ plain_len_of text → PlainFront text n
+plain_front text n is =
+    subst (PlainFront text) (sym is) (record {
+      plain = front_is_plain text;
+      len = length-take-le (plain_len_of text) text (prefix_len-le-length (λ b. not (not (is_plain_byte b))) text);
+    })
 
-pub begins_with_long : {bytes : List ℕ} {at : ℕ} {lf : Option ℕ} {n : ℕ} → FindsLf bytes at lf n
-    → list_all is_plain_byte (take n (rest_at bytes at)) ≡ true → 200 < n → BeginsWithFault (lines_of (drop at bytes)) Long
-begins_with_long {bytes} {at} {lf} {n} finds plain long =
-    let rest = rest_at bytes at in
-    let inside : n ≤ length rest = omega (arith, n_of_lf finds, within rest) in
-    let long : 200 < length (take n rest) = omega (arith, length-take-le n rest inside) in
-    begins_with_fault finds Long (fault_of-long (take n rest) (is_some lf) plain long)
+-- the byte at which plain bytes end
+record StopsAt (text : List ℕ) (n : ℕ) : Type 0 where
+  split : text ≡ take n text ++ get_or text n 0 ∷ drop (n + 1) text
+  unplain : is_plain_byte (get_or text n 0) ≡ false
 
-pub begins_with_cut : {bytes : List ℕ} {at : ℕ} {lf : Option ℕ} {n : ℕ} → FindsLf bytes at lf n
-    → list_all is_plain_byte (take n (rest_at bytes at)) ≡ true → n ≤ 200 → is_some lf ≡ false → BeginsWithFault (lines_of (drop at bytes)) Cut
-begins_with_cut {bytes} {at} {lf} {n} finds plain short none =
-    let rest = rest_at bytes at in
-    let short : length (take n rest) ≤ 200 = omega (arith, length-take n rest) in
-    begins_with_fault finds Cut
-    (fault_of-short (take n rest) (is_some lf) plain short ∙ ap (λ ended. cond ended None (Some Cut)) none)
+stops_at : (text : List ℕ) (n : ℕ) → n ≡ plain_len_of text → (n ≡ length text → ⊥) → StopsAt text n
+stops_at text n is before =
+    let test : ℕ → Bool = λ b. not (is_plain_byte b) in
+    let short : plain_len_of text < length text = omega (arith, prefix_len-le-length (λ b. not (test b)) text, is, before) in
+    subst (StopsAt text) (sym is) (record {
+      split = split_at_first test text 0 short;
+      unplain = not-true (is_plain_byte (get_or text (plain_len_of text) 0)) (passes_at_first test text 0 short);
+    })
 
--- the line that a LF ends, and the lines behind it
-pub lines_of-ended : {bytes : List ℕ} {at : ℕ} {lf : Option ℕ} {n : ℕ} → FindsLf bytes at lf n → is_some lf ≡ true
-    → lines_of (drop at bytes) ≡ record { text = slice_range bytes at (at + n); ended = true } ∷ lines_of (drop (at + n + 1) bytes)
-lines_of-ended {bytes} {at} {lf} {n} finds some =
-    let rest = rest_at bytes at in
-    let far : at + n - at ≡ n = omega arith in
-    let behind : at + (n + 1) ≡ at + n + 1 = omega arith in
-    ap lines_of (sym (take_rest bytes at))
-    ∙ first_found finds
-    ∙ ap (λ ended. line_with (take n rest) ended ∷ lines_of (drop (n + 1) rest)) some
-    ∙ ap (λ text. line_with (take n text) true ∷ lines_of (drop (n + 1) text)) (take_rest bytes at)
-    ∙ ap (λ k. line_with (take k (drop at bytes)) true ∷ lines_of (drop (n + 1) (drop at bytes))) (sym far)
-    ∙ ap (λ text. line_with (slice_range bytes at (at + n)) true ∷ lines_of text) (drop-drop (n + 1) at bytes ∙ ap (λ k. drop k bytes) behind)
+-- plain bytes up to a LF are a line
+lines_of-lf : (text : List ℕ) (n : ℕ) → n ≡ plain_len_of text → (n ≡ length text → ⊥) → get_or text n 0 ≡ 10
+    → lines_of text ≡ line_with (take n text) true ∷ lines_of (drop (n + 1) text)
+lines_of-lf text n is before lf =
+    ap lines_of (stops_at text n is before).split
+    ∙ ap (λ b. lines_of (take n text ++ b ∷ drop (n + 1) text)) lf
+    ∙ lines_of-plain (take n text) (drop (n + 1) text) (plain_front text n is).plain
+
+-- plain bytes up to the end are a line
+lines_of-end : (text : List ℕ) (n : ℕ) → n ≡ plain_len_of text → n ≡ length text → 0 < n
+    → lines_of text ≡ line_with (take n text) false ∷ []
+lines_of-end text n is end some =
+    let whole : take n text ≡ text = take_all n text (omega (arith, end)) in
+    lines_of-cut text (ap (list_all is_plain_byte) (sym whole) ∙ (plain_front text n is).plain) (omega (arith, end))
+    ∙ ap (λ t. line_with t false ∷ []) (sym whole)
+
+begins_with_long : (text : List ℕ) (n : ℕ) (ended : Bool) (rest : List Line) → n ≡ plain_len_of text → 200 < n
+    → lines_of text ≡ line_with (take n text) ended ∷ rest → BeginsWithFault (lines_of text) Long
+begins_with_long text n ended rest is long first =
+    let front = plain_front text n is in
+    let over : 200 < length (take n text) = omega (arith, front.len) in
+    record {
+      line = line_with (take n text) ended;
+      rest = rest;
+      is = first;
+      fault = cond-false (not (list_all is_plain_byte (take n text))) (Some Byte) _ (ap not front.plain)
+          ∙ cond-true (nat_lt 200 (length (take n text))) (Some Long) _ (lt-ltb 200 (length (take n text)) over);
+    }
+
+-- the fault of a line that ends at a LF, at another byte, and with the document
+pub begins_with_long_line : (text : List ℕ) (n : ℕ) → n ≡ plain_len_of text → (n ≡ length text → ⊥) → get_or text n 0 ≡ 10
+    → 200 < n → BeginsWithFault (lines_of text) Long
+begins_with_long_line text n is before lf long =
+    begins_with_long text n true (lines_of (drop (n + 1) text)) is long (lines_of-lf text n is before lf)
+
+pub begins_with_byte : (text : List ℕ) (n : ℕ) → n ≡ plain_len_of text → (n ≡ length text → ⊥) → (get_or text n 0 ≡ 10 → ⊥)
+    → BeginsWithFault (lines_of text) Byte
+begins_with_byte text n is before other =
+    let stop = stops_at text n is before in
+    let lines = unplain_line (take n text) (get_or text n 0) (drop (n + 1) text) (plain_front text n is).plain stop.unplain
+    (ne_eqb (get_or text n 0) 10 other) in
+    record {
+      line = lines.line;
+      rest = lines.rest;
+      is = ap lines_of stop.split ∙ lines.is;
+      fault = cond-true (not (list_all is_plain_byte lines.line.text)) (Some Byte) _ (ap not lines.unplain);
+    }
+
+pub begins_with_long_end : (text : List ℕ) (n : ℕ) → n ≡ plain_len_of text → n ≡ length text → 200 < n → BeginsWithFault (lines_of text) Long
+begins_with_long_end text n is end long = begins_with_long text n false [] is long (lines_of-end text n is end (omega arith))
+
+pub begins_with_cut : (text : List ℕ) (n : ℕ) → n ≡ plain_len_of text → n ≡ length text → 0 < n → n ≤ 200
+    → BeginsWithFault (lines_of text) Cut
+begins_with_cut text n is end some short =
+    let front = plain_front text n is in
+    let under : length (take n text) ≤ 200 = omega (arith, front.len) in
+    record {
+      line = line_with (take n text) false;
+      rest = [];
+      is = lines_of-end text n is end some;
+      fault = cond-false (not (list_all is_plain_byte (take n text))) (Some Byte) _ (ap not front.plain)
+          ∙ cond-false (nat_lt 200 (length (take n text))) (Some Long) _ (le-ltb 200 (length (take n text)) under);
+    }
+
+-- the line that a LF ends, and the lines after it
+pub record EndedLine (bytes : List ℕ) (at n : ℕ) : Type 0 where
+  pub line : lines_of (drop at bytes) ≡ record { text = slice_range bytes at (at + n); ended = true } ∷ lines_of (drop (at + n + 1) bytes)
+  pub good : n ≤ 200 → fault_of (record { text = slice_range bytes at (at + n); ended = true }) ≡ None
+
+pub ended_line : (bytes : List ℕ) (at n : ℕ) (rest : List ℕ) → rest ≡ drop at bytes → n ≡ plain_len_of rest → (n ≡ length rest → ⊥)
+    → get_or rest n 0 ≡ 10 → EndedLine bytes at n
+ended_line bytes at n rest is_rest is_len before_end at_lf =
+    let is : n ≡ plain_len_of (drop at bytes) = is_len ∙ ap plain_len_of is_rest in
+    let before : n ≡ length (drop at bytes) → ⊥ = λ e. before_end (e ∙ ap length (sym is_rest)) in
+    let lf : get_or (drop at bytes) n 0 ≡ 10 = ap (λ text. get_or text n 0) (sym is_rest) ∙ at_lf in
+    let far : n ≡ at + n - at = omega arith in
+    let after : at + (n + 1) ≡ at + n + 1 = omega arith in
+    let front = plain_front (drop at bytes) n is in
+    let short : n ≤ 200 → length (take n (drop at bytes)) ≤ 200 = λ few. omega (arith, front.len) in
+    record {
+      line = lines_of-lf (drop at bytes) n is before lf
+          ∙ ap (λ k. line_with (take k (drop at bytes)) true ∷ lines_of (drop (n + 1) (drop at bytes))) far
+          ∙ ap (λ text. line_with (slice_range bytes at (at + n)) true ∷ lines_of text) (drop-drop (n + 1) at bytes ∙ ap (λ k. drop k bytes) after);
+      good = λ few. subst (λ k. fault_of (line_with (take k (drop at bytes)) true) ≡ None) far
+          (fault_of-plain (take n (drop at bytes)) front.plain (short few));
+    }
 
 pub ruleset line_laws = (lines_of-plain, fault_of-plain)

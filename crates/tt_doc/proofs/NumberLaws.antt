@@ -1,6 +1,6 @@
 -- Laws of numbers and integers: each is spelled in one way, and read back from it.
 use Rattle.std.proofs.Common.{◌≡◌, ℕ, ◌+◌, ◌-◌, ◌*◌, ◌^◌, ◌<◌, ◌≤◌, zero, suc, Bool, true, false, ◌&&◌, ◌==◌, cond, List, [], ◌∷◌, length, get_or, fold, Option, Some, None, ℤ, pos, negsuc, refl, sym, ap, ◌∙◌, subst, arith, rules, w32, ◌⊎◌, inl, inr}
-use Rattle.std.specs.Prelude.{nat_le, nat_lt, FitsSigned}
+use Rattle.std.specs.Prelude.{nat_le, nat_lt, FitsSigned, IfSome}
 use Rattle.std.specs.List.{list_all}
 use Rattle.std.specs.Char.{is_ascii_digit}
 use Rattle.std.specs.Fmt.{decimal, signed_decimal}
@@ -103,6 +103,14 @@ number_is_plain text n h = plain_from_digits text (digits_of_number text n h)
 pub number_is_word : (text : List ℕ) (n : ℕ) → number_of text ≡ Some n → is_word text ≡ true
 number_is_word [] n h = cc
 number_is_word (b ∷ bytes) n h = no_space_from_digits (b ∷ bytes) (digits_of_number (b ∷ bytes) n h)
+
+pub spelled_if_some : (o : Option ℕ) (text : List ℕ) → o ≡ number_of text → IfSome o (λ n. text ≡ decimal n)
+spelled_if_some None text is = tt
+spelled_if_some (Some n) text is = (number_of-spelled text n (sym is)).0
+
+pub small_if_some : (o : Option ℕ) (text : List ℕ) → o ≡ number_of text → IfSome o (λ n. n < 10 ^ 12)
+small_if_some None text is = tt
+small_if_some (Some n) text is = (number_of-spelled text n (sym is)).1
 
 positive_parts : (o : Option ℕ) (z : ℤ) → positive_of o ≡ Some z → (n : ℕ) × (o ≡ Some n) × (z ≡ pos n) × (n < 2 ^ 31)
 positive_parts None z h = cc

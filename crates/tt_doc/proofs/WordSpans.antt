@@ -28,18 +28,6 @@ pub record Passed (bytes : List ℕ) (span : Span) (words : List Span) (start at
   pub some : All (λ word. word.start < word.end) words
   pub ascend : AllPairs (λ earlier later. earlier.end < later.start) words
 
-pub passed_none : (bytes : List ℕ) (span : Span) → Passed bytes span [] span.start span.start
-passed_none bytes span = record {
-  read = refl;
-  clean = ap has_no_space (between_none bytes span.start);
-  from = omega arith;
-  to = omega arith;
-  few = omega arith;
-  within = λ k d below. absurd (omega arith);
-  some = λ k d below. absurd (omega arith);
-  ascend = λ i j d before below. absurd (omega arith);
-}
-
 no_space_push : (text : List ℕ) (b : ℕ) → has_no_space text ≡ true → b ≢ 32 → has_no_space (text ++ b ∷ []) ≡ true
 no_space_push [] b clean other = cond-false (b == 32) false true (ne_eqb b 32 other)
 no_space_push (first ∷ text) b clean other =

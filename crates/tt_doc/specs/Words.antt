@@ -34,3 +34,13 @@ has_no_space (b ∷ bytes) = if b == 32 then false else has_no_space bytes
 -- bytes that can be a word: some, and none of them a space
 abbrev pub is_word : List ℕ → Bool
 is_word word = is_some_text word && has_no_space word
+
+abbrev pub begins_with_space : List ℕ → Bool
+begins_with_space [] = false
+begins_with_space (b ∷ bytes) = b == 32
+
+-- the words of a line that is no row: there is none, or the first begins with `#`
+abbrev pub is_comment : List (List ℕ) → Bool
+is_comment [] = true
+is_comment ([] ∷ words) = false
+is_comment ((first ∷ rest) ∷ words) = first == 35

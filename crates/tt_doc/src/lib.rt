@@ -4,10 +4,12 @@
 pub mod laws;
 mod line_words;
 mod lines;
+mod next_word;
 mod numbers;
 
 pub use line_words::words;
 pub use lines::{LineKind, LineStep, Span, next_line};
+pub use next_word::LineWords;
 pub use numbers::{integer, number};
 
 #[cfg(test)]

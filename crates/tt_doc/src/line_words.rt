@@ -1,4 +1,4 @@
-//! The words of a line.
+//! The words of a line, and their places.
 ghost use Rattle.std.specs.Prelude.{◌≡◌, ◌+◌, ◌<◌, ◌≤◌, ℕ, [], ◌∷◌, ◌++◌, length, map, nat_lt, if◌then◌else◌, All, AllPairs};
 ghost use Rattle.arrayvec.specs.ArrayVec.{array_vec_len};
 ghost use Rattle.tt_doc.specs.Span.{text_of};

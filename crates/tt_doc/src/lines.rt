@@ -1,6 +1,6 @@
 //! The lines of a document.
-ghost use Rattle.std.specs.Prelude.{◌≡◌, ◌↔◌, ◌+◌, ◌≤◌, ◌==◌, ◌∷◌, length, drop, true, None, position};
-ghost use Rattle.std.specs.List.{list_all};
+ghost use Rattle.std.specs.Prelude.{◌≡◌, ◌↔◌, ◌+◌, ◌≤◌, ◌==◌, ◌∷◌, length, drop, true, not, None};
+ghost use Rattle.std.specs.List.{list_all, position_or_len};
 ghost use Rattle.tt_doc.specs.LineStep.{IfLine, IfFault, BeginsWithFault};
 ghost use Rattle.tt_doc.specs.Span.{text_of};
 ghost use Rattle.tt_doc.specs.Lines.{lines_of, fault_of, is_plain_byte};
@@ -37,17 +37,46 @@ pub enum LineStep {
 /// The most bytes that a line has, without its LF.
 const MOST_BYTES: usize = 200;
 
-/// The place of the first LF.
-fn first_lf(bytes: &[u8]) -> Option<usize>
-    ensures { result ≡ position (λ b. b == 10) bytes.now }
+/// How many bytes are looked at together.
+const CHUNK: usize = 16;
+
+/// Whether these bytes are plain. It looks at all of them, so that they are looked at together.
+#[inline(always)]
+fn is_plain_chunk(chunk: &[u8]) -> bool
+    ensures { result ≡ list_all is_plain_byte chunk.now }
 {
-    bytes.iter().position(|b| *b == b'\n')
+    let mut is_plain = true;
+    for b in chunk {
+        is_plain &= matches!(b, 0x20..=0x7E);
+    }
+    is_plain
 }
 
-fn is_plain(text: &[u8]) -> bool
-    ensures { result ≡ list_all is_plain_byte text.now }
+/// How many plain bytes a text begins with, one after another.
+#[inline(always)]
+fn short_plain_len(text: &[u8]) -> usize
+    ensures value { result ≡ position_or_len (λ b. not (is_plain_byte b)) text.now }
+    ensures inside { result ≤ length text.now }
 {
-    text.iter().all(|b| matches!(b, 0x20..=0x7E))
+    for (n, b) in text.iter().enumerate() {
+        if !matches!(b, 0x20..=0x7E) {
+            return n;
+        }
+    }
+    text.len()
+}
+
+/// How many plain bytes a text begins with.
+#[inline(always)]
+fn plain_len(text: &[u8]) -> usize
+    ensures value { result ≡ position_or_len (λ b. not (is_plain_byte b)) text.now }
+    ensures inside { result ≤ length text.now }
+{
+    let mut n = 0;
+    while CHUNK <= text.len() - n && is_plain_chunk(&text[n..n + CHUNK]) {
+        n += CHUNK;
+    }
+    n + short_plain_len(&text[n..])
 }
 
 /// The line of a document that begins at the place `at`, and what it has wrong by itself.
@@ -69,18 +98,21 @@ pub fn next_line(bytes: &[u8], at: usize) -> LineStep
 
     ensures fault { IfFault result (BeginsWithFault (lines_of (drop at bytes.now))) }
 {
-    let rest = &bytes[at..];
-    if rest.is_empty() {
+    if at == bytes.len() {
         return LineStep::End;
     }
-    let lf = first_lf(rest);
-    let len = lf.unwrap_or(rest.len());
-    if !is_plain(&rest[..len]) {
+    let rest = &bytes[at..];
+    let len = plain_len(rest);
+    if len == rest.len() {
+        LineStep::Fault(if len > MOST_BYTES {
+            LineKind::Long
+        } else {
+            LineKind::Cut
+        })
+    } else if rest[len] != b'\n' {
         LineStep::Fault(LineKind::Byte)
     } else if len > MOST_BYTES {
         LineStep::Fault(LineKind::Long)
-    } else if lf.is_none() {
-        LineStep::Fault(LineKind::Cut)
     } else {
         let end = at + len;
         LineStep::Line(Span { start: at, end }, end + 1)

@@ -1,15 +1,12 @@
 //! The numbers and integers of a document.
-ghost use Rattle.std.specs.Prelude.{◌≡◌, ◌^◌, ◌<◌, ◌≤◌, length, IsTrue, IfSome, Some};
+ghost use Rattle.std.specs.Prelude.{◌≡◌, ◌^◌, ◌<◌, ◌≤◌, length, true, false, IfSome, MatchOption, Some};
 ghost use Rattle.std.specs.Char.{is_ascii_digit};
 ghost use Rattle.std.specs.Fmt.{decimal, signed_decimal};
 ghost use Rattle.std.specs.List.{list_all};
-ghost use Rattle.tt_doc.specs.Numbers.{has_no_leading_zero as has_no_zero_in_front, is_number as is_number_of, value_of, number_of, positive_of, negative_of, integer_of};
+ghost use Rattle.tt_doc.specs.Numbers.{has_no_leading_zero as has_no_zero_in_front, value_of, number_of, positive_of, negative_of, integer_of};
 
-fn are_digits(text: &[u8]) -> bool
-    ensures { result ≡ list_all is_ascii_digit text.now }
-{
-    text.iter().all(|b| b.is_ascii_digit())
-}
+/// How many digits a number has at most.
+const MOST_DIGITS: usize = 12;
 
 fn has_no_leading_zero(text: &[u8]) -> bool
     ensures { result ≡ has_no_zero_in_front text.now }
@@ -21,23 +18,29 @@ fn has_no_leading_zero(text: &[u8]) -> bool
     }
 }
 
-fn is_number(text: &[u8]) -> bool
-    ensures { result ≡ is_number_of text.now }
-{
-    are_digits(text) && text.len() <= 12 && has_no_leading_zero(text)
-}
-
-/// What at most 12 digits are worth.
-fn value(digits: &[u8]) -> u64
-    requires digits { IsTrue (list_all is_ascii_digit digits.now) }
-    requires short { length digits.now ≤ 12 }
-    ensures { result ≡ value_of digits.now }
+/// What at most 12 digits are worth. `None` where a byte is no digit.
+fn value(text: &[u8]) -> Option<u64>
+    requires { length text.now ≤ 12 }
+    ensures { MatchOption result (list_all is_ascii_digit text.now ≡ false)
+        (λ value. (list_all is_ascii_digit text.now ≡ true) × (value ≡ value_of text.now)) }
 {
     let mut value = 0u64;
-    for digit in digits {
+    for digit in text {
+        if !digit.is_ascii_digit() {
+            return None;
+        }
         value = value * 10 + u64::from(*digit - b'0');
     }
-    value
+    Some(value)
+}
+
+fn short_number(text: &[u8]) -> Option<u64>
+    ensures { result ≡ number_of text.now }
+{
+    if text.len() > MOST_DIGITS || !has_no_leading_zero(text) {
+        return None;
+    }
+    value(text)
 }
 
 /// The number that a text is: 1 to 12 decimal digits, without a leading zero unless it is `0`. `None` where it is none.
@@ -46,11 +49,7 @@ pub fn number(text: &[u8]) -> Option<u64>
     ensures spelled { IfSome result (λ n. text.now ≡ decimal n) }
     ensures small { IfSome result (λ n. n < 10 ^ 12) }
 {
-    if is_number(text) {
-        Some(value(text))
-    } else {
-        None
-    }
+    short_number(text)
 }
 
 fn positive(number: u64) -> Option<i32>

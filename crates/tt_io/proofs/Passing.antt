@@ -19,11 +19,6 @@ part_of_front a b front rest all split (n, short, part) =
     let taken : take n all ≡ take n front = ap (take n) split ∙ take-append-le n front rest (omega arith) in
     (n, rw split (omega (arith, length-append front rest)), subst (Appends a b) (sym taken) part)
 
--- a part of one piece, after those that are done and before the rest, is a part of the whole
-pub part_within : (a b c : Option (List ℕ)) (done piece rest all : List ℕ) → all ≡ done ++ (piece ++ rest) → Appends a b done → AppendsPart b c piece → AppendsPart a c all
-part_within a b c done piece rest all split front part =
-    part_after a b c done (piece ++ rest) all split front (part_of_front b c piece rest (piece ++ rest) refl part)
-
 -- what waits, before anything is put
 pub passes_none : (a : Option (List ℕ)) (waiting : List ℕ) → Passes a a waiting waiting
 passes_none a waiting = record { sent = []; split = refl; appended = Appends-nil a }
@@ -50,11 +45,6 @@ pub passes_part : {a b : Option (List ℕ)} {so_far waiting : List ℕ} (c : Opt
     → Passes a b so_far waiting → AppendsPart b c (waiting ++ piece) → AppendsPart a c all
 passes_part {a} {b} {so_far} {waiting} c all piece split p part =
     part_after a b c p.sent (waiting ++ piece) all (split ∙ ap (λ l. l ++ piece) p.split ∙ append_assoc p.sent waiting piece) p.appended part
-
--- what waited was sent, and with it all
-pub passes_end : {a b : Option (List ℕ)} {so_far waiting : List ℕ} (c : Option (List ℕ)) (all : List ℕ) → all ≡ so_far
-    → Passes a b so_far waiting → Appends b c waiting → Appends a c all
-passes_end {a} {b} {so_far} {waiting} c all same p sent = subst (Appends a c) (sym (same ∙ p.split)) (Appends-trans a b c p.sent waiting p.appended sent)
 
 -- a part of what waited was sent, and with it a part of all
 pub passes_end_part : {a b : Option (List ℕ)} {so_far waiting : List ℕ} (c : Option (List ℕ)) (all : List ℕ) → all ≡ so_far

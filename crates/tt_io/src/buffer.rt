@@ -1,13 +1,12 @@
 //! A buffer before a sink.
 
 ghost use Rattle.std.specs.Io.KnownBytes.{Appends};
-ghost use Rattle.std.specs.Prelude.{◌≡◌, ◌<◌, ◌≤◌, ◌++◌, [], length, OnOk, OnErr, IsOk};
+ghost use Rattle.std.specs.Prelude.{◌≡◌, ◌<◌, ◌≤◌, ◌+◌, ◌++◌, [], length, OnOk, OnErr, IsOk};
 ghost use Rattle.tt_io.specs.Count.{Rose};
 ghost use Rattle.tt_io.specs.Known.{AppendsPart};
 ghost use Rattle.tt_io.specs.Passes.{Passes};
 
 use crate::{Sink, WriteFault, put_all};
-use arrayvec::ArrayVec;
 use std::marker::Model;
 
 /// How many bytes a buffer holds at most: as many as std's own buffered writer. Eight times as many write ten million
@@ -18,15 +17,19 @@ pub const CAPACITY: usize = 8 * 1024;
 /// and contracts see it as the list of the bytes that wait.
 #[derive(Drop)]
 pub struct Buffer {
-    held: ArrayVec<u8, CAPACITY>,
+    bytes: [u8; CAPACITY],
+    /// How many bytes wait, from the front of `bytes` on.
+    len: usize,
 }
 
 impl Model for Buffer {
-    ghost use Rattle.std.specs.Prelude.{List, ℕ};
+    ghost use Rattle.std.specs.Prelude.{List, ℕ, ◌≤◌, take};
 
     ghost Value = { List ℕ };
 
-    ghost view = { λ b. b.held.items };
+    ghost view = { λ b. take b.len b.bytes };
+
+    ghost invariant = { λ b. b.len ≤ 8192 };
 }
 
 impl Default for Buffer {
@@ -43,12 +46,33 @@ impl Buffer {
         ensures { result ≡ [] }
     {
         Buffer {
-            held: ArrayVec::new(),
+            bytes: [0; CAPACITY],
+            len: 0,
         }
+    }
+
+    /// How many more bytes have room.
+    #[inline(always)]
+    fn room(&self) -> usize
+        ensures { result + length self.now ≡ CAPACITY }
+    {
+        CAPACITY - self.len
+    }
+
+    /// Appends a piece that has room.
+    #[inline(always)]
+    fn hold(&mut self, piece: &[u8])
+        requires { length self.old + length piece.now ≤ CAPACITY }
+        ensures { self.new ≡ self.old ++ piece.now }
+    {
+        let end = self.len + piece.len();
+        self.bytes[self.len..end].copy_from_slice(piece);
+        self.len = end;
     }
 
     /// Appends a piece. It waits where it has room, and else what waits is sent first. A piece that is larger than the
     /// buffer goes to the sink at once. After a fault nothing waits.
+    #[inline(always)]
     pub fn put<O: Sink>(&mut self, sink: &mut O, piece: &[u8]) -> Result<(), WriteFault>
         ensures ok { OnOk result (Passes (O.written sink.old) (O.written sink.new)
             (self.old ++ piece.now) self.new) }
@@ -63,11 +87,30 @@ impl Buffer {
 
         ensures never_falls { O.faults sink.old ≤ O.faults sink.new }
     {
-        if self.held.try_extend_from_slice(piece).is_ok() {
+        if piece.len() <= self.room() {
+            self.hold(piece);
             return Ok(());
         }
+        self.put_beyond(sink, piece)
+    }
+
+    /// Appends a piece that has no room beside what waits.
+    #[inline(never)]
+    fn put_beyond<O: Sink>(&mut self, sink: &mut O, piece: &[u8]) -> Result<(), WriteFault>
+        ensures ok { OnOk result (Passes (O.written sink.old) (O.written sink.new)
+            (self.old ++ piece.now) self.new) }
+        ensures larger { CAPACITY < length piece.now → self.new ≡ [] }
+
+        ensures part { OnErr result (AppendsPart (O.written sink.old) (O.written sink.new)
+            (self.old ++ piece.now)) }
+        ensures none_waits { OnErr result (self.new ≡ []) }
+        ensures cause { OnErr result (Rose (O.faults sink.old) (O.faults sink.new)) }
+
+        ensures never_falls { O.faults sink.old ≤ O.faults sink.new }
+    {
         self.send(sink)?;
-        if self.held.try_extend_from_slice(piece).is_ok() {
+        if piece.len() <= CAPACITY {
+            self.hold(piece);
             return Ok(());
         }
         put_all(sink, piece)
@@ -85,8 +128,8 @@ impl Buffer {
         ensures none_waits { self.new ≡ [] }
         ensures never_falls { O.faults sink.old ≤ O.faults sink.new }
     {
-        let sent = put_all(sink, self.held.as_slice());
-        self.held.clear();
+        let sent = put_all(sink, &self.bytes[..self.len]);
+        self.len = 0;
         sent
     }
 }

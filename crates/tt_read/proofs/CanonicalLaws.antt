@@ -10,7 +10,7 @@ use Rattle.task_lang.specs.declared.syntax.Op.{Op}
 use Rattle.task_lang.specs.declared.syntax.Op.TheVariants.{Add}
 use Rattle.tt_base.specs.Name.{is_letter, is_digit, is_name_byte, is_rest_of_name, is_name}
 use Rattle.tt_doc.specs.Lines.{Line, lines_of, is_plain_byte}
-use Rattle.tt_doc.specs.Words.{words_of, has_no_space, is_word}
+use Rattle.tt_doc.specs.Words.{is_comment, words_of, has_no_space, is_word}
 use Rattle.tt_doc.proofs.LineLaws.{lines_of-plain, fault_of-plain}
 use Rattle.tt_doc.proofs.WordLaws.{words_of-joined, plain-joined}
 use Rattle.tt_doc.proofs.NumberLaws.{decimal_is_plain, decimal_is_word, signed_decimal_is_plain, signed_decimal_is_word}
@@ -23,7 +23,7 @@ use Rattle.tt_rows.specs.Spelling.{Item, Key, Number, Named, Integer, Expression
 use Rattle.tt_rows.specs.Sound.{are_expressions, is_sound_term, is_sound_item, is_sound_row, AreSound}
 use Rattle.tt_read.specs.declared.form.FormKind.TheVariants as kind
 use Rattle.tt_read.specs.Reading.{row_of}
-use Rattle.tt_read.specs.Document.{is_comment, row_of_words, word_fault, fault_by, fault_of_line, fault_or, first_fault, row_then, rows_of, Rows, document_by, document_of, canonical_text, numbered_from}
+use Rattle.tt_read.specs.Document.{row_of_words, word_fault, fault_by, fault_of_line, fault_or, first_fault, row_then, rows_of, Rows, document_by, document_of, canonical_text, numbered_from}
 use Rattle.tt_read.proofs.TermLaws.{fits_from_integer}
 use Rattle.tt_read.proofs.Complete.{row_of-spelled}
 
@@ -138,7 +138,7 @@ words_from_plain (word ∷ words) all =
     )
 
 -- a row is no comment
-spelling_is_no_comment : (row : Row) → is_comment (spelling_of row) ≡ false
+pub spelling_is_no_comment : (row : Row) → is_comment (spelling_of row) ≡ false
 spelling_is_no_comment r.Header = refl
 spelling_is_no_comment _ = refl
 

@@ -14,13 +14,6 @@ pub record Parsed (all : List (List ℕ)) (terms : List Term) (expected : ℕ) (
   pub whole : (later : List Term) → are_expressions 1 (terms ++ later) ≡ are_expressions expected later
   pub few : expected + length left ≤ length all + 1
 
-nothing_in_front : (o : Option (List Term)) → o ≡ option_map (λ later. later) o
-nothing_in_front None = refl
-nothing_in_front (Some terms) = refl
-
-pub parsed_none : (all : List (List ℕ)) → Parsed all [] 1 all
-parsed_none all = record { read = nothing_in_front (terms_of all); whole = λ later. refl; few = omega arith }
-
 after_term : (t : Term) (expected : ℕ) (later : List Term) → 0 < expected → are_expressions expected (t ∷ later) ≡ are_expressions (expected_after t expected) later
 after_term t zero later some = absurd (omega arith)
 after_term (term.Int value) (suc n) later some = let one : n ≡ suc n - 1 = omega arith in ap (λ k. are_expressions k later) one
@@ -57,33 +50,3 @@ parsed_more {all} {terms} {expected} parsed some word left t front is now behind
     let P : List Term → Type 0 = λ ts. Parsed all ts behind left in
     subst P (sym same_terms) (subst (λ n. Parsed all (terms ++ t ∷ []) n left) (sym same_expected)
     (more_terms all terms expected word left t (subst (Parsed all terms expected) front parsed) some (sym is)))
-
--- a word that is no term
-pub parsed_no_term : (all : List (List ℕ)) (terms : List Term) (expected : ℕ) (word : List ℕ) (left : List (List ℕ))
-    → Parsed all terms expected (word ∷ left) → term_of word ≡ None → expression_of (terms_of all) ≡ None
-parsed_no_term all terms expected word left parsed is =
-    ap expression_of (parsed.read ∙ ap (λ o. option_map (λ later. terms ++ later) (term_in_front o (terms_of left))) is)
-
-too_many : (terms : List Term) (first : Option Term) (o : Option (List Term)) → ((later : List Term) → are_expressions 1 (terms ++ later) ≡ are_expressions 0 later)
-    → expression_of (option_map (λ later. terms ++ later) (term_in_front first o)) ≡ None
-too_many terms None o whole = refl
-too_many terms (Some t) None whole = refl
-too_many terms (Some t) (Some later) whole =
-    cond-false (are_expressions 1 (terms ++ t ∷ later)) (Some (terms ++ t ∷ later)) None (whole (t ∷ later))
-
--- a word where no expression is still to come
-pub parsed_too_many : (all : List (List ℕ)) (terms : List Term) (word : List ℕ) (left : List (List ℕ))
-    → Parsed all terms 0 (word ∷ left) → expression_of (terms_of all) ≡ None
-parsed_too_many all terms word left parsed = ap expression_of parsed.read ∙ too_many terms (term_of word) (terms_of left) parsed.whole
-
--- no word is left, and no expression is still to come
-pub parsed_all : (all : List (List ℕ)) (terms : List Term) → Parsed all terms 0 [] → expression_of (terms_of all) ≡ Some terms
-parsed_all all terms parsed =
-    ap expression_of (parsed.read ∙ ap (λ whole. Some whole) (append-nil terms))
-    ∙ cond-true (are_expressions 1 terms) (Some terms) None (ap (are_expressions 1) (sym (append-nil terms)) ∙ parsed.whole [])
-
--- no word is left, and an expression is still to come
-pub parsed_too_few : (all : List (List ℕ)) (terms : List Term) (expected : ℕ) → Parsed all terms (suc expected) [] → expression_of (terms_of all) ≡ None
-parsed_too_few all terms expected parsed =
-    ap expression_of (parsed.read ∙ ap (λ whole. Some whole) (append-nil terms))
-    ∙ cond-false (are_expressions 1 terms) (Some terms) None (ap (are_expressions 1) (sym (append-nil terms)) ∙ parsed.whole [])

@@ -7,3 +7,4 @@ pub mod LineContent
 pub mod ReadLaws
 pub mod CanonicalLaws
 pub mod Pieces
+pub mod WhatIsReadLaws

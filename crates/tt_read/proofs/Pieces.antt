@@ -34,9 +34,6 @@ puts_from (Err e) b c mid new piece ok part = part
 pub record Put {X : Type 0} (text : X → List ℕ) (xs : List X) (i : ℕ) (a b : Option (List ℕ)) (old now : List ℕ) : Type 0 where
   pub passes : Passes a b (old ++ flat_map text (take i xs)) now
 
-pub put_none : {X : Type 0} (text : X → List ℕ) (xs : List X) (a : Option (List ℕ)) (old : List ℕ) → Put text xs 0 a a old old
-put_none text xs a old = record { passes = subst (λ all. Passes a a all old) (sym (append-nil old)) (passes_none a old) }
-
 text_more : {X : Type 0} (text : X → List ℕ) (xs : List X) (i : ℕ) (d : X) → i < length xs → flat_map text (take (i + 1) xs) ≡ flat_map text (take i xs) ++ text (get_or xs i d)
 text_more text xs i d inside =
     ap (flat_map text) (take_more xs i d inside)
@@ -64,11 +61,6 @@ put_part {X} {text} {xs} {i} {a} {b} {old} {mid} put inside c x is part =
     part_of_front a c ((old ++ front) ++ text x) rest (old ++ flat_map text xs)
     (ap (λ all. old ++ all) split ∙ sym (append_assoc old (front ++ text x) rest) ∙ ap (λ l. l ++ rest) (sym (append_assoc old front (text x))))
     (passes_part c ((old ++ front) ++ text x) (text x) refl put.passes part)
-
--- all of them
-pub put_all : {X : Type 0} {text : X → List ℕ} {xs : List X} {i : ℕ} {a b : Option (List ℕ)} {old now : List ℕ} → Put text xs i a b old now → length xs ≤ i
-    → Passes a b (old ++ flat_map text xs) now
-put_all {X} {text} {xs} {i} {a} {b} {old} {now} put end = subst (λ done. Passes a b (old ++ flat_map text done) now) (take_all i xs end) put.passes
 
 -- a call that answers a fault
 pub puts_err : (r : Result (Unit {0}) WriteFault) (a b : Option (List ℕ)) (old new text : List ℕ) → IsErr r → AppendsPart a b (old ++ text) → Puts r a b old new text

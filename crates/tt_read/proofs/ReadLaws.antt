@@ -5,12 +5,13 @@ use Rattle.std.specs.List.{list_all}
 use Rattle.std.proofs.lemmas.Bool.{and_from, le-leb}
 use Rattle.std.proofs.lemmas.List.{append-nil, drop_all}
 use Rattle.tt_doc.specs.Lines.{Line, lines_of}
-use Rattle.tt_doc.specs.Words.{words_of}
+use Rattle.tt_doc.specs.Words.{is_comment, words_of}
 use Rattle.tt_rows.specs.declared.row.Row.{Row}
 use Rattle.tt_rows.specs.declared.row.NumberedRow.{NumberedRow}
 use Rattle.tt_rows.specs.Sound.{is_sound_row, ascend_from, AreSound}
-use Rattle.tt_read.specs.Document.{row_of_words, is_comment, Fault, first_fault, row_then, rows_of, Rows, document_by, document_of}
+use Rattle.tt_read.specs.Document.{row_of_words, Fault, first_fault, row_then, rows_of, Rows, document_by, document_of}
 use Rattle.tt_read.specs.Reading.{row_of}
+use Rattle.tt_read.specs.Spells.{Spells}
 use Rattle.tt_read.proofs.Found.{row_of-spells}
 
 -- of a document so many lines were read, which have these rows and end at this place
@@ -26,15 +27,19 @@ rows_by : (fault : Option Fault) (rows found : List NumberedRow) → document_by
 rows_by None rows found is = cc
 rows_by (Some fault) rows found is = cc
 
-sound_row : (comment : Bool) (words : List (List ℕ)) (row : Row) → cond comment None (row_of words) ≡ Some row → is_sound_row row ≡ true
-sound_row true words row is = cc
-sound_row false words row is = (row_of-spells words row is).sound
+spells_row : (comment : Bool) (words : List (List ℕ)) (row : Row) → cond comment None (row_of words) ≡ Some row → Spells words row
+spells_row true words row is = cc
+spells_row false words row is = row_of-spells words row is
+
+-- the row of a line is spelled by its words
+pub row_of_words-spells : (words : List (List ℕ)) (row : Row) → row_of_words words ≡ Some row → Spells words row
+row_of_words-spells words row is = spells_row (is_comment words) words row is
 
 sound_then : (line : ℕ) (words : List (List ℕ)) (o : Option Row) (rows : List NumberedRow) → row_of_words words ≡ o
     → list_all (λ (row : NumberedRow). is_sound_row row.row) rows ≡ true → list_all (λ (row : NumberedRow). is_sound_row row.row) (row_then line o rows) ≡ true
 sound_then line words None rows is sound = sound
 sound_then line words (Some row) rows is sound =
-    and_from (is_sound_row row) (list_all (λ (row : NumberedRow). is_sound_row row.row) rows) (sound_row (is_comment words) words row is) sound
+    and_from (is_sound_row row) (list_all (λ (row : NumberedRow). is_sound_row row.row) rows) (row_of_words-spells words row is).sound sound
 
 sound_rows : (line : ℕ) (lines : List Line) → list_all (λ (row : NumberedRow). is_sound_row row.row) (rows_of line lines) ≡ true
 sound_rows line [] = refl

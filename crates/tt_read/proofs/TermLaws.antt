@@ -33,12 +33,6 @@ pub find-passes : {X : Type 0} (test : X → Bool) (xs : List X) (found : X) →
 find-passes test [] found h = cc
 find-passes test (x ∷ xs) found h = passes_from test x (find test xs) found (find-passes test xs found) h
 
--- an element that does not pass is passed over
-pub find-drop_more : {X : Type 0} (test : X → Bool) (xs : List X) (i : ℕ) (d : X) → i < length xs → test (get_or xs i d) ≡ false
-    → find test (drop i xs) ≡ find test xs → find test (drop (i + 1) xs) ≡ find test xs
-find-drop_more test xs i d inside fails before =
-    sym (ap (find test) (drop_more xs i d inside) ∙ cond-false (test (get_or xs i d)) (Some (get_or xs i d)) (find test (drop (i + 1) xs)) fails) ∙ before
-
 pub keyword_of-spelled : (text : List ℕ) (keyword : Keyword) → keyword_of text ≡ Some keyword → text ≡ keyword_text keyword
 unfolding keyword_of
 keyword_of-spelled text keyword h =

@@ -3,7 +3,7 @@ use Rattle.std.specs.Prelude.{ℕ, List, Bool, true, false, Option, Some, None}
 use Rattle.tt_rows.specs.declared.row.Row.{Row}
 use Rattle.tt_read.specs.declared.document.Content.{Content}
 use Rattle.tt_read.specs.declared.document.Content.TheVariants as content
-use Rattle.tt_read.specs.Document.{is_comment}
+use Rattle.tt_doc.specs.Words.{is_comment}
 use Rattle.tt_read.specs.Reading.{row_of}
 
 abbrev pub content_by : Bool → Option Row → Content

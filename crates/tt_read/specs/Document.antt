@@ -2,7 +2,7 @@
 use Rattle.std.specs.Prelude.{ℕ, ◌+◌, ◌==◌, Bool, true, false, List, [], ◌∷◌, ◌++◌, flat_map, Option, Some, None, if◌then◌else◌, is_some}
 use Rattle.tt_doc.specs.declared.lines.LineKind.{LineKind}
 use Rattle.tt_doc.specs.Lines.{Line, lines_of, fault_of}
-use Rattle.tt_doc.specs.Words.{words_of}
+use Rattle.tt_doc.specs.Words.{is_comment, words_of}
 use Rattle.tt_rows.specs.declared.row.Row.{Row}
 use Rattle.tt_rows.specs.declared.row.NumberedRow.{NumberedRow}
 use Rattle.tt_rows.specs.Spelling.{line_of_row}
@@ -10,12 +10,6 @@ use Rattle.tt_read.specs.declared.form.FormKind.{FormKind}
 use Rattle.tt_read.specs.declared.form.FormKind.TheVariants as kind
 use Rattle.tt_read.specs.FormKind.{kind_of}
 use Rattle.tt_read.specs.Reading.{row_of}
-
--- the words of a line that is no row: there is none, or the first begins with `#`
-abbrev pub is_comment : List (List ℕ) → Bool
-is_comment [] = true
-is_comment ([] ∷ words) = false
-is_comment ((first ∷ rest) ∷ words) = first == 35
 
 -- the row of a line's words, where they are one
 abbrev pub row_of_words : List (List ℕ) → Option Row

@@ -1,10 +1,10 @@
 pub mod Spells
 pub mod Keywords
 pub mod Reading
-pub mod Inside
 pub mod FormKind
 pub mod Document
 pub mod Content
 pub mod FormFault
 pub mod Parts
 pub mod Puts
+pub mod WhatIsRead

@@ -1,55 +1,41 @@
 //! The words of a line, read one by one.
 
-ghost use Rattle.std.specs.Prelude.{◌≡◌, ◌≤◌, [], ◌∷◌, MatchOption, IsTrue, ◌↔◌, All, map, length};
+ghost use Rattle.std.specs.Prelude.{◌≡◌, ◌≤◌, [], ◌∷◌, MatchOption, IsTrue, ◌↔◌, length};
 ghost use Rattle.tt_doc.specs.Numbers.{number_of, integer_of};
-ghost use Rattle.tt_doc.specs.Span.{text_of};
-ghost use Rattle.tt_read.specs.Document.{is_comment};
-ghost use Rattle.tt_read.specs.Inside.{IsInside};
+ghost use Rattle.tt_doc.specs.Words.{is_comment, words_of};
 ghost use Rattle.tt_read.specs.Keywords.{keyword_of};
 ghost use Rattle.tt_read.specs.Reading.{first_by, rest_of, name_of};
 
 use crate::keyword::Keyword;
-use arrayvec::ArrayVec;
 use std::marker::Model;
 use tt_base::Name;
-use tt_doc::{Span, integer, number};
-
-fn begins_with_number_sign(word: &[u8]) -> bool
-    ensures { result ≡ is_comment (word.now ∷ []) }
-{
-    matches!(word, [b'#', ..])
-}
+use tt_doc::{LineWords, integer, number};
 
 /// The words of a line that are not read yet. Contracts see it as the list of their texts.
 #[derive(Drop)]
 pub struct Cursor<'a> {
-    bytes: &'a [u8],
-    words: &'a [Span],
+    words: LineWords<'a>,
 }
 
 impl<'a> Model for Cursor<'a> {
-    ghost use Rattle.std.specs.Prelude.{List, ℕ, map, ◌≤◌, length, All};
-    ghost use Rattle.tt_doc.specs.Span.{text_of};
-    ghost use Rattle.tt_read.specs.Document.{is_comment};
-    ghost use Rattle.tt_read.specs.Inside.{IsInside};
+    ghost use Rattle.std.specs.Prelude.{List, ℕ, ◌≤◌, length};
 
     ghost Value = { List (List ℕ) };
 
-    ghost view = { λ c. map (text_of c.bytes.now) c.words.now };
+    ghost view = { λ c. c.words };
 
-    ghost invariant = { λ c. All (IsInside c.bytes.now) c.words.now × (length c.words.now ≤ 100) };
+    ghost invariant = { λ c. length c.words ≤ 100 };
 }
 
 impl<'a> Cursor<'a> {
-    /// The words of a line at the places that they have in a document.
-    pub fn new(bytes: &'a [u8], words: &'a ArrayVec<Span, 100>) -> Cursor<'a>
-        requires { All (IsInside bytes.now) words.now.items }
-        ensures texts { result ≡ map (text_of bytes.now) words.now.items }
+    /// The words of a line.
+    pub fn new(line: &'a [u8]) -> Cursor<'a>
+        requires { length line.now ≤ 200 }
+        ensures texts { result ≡ words_of line.now }
         ensures few { length result ≤ 100 }
     {
         Cursor {
-            bytes,
-            words: words.as_slice(),
+            words: LineWords::new(line),
         }
     }
 
@@ -57,23 +43,23 @@ impl<'a> Cursor<'a> {
     pub fn is_comment(&self) -> bool
         ensures { result ≡ is_comment self.now }
     {
-        match self.words.first() {
-            None => true,
-            Some(word) => begins_with_number_sign(&self.bytes[word.start..word.end]),
-        }
+        self.words.is_comment()
+    }
+
+    /// How many words are left at most.
+    #[inline(always)]
+    pub fn most(&self) -> usize
+        ensures { length self.now ≤ result }
+    {
+        self.words.most()
     }
 
     /// The next word.
+    #[inline(always)]
     pub fn word(&mut self) -> Option<&'a [u8]>
         ensures { MatchOption result ((self.old ≡ []) × (self.new ≡ [])) (λ word. self.old ≡ word.now ∷ self.new) }
     {
-        match self.words.split_first() {
-            None => None,
-            Some((first, rest)) => {
-                self.words = rest;
-                Some(&self.bytes[first.start..first.end])
-            }
-        }
+        self.words.word()
     }
 
     /// Whether no word is left.

@@ -13,7 +13,7 @@ use crate::fields::row_of;
 use crate::form::{FormFault, FormKind};
 use std::alloc::Global;
 use tt_base::Memory;
-use tt_doc::{LineStep, Span, next_line, words};
+use tt_doc::{LineStep, Span, next_line};
 use tt_rows::{NumberedRow, Row, Rows};
 
 /// What the words of a line are to a document.
@@ -35,8 +35,7 @@ fn content_at(alloc: Global, bytes: &[u8], span: Span) -> Result<Content, Memory
     requires inside { span.end ≤ length bytes.now }
     ensures { IfOk result (λ content. content ≡ content_of (words_of (text_of bytes.now span))) }
 {
-    let words = words(bytes, span);
-    let mut cursor = Cursor::new(bytes, &words);
+    let mut cursor = Cursor::new(&bytes[span.start..span.end]);
     if cursor.is_comment() {
         return Ok(Content::Nothing);
     }
@@ -74,6 +73,17 @@ fn read_line(
     }
 }
 
+/// How many bytes the line of a row has at least, with its LF.
+const LEAST_BYTES: usize = 4;
+
+/// The empty list, with room for the rows of as many bytes: a list that grows would be copied, and room that is not used
+/// is never touched.
+fn no_rows(alloc: Global, bytes: usize) -> Result<Rows, Memory>
+    ensures { IfOk result (λ rows. rows ≡ []) }
+{
+    Ok(Rows::from_vec(Vec::with_capacity(alloc, bytes / LEAST_BYTES)?))
+}
+
 /// The rows of a document, or what is wrong with its form.
 ///
 /// A document is a list of lines, each of which a LF ends. A line has words with spaces around them. Where it has none, or
@@ -87,7 +97,7 @@ pub fn read(alloc: Global, bytes: &[u8]) -> Result<Rows, FormFault>
 
     ensures form { IfErr result (λ fault. IfForm fault (λ form. document_of bytes.now ≡ Document.Faulty form)) }
 {
-    let mut rows = Rows::new(alloc);
+    let mut rows = no_rows(alloc, bytes.len())?;
     let mut at = 0;
     let mut line = 0;
     loop {

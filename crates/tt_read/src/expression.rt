@@ -59,7 +59,7 @@ pub fn expression(alloc: Global, words: &mut Cursor) -> Result<Option<Terms>, Me
     ensures value { IfOk result (λ terms. terms ≡ expression_of (terms_of words.old)) }
     ensures rest { IfOk result (λ terms. OnSome terms (words.new ≡ [])) }
 {
-    let mut terms = Terms::new(alloc);
+    let mut terms = Terms::from_vec(Vec::with_capacity(alloc, words.most())?);
     let mut expected = 1;
     while let Some(word) = words.word() {
         if expected == 0 {

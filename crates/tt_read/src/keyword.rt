@@ -45,58 +45,52 @@ pub enum Keyword {
     Terminate,
 }
 
-const KEYWORDS: [Keyword; 37] = [
-    Keyword::Osektime,
-    Keyword::One,
-    Keyword::Round,
-    Keyword::Adjust,
-    Keyword::Mode,
-    Keyword::Var,
-    Keyword::Demand,
-    Keyword::Task,
-    Keyword::Isr,
-    Keyword::Osek,
-    Keyword::Auto,
-    Keyword::Oisr,
-    Keyword::Hook,
-    Keyword::Error,
-    Keyword::Shutdown,
-    Keyword::At,
-    Keyword::Activate,
-    Keyword::Stringent,
-    Keyword::Nonstringent,
-    Keyword::Enable,
-    Keyword::Start,
-    Keyword::Rounds,
-    Keyword::Value,
-    Keyword::Arrive,
-    Keyword::Time,
-    Keyword::Work,
-    Keyword::Take,
-    Keyword::Set,
-    Keyword::If,
-    Keyword::Else,
-    Keyword::Repeat,
-    Keyword::End,
-    Keyword::Out,
-    Keyword::Switch,
-    Keyword::Sync,
-    Keyword::Chain,
-    Keyword::Terminate,
-];
-
 impl Keyword {
     /// The word of the language that a text is.
     #[tactic(auto, unfolding(crate::specs::Keywords::keyword_of))]
     pub fn new(text: &[u8]) -> Option<Keyword>
         ensures { result ≡ keyword_of text.now }
     {
-        for keyword in KEYWORDS {
-            if text == keyword.text() {
-                return Some(keyword);
-            }
+        match text {
+            b"osektime" => Some(Keyword::Osektime),
+            b"1" => Some(Keyword::One),
+            b"round" => Some(Keyword::Round),
+            b"adjust" => Some(Keyword::Adjust),
+            b"mode" => Some(Keyword::Mode),
+            b"var" => Some(Keyword::Var),
+            b"demand" => Some(Keyword::Demand),
+            b"task" => Some(Keyword::Task),
+            b"isr" => Some(Keyword::Isr),
+            b"osek" => Some(Keyword::Osek),
+            b"auto" => Some(Keyword::Auto),
+            b"oisr" => Some(Keyword::Oisr),
+            b"hook" => Some(Keyword::Hook),
+            b"error" => Some(Keyword::Error),
+            b"shutdown" => Some(Keyword::Shutdown),
+            b"at" => Some(Keyword::At),
+            b"activate" => Some(Keyword::Activate),
+            b"stringent" => Some(Keyword::Stringent),
+            b"nonstringent" => Some(Keyword::Nonstringent),
+            b"enable" => Some(Keyword::Enable),
+            b"start" => Some(Keyword::Start),
+            b"rounds" => Some(Keyword::Rounds),
+            b"value" => Some(Keyword::Value),
+            b"arrive" => Some(Keyword::Arrive),
+            b"time" => Some(Keyword::Time),
+            b"work" => Some(Keyword::Work),
+            b"take" => Some(Keyword::Take),
+            b"set" => Some(Keyword::Set),
+            b"if" => Some(Keyword::If),
+            b"else" => Some(Keyword::Else),
+            b"repeat" => Some(Keyword::Repeat),
+            b"end" => Some(Keyword::End),
+            b"out" => Some(Keyword::Out),
+            b"switch" => Some(Keyword::Switch),
+            b"sync" => Some(Keyword::Sync),
+            b"chain" => Some(Keyword::Chain),
+            b"terminate" => Some(Keyword::Terminate),
+            _ => None,
         }
-        None
     }
 
     /// How it is spelled.

@@ -1,6 +1,7 @@
 //! Showing documents.
 
-ghost use Rattle.std.specs.Prelude.{◌≡◌, ◌∷◌, ◌++◌, [], ◌≤◌, OnErr, OnOk, flat_map, drop, codes, length, ◌<◌};
+ghost use Rattle.std.specs.Prelude.{◌≡◌, ◌∷◌, ◌++◌, [], ◌≤◌, OnErr, OnOk, flat_map, drop, codes, decimal, length, ◌<◌};
+ghost use Rattle.std.specs.Fmt.{signed_decimal};
 ghost use Rattle.std.specs.Io.KnownBytes.{Appends};
 ghost use Rattle.tt_io.specs.Count.{Rose};
 ghost use Rattle.tt_io.specs.Known.{AppendsPart};
@@ -41,6 +42,7 @@ fn operator_text(op: Op) -> &'static [u8]
 }
 
 /// Puts a word with a space in front.
+#[inline(always)]
 fn put_word<O: Sink>(word: &[u8], buffer: &mut Buffer, sink: &mut O) -> Result<(), WriteFault>
     ensures text { Puts result (O.written sink.old) (O.written sink.new) buffer.old buffer.new (spaced word.now) }
     ensures cause { OnErr result (Rose (O.faults sink.old) (O.faults sink.new)) }
@@ -50,15 +52,34 @@ fn put_word<O: Sink>(word: &[u8], buffer: &mut Buffer, sink: &mut O) -> Result<(
     buffer.put(sink, word)
 }
 
+/// Puts a number as a word with a space in front.
+fn put_number<O: Sink>(number: u64, buffer: &mut Buffer, sink: &mut O) -> Result<(), WriteFault>
+    ensures text { Puts result (O.written sink.old) (O.written sink.new) buffer.old buffer.new (spaced (decimal number)) }
+    ensures cause { OnErr result (Rose (O.faults sink.old) (O.faults sink.new)) }
+    ensures never_falls { O.faults sink.old ≤ O.faults sink.new }
+{
+    let mut digits = itoa::Buffer::new();
+    put_word(digits.format(number).as_bytes(), buffer, sink)
+}
+
+/// Puts an integer as a word with a space in front.
+fn put_integer<O: Sink>(value: i32, buffer: &mut Buffer, sink: &mut O) -> Result<(), WriteFault>
+    ensures text { Puts result (O.written sink.old) (O.written sink.new) buffer.old buffer.new (spaced (signed_decimal value)) }
+    ensures cause { OnErr result (Rose (O.faults sink.old) (O.faults sink.new)) }
+    ensures never_falls { O.faults sink.old ≤ O.faults sink.new }
+{
+    let mut digits = itoa::Buffer::new();
+    put_word(digits.format(value).as_bytes(), buffer, sink)
+}
+
 /// Puts a term of an expression as a word with a space in front.
 fn put_term<O: Sink>(term: &Term, buffer: &mut Buffer, sink: &mut O) -> Result<(), WriteFault>
     ensures text { Puts result (O.written sink.old) (O.written sink.new) buffer.old buffer.new (spaced_term term.now) }
     ensures cause { OnErr result (Rose (O.faults sink.old) (O.faults sink.new)) }
     ensures never_falls { O.faults sink.old ≤ O.faults sink.new }
 {
-    let mut digits = itoa::Buffer::new();
     match term {
-        Term::Int(value) => put_word(digits.format(*value).as_bytes(), buffer, sink),
+        Term::Int(value) => put_integer(*value, buffer, sink),
         Term::Name(name) => put_word(name.as_bytes(), buffer, sink),
         Term::Op(op) => put_word(operator_text(*op), buffer, sink),
     }
@@ -82,12 +103,11 @@ fn put_part<O: Sink>(part: &Part, buffer: &mut Buffer, sink: &mut O) -> Result<(
     ensures cause { OnErr result (Rose (O.faults sink.old) (O.faults sink.new)) }
     ensures never_falls { O.faults sink.old ≤ O.faults sink.new }
 {
-    let mut digits = itoa::Buffer::new();
     match part {
         Part::Key(keyword) => put_word(keyword.text(), buffer, sink),
-        Part::Number(number) => put_word(digits.format(*number).as_bytes(), buffer, sink),
+        Part::Number(number) => put_number(*number, buffer, sink),
         Part::Named(name) => put_word(name.as_bytes(), buffer, sink),
-        Part::Integer(value) => put_word(digits.format(*value).as_bytes(), buffer, sink),
+        Part::Integer(value) => put_integer(*value, buffer, sink),
         Part::Expression(terms) => put_terms(terms, buffer, sink),
     }
 }

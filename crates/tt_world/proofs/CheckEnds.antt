@@ -106,7 +106,7 @@ of_filter E test [] p = tt
 of_filter E test (e ∷ es) p =
     let rest = of_filter E test es p.1 in cond_both (test e) _ _ (Of E) (λ _. (p.0, rest)) (λ _. rest)
 
-still_end : (e : Event) → is_still e ≡ true → is_end e ≡ false
+pub still_end : (e : Event) → is_still e ≡ true → is_end e ≡ false
 still_end (End at who) n = cc
 still_end e n = refl
 
@@ -137,7 +137,8 @@ module _ (c : ConfigParts) (s : ScriptParts) where
         (λ w. activated_all NoEnd c (entry_at (offset_of w) (mode_of c w).activations) (λ _ _. refl) w);
   }
 
-  opening_no_end : (w : World) → Of NoEnd (opening c s w).events
+  -- an opening has no end
+  pub opening_no_end : (w : World) → Of NoEnd (opening c s w).events
   opening_no_end w =
       let m = opening c s w in
       let h = opening_leads c s (λ _. NoEnds) NoEndsOver opening_keeps w [] tt in

@@ -192,20 +192,22 @@ module _ (E : Event → Type 0) where
 
     -- ---- the tick
 
-    module _ (c : ConfigParts) (s : ScriptParts) (run : (at : ℕ) (who : Owner) → E (Run at who))
-        (end : (at : ℕ) (who : Owner) → E (End at who))
+    module _ (c : ConfigParts) (s : ScriptParts)
         (call : (at : ℕ) (who : Owner) (call : Call) (result : ℕ) → E (Called at who call result)) where
       called_all : (r : Runner) (who : Owner) (k : Call) (a : Answer) → Of E (called c r who k a).move.events
       called_all r who k a = cond_both (is_shutdown k) _ _ (λ (m : Moved). Of E m.events)
           (λ _. (call _ _ _ _, shuts_down_all c (Some ending.Shutdown) (leaving a.world r a.left)))
           (λ _. (call _ _ _ _, tt))
 
-      effected_all : (r : Runner) (who : Owner) (effects : List Effect) (left : List Stmt) (w : World)
+      pub effected_all : (r : Runner) (who : Owner) (effects : List Effect) (left : List Stmt) (w : World)
           → Of E (effected c s r who effects left w).move.events
       effected_all r who [] left w = tt
       effected_all r who (effect.Out value ∷ rest) left w = (h.out _ _ _, tt)
       effected_all r who (effect.Service k ∷ rest) left w = called_all r who k (service c s r k left w)
 
+    module _ (c : ConfigParts) (s : ScriptParts) (run : (at : ℕ) (who : Owner) → E (Run at who))
+        (end : (at : ℕ) (who : Owner) → E (End at who))
+        (call : (at : ℕ) (who : Owner) (call : Call) (result : ℕ) → E (Called at who call result)) where
       pub step_all : (w : World) → Of E (step c s w).events
       unfolding step
       step_all w =
@@ -214,5 +216,5 @@ module _ (E : Event → Type 0) where
           let state = state_after c s w (left_of w r) in
           followed_all (preceded (run_line w who) (runner_tick c s r who w).move) _
           (all_more (run_line w who) (runner_tick c s r who w).move.events (event_if_all _ (Run w.tick who) (run _ _))
-          (effected_all r who state.effects state.left _))
+          (effected_all c s call r who state.effects state.left _))
           (λ v. event_if_all _ (End (v.tick + 1) who) (end _ _))

@@ -48,3 +48,11 @@ pub mod RoundRuns
 pub mod CheckEnds
 pub mod RoundChecks
 pub mod MonitorLaw
+pub mod SourceEvents
+pub mod SourceParts
+pub mod SourceTicks
+pub mod SourceEnds
+pub mod InterruptLaws
+pub mod Openings
+pub mod Late
+pub mod Still

@@ -46,7 +46,7 @@ use Rattle.tt_world.proofs.Keeps.{Holds, monitored_holds}
 use Rattle.tt_world.proofs.JobLists.{at_set, at_other, IsOldPlace, IsNewPlace, place_of_more}
 
 -- what one runner has left where another's was changed
-pub set_cases : (xs : List (List Stmt)) (i j : ℕ) (left : List Stmt)
+set_cases : (xs : List (List Stmt)) (i j : ℕ) (left : List Stmt)
     → (get_or (set xs i left) j [] ≡ left) ⊎ (get_or (set xs i left) j [] ≡ get_or xs j [])
 set_cases xs i j left =
     ⊎_elim

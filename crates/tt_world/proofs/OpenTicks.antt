@@ -36,6 +36,7 @@ use Rattle.tt_world.proofs.Deadlines.{IsFrom, IsUpTo, point_up_to}
 use Rattle.tt_world.proofs.TableRows.{mode_rows, rows_later, rows_apart}
 use Rattle.tt_world.proofs.Points.{Ahead}
 use Rattle.tt_world.proofs.Emits.{Of, all_more, event_if_all}
+use Rattle.tt_world.proofs.SourceEvents.{SourceLists, lists_of, lists_left}
 use Rattle.tt_world.proofs.JobLists.{entry_of_set}
 use Rattle.tt_world.proofs.TaskAccounts.{Says, runner_says, last_found_at}
 use Rattle.tt_world.proofs.IsrAccounts.{isr_runs, highest_undone}
@@ -171,10 +172,12 @@ abbrev left_isrs : Runner → List (List Stmt) → List Stmt → List (List Stmt
 left_isrs (runner.Isr i) xs after = slice_set xs i.0 after
 left_isrs r xs after = xs
 
-abbrev Ended : Runner → Bool → List Stmt → Type 0
+-- a runner but an OSEK task ends exactly where nothing is left of it
+abbrev pub Ended : Runner → Bool → List Stmt → Type 0
 Ended r ended after = IsOsek r ⊎ (ended ≡ is_done after)
 
-record Left (w : World) (r : Runner) (v : World) (ended : Bool) : Type 0 where
+-- what a tick leaves of a world, and of its runner
+pub record Left (w : World) (r : Runner) (v : World) (ended : Bool) : Type 0 where
   pub after : List Stmt
   pub start : v.start ≡ w.start
   pub mode : v.mode ≡ w.mode
@@ -182,41 +185,72 @@ record Left (w : World) (r : Runner) (v : World) (ended : Bool) : Type 0 where
   pub acts : v.jobs ≡ left_acts r w.jobs after
   pub isrs : v.isrs ≡ left_isrs r w.isrs after
   pub gates : v.isrs_held ≡ w.isrs_held
+  pub lists : lists_of v ≡ lists_left r (lists_of w) after
   pub ends : Ended r ended after
 
 leaving_left : (w : World) (r : Runner) (v : World) (after : List Stmt) (ended : Bool) → v.start ≡ w.start
-    → v.mode ≡ w.mode → v.tick ≡ w.tick → v.jobs ≡ w.jobs → v.isrs ≡ w.isrs → v.isrs_held ≡ w.isrs_held
-    → Ended r ended after → Left w r (leaving v r after) ended
-leaving_left w (runner.Isr i) v after ended a b t d x g e =
+    → v.mode ≡ w.mode → v.tick ≡ w.tick → v.jobs ≡ w.jobs → lists_of v ≡ lists_of w → Ended r ended after
+    → Left w r (leaving v r after) ended
+leaving_left w (runner.Isr i) v after ended a b t d h e =
     record {
       after = after;
       start = a;
       mode = b;
       tick = t;
       acts = d;
-      isrs =
-          ap (λ (xs : List (List Stmt)). slice_set xs i.0 after) x;
-      gates = g;
+      isrs = ap (λ (l : SourceLists). slice_set l.isrs i.0 after) h;
+      gates = ap (λ (l : SourceLists). l.isrs_held) h;
+      lists = ap (λ (l : SourceLists). lists_left (runner.Isr i) l after) h;
       ends = e;
     }
-leaving_left w (runner.Job q) v after ended a b t d x g e =
+leaving_left w (runner.Job q) v after ended a b t d h e =
     record {
       after = after;
       start = a;
       mode = b;
       tick = t;
       acts = ap (λ (xs : List Job). with_left xs q after) d;
-      isrs =
-          x;
-      gates = g;
+      isrs = ap (λ (l : SourceLists). l.isrs) h;
+      gates = ap (λ (l : SourceLists). l.isrs_held) h;
+      lists = h;
       ends = e;
     }
-leaving_left w (runner.Oisr i) v after ended a b t d x g e =
-    record { after = after; start = a; mode = b; tick = t; acts = d; isrs = x; gates = g; ends = e }
-leaving_left w (runner.Osek i) v after ended a b t d x g e =
-    record { after = after; start = a; mode = b; tick = t; acts = d; isrs = x; gates = g; ends = e }
-leaving_left w runner.Nobody v after ended a b t d x g e =
-    record { after = after; start = a; mode = b; tick = t; acts = d; isrs = x; gates = g; ends = e }
+leaving_left w (runner.Oisr i) v after ended a b t d h e =
+    record {
+      after = after;
+      start = a;
+      mode = b;
+      tick = t;
+      acts = d;
+      isrs = ap (λ (l : SourceLists). l.isrs) h;
+      gates = ap (λ (l : SourceLists). l.isrs_held) h;
+      lists = ap (λ (l : SourceLists). lists_left (runner.Oisr i) l after) h;
+      ends = e;
+    }
+leaving_left w (runner.Osek i) v after ended a b t d h e =
+    record {
+      after = after;
+      start = a;
+      mode = b;
+      tick = t;
+      acts = d;
+      isrs = ap (λ (l : SourceLists). l.isrs) h;
+      gates = ap (λ (l : SourceLists). l.isrs_held) h;
+      lists = h;
+      ends = e;
+    }
+leaving_left w runner.Nobody v after ended a b t d h e =
+    record {
+      after = after;
+      start = a;
+      mode = b;
+      tick = t;
+      acts = d;
+      isrs = ap (λ (l : SourceLists). l.isrs) h;
+      gates = ap (λ (l : SourceLists). l.isrs_held) h;
+      lists = h;
+      ends = e;
+    }
 
 -- a service that ends another than an OSEK task leaves nothing of it
 abbrev Fine : Runner → Answer → Type 0
@@ -251,15 +285,15 @@ or_same : (a b : Bool) → (a ≡ true → b ≡ true) → (a || b) ≡ b
 or_same true b h = sym (h refl)
 or_same false b h = refl
 
-effected_left : (c : ConfigParts) (s : ScriptParts) (r : Runner) (who : Owner) (effects : List Effect)
+pub effected_left : (c : ConfigParts) (s : ScriptParts) (r : Runner) (who : Owner) (effects : List Effect)
     (left : List Stmt) (w v : World) → v.start ≡ w.start → v.mode ≡ w.mode → v.tick ≡ w.tick → v.jobs ≡ w.jobs
-    → v.isrs ≡ w.isrs → v.isrs_held ≡ w.isrs_held
+    → lists_of v ≡ lists_of w
     → is_over (effected c s r who effects left v).move.end ≡ false
     → Left w r (effected c s r who effects left v).move.world (effected c s r who effects left v).ended
-effected_left c s r who [] left w v a b t d x g on = leaving_left w r v left (is_done left) a b t d x g (inr refl)
-effected_left c s r who (effect.Out value ∷ rest) left w v a b t d x g on =
-    leaving_left w r v left (is_done left) a b t d x g (inr refl)
-effected_left c s r who (effect.Service k ∷ rest) left w v a b t d x g on =
+effected_left c s r who [] left w v a b t d h on = leaving_left w r v left (is_done left) a b t d h (inr refl)
+effected_left c s r who (effect.Out value ∷ rest) left w v a b t d h on =
+    leaving_left w r v left (is_done left) a b t d h (inr refl)
+effected_left c s r who (effect.Service k ∷ rest) left w v a b t d e on =
     let answer = service c s r k left v in
     let h = (service_answers c s r k left v).world in
     let fine : Ended r (answer.ends || is_done answer.left) answer.left =
@@ -271,7 +305,7 @@ effected_left c s r who (effect.Service k ∷ rest) left w v a b t d x g on =
     leaving_left w r answer.world answer.left (answer.ends || is_done answer.left)
     (ap (λ (y : World). y.start) h.is ∙ a) (ap (λ (y : World). y.mode) h.is ∙ b)
     (ap (λ (y : World). y.tick) h.is ∙ t) (ap (λ (y : World). y.jobs) h.is ∙ d)
-    (ap (λ (y : World). y.isrs) h.is ∙ x) (ap (λ (y : World). y.isrs_held) h.is ∙ g) fine)
+    (ap lists_of h.is ∙ e) fine)
     on
 
 -- ---- the tick is over
@@ -496,7 +530,7 @@ module _ (c : ConfigParts) (s : ScriptParts) (rules : IsConfig c) (T : ℕ) wher
       (λ on.
       let v = tick.move.world in
       let l : Left w r v tick.ended = effected_left c s r who state.effects state.left w
-      (record w { vars = state.vars; cursors = state.cursors }) refl refl refl refl refl refl on in
+      (record w { vars = state.vars; cursors = state.cursors }) refl refl refl refl refl on in
       let t : v.tick ≡ T = l.tick ∙ f.0 in
       let over = over_facts w ds (now_facts w es f) a tick.ended l.after r refl (runner_says c w) l.ends in
       let there = λ (k start mode : ℕ) (acts : List Job) (isrs : List (List Stmt)) (held : ℕ). Facts c (T + 1)

@@ -20,7 +20,7 @@ use Rattle.tt_world.specs.Step.{runner_tick, step, run_line}
 use Rattle.tt_world.specs.Schedule.{IsBounded, instant, instant_at, world_at, events_before, last_instant, schedule}
 use Rattle.tt_world.specs.Status.{stamp_of, stamp_after, last_stamp, status_of, Shut}
 use Rattle.tt_world.specs.Readings.{after_round, seen_at, last_owner, owner_after, present_round, task_if, isr_if}
-use Rattle.tt_world.specs.EventLaws.{IsOwner, OwnersRun}
+use Rattle.tt_world.specs.EventLaws.{IsTaken, IsOwner, OwnersRun}
 use Rattle.tt_world.specs.RunLaws.{OwnersLaw}
 use Rattle.tt_world.proofs.Parts.{OfRun, Alone, Anything, LeadsTo, GoesOnBefore, leads_by, led_on, led_over, followed_leads, followed_on, followed_events}
 use Rattle.tt_world.proofs.Points.{Ahead, ahead_at, opening_ahead}
@@ -184,7 +184,7 @@ module _ (c : ConfigParts) (s : ScriptParts) (rules : IsConfig c) (script : IsSc
   bounded : IsBounded c s
   bounded = are_bounded c s rules script
 
-  before : (k : ℕ) → k ≤ n → GoesOnBefore c s k
+  pub before : (k : ℕ) → k ≤ n → GoesOnBefore c s k
   before k l j m = (last_is c s bounded).first j (omega arith)
 
   said_at : (k : ℕ) → k ≤ n → Said k (instant_at c s k)
@@ -237,7 +237,8 @@ module _ (c : ConfigParts) (s : ScriptParts) (rules : IsConfig c) (script : IsSc
     abbrev state : State u first es
     state = state_at u (before u l)
 
-    seen_now : seen_at u (schedule c s) ≡ (es ++ o.events) ++ (line ++ now)
+    -- the events of a tick that the run takes: those before its instant, its opening, and its tick without the end
+    pub seen_now : seen_at u (schedule c s) ≡ (es ++ o.events) ++ (line ++ now)
     unfolding schedule events_before instant_at instant
     seen_now =
         let test = λ (event : Event). nat_le (stamp_of event) u in
@@ -295,23 +296,28 @@ module _ (c : ConfigParts) (s : ScriptParts) (rules : IsConfig c) (script : IsSc
   unfolding instant_at instant
   goes_on u l = followed_on (opening c s (world_at c s u)) (step c s) ((last_is c s bounded).first u l)
 
-  taken : (u : ℕ) → u < last_stamp (schedule c s) → OwnerBy (seen_at u (schedule c s))
-  taken u l =
-      let m = last_low in
-      owner_now u (omega arith) (goes_on u (omega arith))
-
-  shut : (u : ℕ) → status_of (schedule c s) ≡ Shut u → OwnerBy (seen_at u (schedule c s))
+  -- the opening of a tick that the run takes goes on
+  pub taken : (u : ℕ) → IsTaken (schedule c s) u
+      → (u ≤ n) × (is_over (opening c s (world_at c s u)).end ≡ false)
   unfolding schedule events_before instant_at
-  shut u h =
+  taken u t =
+      ⊎_elim
+      (λ (l : u < last_stamp (schedule c s)).
+      let m = last_low in
+      let early : u < n = omega arith in (omega arith, goes_on u early))
+      (λ (h : status_of (schedule c s) ≡ Shut u).
       let st = state_at n (before n (omega arith)) in
       let tells = sym (status_after (events_before c s n) (instant_at c s n).events st.1.1) ∙ h in
       let same : u ≡ n = shut_at (instant_at c s n).events n u
-      ((said_at n (omega arith)).over (last_is c s bounded).ends) tells in
-      subst (λ (k : ℕ). OwnerBy (seen_at k (schedule c s))) (sym same)
-      (owner_now n (omega arith) (shut_on c s n (world_at c s n) st.0.0 u tells))
+      ((said_at n (omega arith)).over (last_is c s bounded).ends) tells in (
+        omega arith,
+        subst (λ (k : ℕ). is_over (opening c s (world_at c s k)).end ≡ false) (sym same)
+            (shut_on c s n (world_at c s n) st.0.0 u tells),
+      ))
+      t
 
   owners_run : OwnersRun c (schedule c s)
-  owners_run u t = ⊎_elim (λ l. taken u l) (λ h. shut u h) t
+  owners_run u t = let h = taken u t in owner_now u h.0 h.1
 
 -- each tick has the owner that the events before it tell
 pub owners_are_right : OwnersLaw

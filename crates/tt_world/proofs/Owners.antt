@@ -76,7 +76,7 @@ checked_silent at mode is_due (x ∷ xs) =
     (then_silent at _ (is_done x.left) _ (checked_silent at mode is_due xs)) (checked_silent at mode is_due xs)
 
 -- an owner that is the same is one
-owner_same : (a b : Owner) → same_owner a b ≡ true → a ≡ b
+pub owner_same : (a b : Owner) → same_owner a b ≡ true → a ≡ b
 owner_same (owner.Task a) (owner.Task b) e = ap (λ (n : ℕ). owner.Task (record { 0 = n })) (eqb-true a.0 b.0 e)
 owner_same (owner.Isr a) (owner.Isr b) e = ap (λ (n : ℕ). owner.Isr (record { 0 = n })) (eqb-true a.0 b.0 e)
 owner_same (owner.Osek a) (owner.Osek b) e = ap (λ (n : ℕ). owner.Osek (record { 0 = n })) (eqb-true a.0 b.0 e)

@@ -1,6 +1,6 @@
 -- The rule for laws of a run: what holds of the world and of the events so far, part after part and instant after
 -- instant.
-use Rattle.std.proofs.Common.{ℕ, zero, suc, ◌≡◌, ◌<◌, ◌+◌, List, [], ◌∷◌, ◌++◌, Bool, true, false, refl, ap, sym, ◌∙◌, subst, eqb, arith, append_assoc, append-nil}
+use Rattle.std.proofs.Common.{ℕ, zero, suc, ◌≡◌, ◌<◌, ◌+◌, List, [], ◌∷◌, ◌++◌, length, get_or, Bool, true, false, refl, ap, sym, ◌∙◌, subst, eqb, arith, append_assoc, append-nil}
 use Rattle.std.specs.Prelude.{map}
 use Rattle.std.proofs.lemmas.Bool.{cond_both, eqb-true, false≢true}
 use Rattle.tt_base.specs.declared.event.Event.{Event}
@@ -125,6 +125,16 @@ pub chain_each : {X : Type 0} (P : OfRun) (Q : OfEnd) (part : X → World → Mo
     → ((x : X) → Leads P P Q (part x)) → Leads P P Q (chain (map part xs))
 chain_each P Q part [] h = chain_none P Q
 chain_each P Q part (x ∷ xs) h = chain_more P P P Q (part x) (map part xs) (h x) (chain_each P Q part xs h)
+
+-- parts that all keep P, of which one leads to R, which all keep too
+pub chain_at : {X : Type 0} (P R : OfRun) (Q : OfEnd) (part : X → World → Moved) (xs : List X) (k : ℕ) (d : X)
+    → k < length xs → ((x : X) → Leads P P Q (part x)) → Leads P R Q (part (get_or xs k d))
+    → ((x : X) → Leads R R Q (part x)) → Leads P R Q (chain (map part xs))
+chain_at P R Q part [] k d l each one later = absurd (omega arith)
+chain_at P R Q part (x ∷ xs) zero d l each one later =
+    chain_more P R R Q (part x) (map part xs) one (chain_each R Q part xs later)
+chain_at P R Q part (x ∷ xs) (suc k) d l each one later =
+    chain_more P P R Q (part x) (map part xs) (each x) (chain_at P R Q part xs k d (omega arith) each one later)
 
 -- where an instant stands: before its opening, and after each part of it
 pub data Phase : Type 0 where

@@ -62,7 +62,7 @@ PlacedAt c Activated = Alone (Placed c 1)
 PlacedAt c phase = Alone (Placed c 0)
 
 module _ (c : ConfigParts) (s : ScriptParts) (rules : IsConfig c) where
-  latch_placed : Leads (Alone (Placed c 0)) (Alone (Placed c 0)) Anything (latch c)
+  pub latch_placed : Leads (Alone (Placed c 0)) (Alone (Placed c 0)) Anything (latch c)
   unfolding latch
   latch_placed w es p =
       cond_both (eqb (offset_of w) (c.round - c.adjust)) _ _ (Holds (Placed c 0) es)
@@ -82,7 +82,7 @@ module _ (c : ConfigParts) (s : ScriptParts) (rules : IsConfig c) where
         later = λ i g l. omega arith;
       })
 
-  round_end_placed : Leads (Alone (Placed c 0)) (Alone (Placed c 0)) Anything (round_end c s)
+  pub round_end_placed : Leads (Alone (Placed c 0)) (Alone (Placed c 0)) Anything (round_end c s)
   unfolding round_end
   round_end_placed w es p =
       cond_both (is_length w.latched (offset_of w)) _ _ (Holds (Placed c 0) es)

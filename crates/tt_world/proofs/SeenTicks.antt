@@ -1,7 +1,7 @@
 -- The ends that are seen, after a tick.
-use Rattle.std.proofs.Common.{ℕ, ◌≡◌, ◌≢◌, ◌<◌, ◌+◌, ◌-◌, List, [], ◌∷◌, ◌++◌, Bool, true, false, Option, Some, refl, ap, sym, ◌∙◌, subst, arith, length, ⊎_elim}
+use Rattle.std.proofs.Common.{ℕ, ◌≡◌, ◌≢◌, ◌<◌, ◌+◌, ◌-◌, List, ◌++◌, Bool, true, false, Option, Some, refl, ap, sym, ◌∙◌, subst, arith, length, ⊎_elim}
 use Rattle.std.specs.Prelude.{◌&&◌, ◌||◌, ◌==◌}
-use Rattle.std.proofs.lemmas.Bool.{cond_both, cases_Bool, cases_eq, eqb-true}
+use Rattle.std.proofs.lemmas.Bool.{cases_Bool, cases_eq, eqb-true}
 use Rattle.std.proofs.lemmas.List.{length-set}
 use Rattle.tt_base.specs.declared.number.TaskNo.{TaskNo}
 use Rattle.tt_base.specs.declared.event.Event.{Event}
@@ -10,28 +10,25 @@ use Rattle.tt_base.specs.declared.event.Owner.{Owner}
 use Rattle.tt_base.specs.declared.event.Owner.TheVariants as owner
 use Rattle.task_lang.specs.declared.syntax.Stmt.{Stmt}
 use Rattle.task_lang.specs.declared.tick.Effect.{Effect}
-use Rattle.task_lang.specs.declared.tick.Effect.TheVariants as effect
 use Rattle.tt_world.specs.declared.config.Activation.{Activation as ActivationRow}
 use Rattle.tt_world.specs.declared.config.ConfigParts.{ConfigParts}
 use Rattle.tt_world.specs.declared.script.ScriptParts.{ScriptParts}
 use Rattle.tt_world.specs.declared.world.Runner.{Runner}
 use Rattle.tt_world.specs.declared.world.Runner.TheVariants as runner
 use Rattle.tt_world.specs.World.{World, Job}
-use Rattle.tt_world.specs.Moved.{Moved, is_over, preceded, event_if}
+use Rattle.tt_world.specs.Moved.{is_over, preceded, event_if}
 use Rattle.tt_world.specs.Rows.{mode_at, mode_of, row_of}
-use Rattle.tt_world.specs.Runners.{job_at, is_done, with_left, left_of, leaving, runner_of, owner_of, same_owner}
-use Rattle.tt_world.specs.Services.{service, is_shutdown}
+use Rattle.tt_world.specs.Runners.{job_at, is_done, with_left, left_of, runner_of, owner_of, same_owner}
 use Rattle.tt_world.specs.Step.{state_after, effected, runner_tick, is_somebody, run_line, tick_over, step}
 use Rattle.tt_world.specs.Readings.{has_ended}
 use Rattle.tt_world.specs.RunLaws.{AreTasksSingle}
 use Rattle.tt_world.proofs.Parts.{Anything, LeadsTo, followed_at}
 use Rattle.tt_world.proofs.JobLists.{at_set, at_other}
 use Rattle.tt_world.proofs.TaskAccounts.{Says, runner_says, last_found_at}
-use Rattle.tt_world.proofs.Emits.{Of, OfHooks, all_more, event_if_all, shuts_down_all}
+use Rattle.tt_world.proofs.Emits.{Of, OfHooks, all_more, event_if_all, effected_all}
 use Rattle.tt_world.proofs.Fates.{Mid, effected_mid}
 use Rattle.tt_world.proofs.Places.{Placed}
 use Rattle.tt_world.proofs.EndsSeen.{NoEnd, ended_more, ended_same, other_end, own_end, ActTick, act_tick}
-use Rattle.tt_world.specs.declared.world.RunEnd.TheVariants as ending
 
 -- of each activation of a round: nothing is left of it exactly where its task has an end later than its offset
 abbrev pub Seen : ConfigParts → (start number : ℕ) → List Job → List Event → Type 0
@@ -64,13 +61,7 @@ or_none false e b = refl
 module _ (c : ConfigParts) (s : ScriptParts) where
   pub effected_no_end : (r : Runner) (who : Owner) (effects : List Effect) (left : List Stmt) (w : World)
       → Of NoEnd (effected c s r who effects left w).move.events
-  effected_no_end r who [] left w = tt
-  effected_no_end r who (effect.Out value ∷ rest) left w = (refl, tt)
-  effected_no_end r who (effect.Service k ∷ rest) left w =
-      let answer = service c s r k left w in
-      cond_both (is_shutdown k) _ _ (λ (m : Moved). Of NoEnd m.events)
-      (λ _. (refl, shuts_down_all NoEnd no_end_hooks c (Some ending.Shutdown) (leaving answer.world r answer.left)))
-      (λ _. (refl, tt))
+  effected_no_end r who effects left w = effected_all NoEnd no_end_hooks c s (λ _ _ _ _. refl) r who effects left w
 
   abbrev ActOf : Runner → World → World → Bool → Type 0
   ActOf (runner.Job q) w v ended = ActTick c s q w v ended

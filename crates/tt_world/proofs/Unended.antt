@@ -109,7 +109,8 @@ module _ (c : ConfigParts) (T now start mode : ℕ) (acts : List Job) (isrs : Li
   facts_plains es (e ∷ fs) n p = subst (Facts c T now start mode acts isrs held) (append_assoc es (e ∷ []) fs)
       (facts_plains (es ++ e ∷ []) fs n.1 (facts_plain es e n.0 p))
 
-some_undone : (body : List Stmt) → 1 ≤ length body → is_done body ≡ false
+-- of a body with a statement something is left
+pub some_undone : (body : List Stmt) → 1 ≤ length body → is_done body ≡ false
 some_undone [] l = absurd (omega arith)
 some_undone (x ∷ body) l = refl
 

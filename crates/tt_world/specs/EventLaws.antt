@@ -170,18 +170,6 @@ abbrev pub is_accept_of : Owner → Event → Bool
 is_accept_of who (Accept at source) = same_owner source who
 is_accept_of who event = false
 
-abbrev pub is_arrive_of : Owner → Event → Bool
-is_arrive_of who (Arrive at source) = same_owner source who
-is_arrive_of who event = false
-
-abbrev pub is_end_of : Owner → Event → Bool
-is_end_of who (End at source) = same_owner source who
-is_end_of who event = false
-
-abbrev pub is_enable_of : Owner → Event → Bool
-is_enable_of (owner.Isr isr) (Enable at other) = isr.0 == other.0
-is_enable_of who event = false
-
 -- whether a source is closed by an acceptance
 abbrev pub is_gated : Source → Bool
 is_gated (IsrSource isr) = true
@@ -195,13 +183,16 @@ pub record SourceSeen : Type 0 where
   pub accepted : Bool
   pub ended : Bool
   pub enabled : Bool
+  -- the stamp of the last one
+  pub at : ℕ
 
 abbrev pub nothing_seen : SourceSeen
-nothing_seen = record { waiting = 0; accepted = false; ended = false; enabled = false }
+nothing_seen = record { waiting = 0; accepted = false; ended = false; enabled = false; at = 0 }
 
 abbrev pub seen_next : Owner → SourceSeen → Event → SourceSeen
 seen_next who seen (Accept at source) =
-    cond (same_owner source who) (record { waiting = 0; accepted = true; ended = false; enabled = false }) seen
+    cond (same_owner source who) (record { waiting = 0; accepted = true; ended = false; enabled = false; at = at })
+    seen
 seen_next who seen (Arrive at source) = cond (same_owner source who) (record seen { waiting = seen.waiting + 1 }) seen
 seen_next who seen (End at source) = cond (same_owner source who) (record seen { ended = true }) seen
 seen_next (owner.Isr isr) seen (Enable at other) = cond (isr.0 == other.0) (record seen { enabled = true }) seen
@@ -212,17 +203,19 @@ source_seen who seen [] = seen
 source_seen who seen (event ∷ rest) = source_seen who (seen_next who seen event) rest
 
 -- between two acceptances, and before the first, there is exactly one arrival; between two there is an end, and an
--- enable too where
--- the source is time-triggered
+-- enable too where the source is time-triggered
 pub record IsAdmitted (source : Source) (seen : SourceSeen) : Type 0 where
   pub one : seen.waiting ≡ 1
   pub ended : seen.accepted ≡ true → seen.ended ≡ true
   pub enabled : seen.accepted ≡ true → is_gated source ≡ true → seen.enabled ≡ true
 
--- an interrupt that waits at a tick waits for the end of its routine, or for an enable
-abbrev pub WaitsFor : Source → SourceSeen → Type 0
-WaitsFor source seen =
-    ((seen.accepted ≡ true) × (seen.ended ≡ false))
+-- an interrupt that waits at a tick waits for the end of its routine, or for an enable: no End event stands after the
+-- last Accept event of the source or has a later stamp, or no Enable event stands after it
+abbrev pub WaitsFor : Source → (events : List Event) → Type 0
+WaitsFor source events =
+    let who = source_owner source in
+    let seen = source_seen who nothing_seen events in
+    ((seen.accepted ≡ true) × (seen.ended ≡ false) × (has_ended seen.at who events ≡ false))
     ⊎ ((is_gated source ≡ true) × (seen.accepted ≡ true) × (seen.enabled ≡ false))
 
 pub record SourceLaw (events : List Event) (source : Source) : Type 0 where
@@ -230,7 +223,7 @@ pub record SourceLaw (events : List Event) (source : Source) : Type 0 where
       → IsAdmitted source (source_seen (source_owner source) nothing_seen before)
   pub waits : (u : ℕ) → IsTaken events u
       → 1 ≤ (source_seen (source_owner source) nothing_seen (seen_at u events)).waiting
-      → WaitsFor source (source_seen (source_owner source) nothing_seen (seen_at u events))
+      → WaitsFor source (seen_at u events)
 
 abbrev pub InterruptsWait : ConfigParts → List Event → Type 0
 InterruptsWait c events = All (SourceLaw events) (sources c)

@@ -1,6 +1,6 @@
 //! Laws of every run. Each is the contract of a function with an empty body.
 
-ghost use Rattle.tt_world.specs.RunLaws.{ScheduleEnds, PointsAreAhead, IsrIsBounded, NoMiss, ActivationsLaw, TasksAreSingle, OwnersLaw, ChecksLaw};
+ghost use Rattle.tt_world.specs.RunLaws.{ScheduleEnds, PointsAreAhead, IsrIsBounded, NoMiss, ActivationsLaw, TasksAreSingle, OwnersLaw, ChecksLaw, InterruptsLaw};
 
 /// Every run ends: there is exactly one last instant, it and all stamps are within the most ticks
 /// that the rounds can take, and the last event is the one that the status asks for.
@@ -48,4 +48,12 @@ pub fn owners_are_right()
 /// and nowhere else; then ttShutdownHook is called, and the run is over.
 pub fn checks_monitor()
     ensures { ChecksLaw }
+{}
+
+/// Before the first Accept event of a source of interrupts, and between each two consecutive ones,
+/// there is exactly one Arrive event of it; between two there is an End event of its routine, and
+/// an Enable event where it is time-triggered. An interrupt that waits at a tick that the run takes
+/// waits for the end of its routine, or, where it is time-triggered, for an enable.
+pub fn interrupts_wait()
+    ensures { InterruptsLaw }
 {}

@@ -1,6 +1,5 @@
 use Rattle.std.proofs.Common.{sym, ap, arith}
 use Rattle.tt_world.specs.Moved.{is_over}
-use Rattle.stack_dispatch.proofs.Accepted.{still_at_end, still_after}
 use Rattle.stack_dispatch.proofs.Ticks.{step_ends, step_goes_on, step_room, ends_is}
 use Rattle.stack_dispatch.proofs.state.State.step.Goals as goal
 
@@ -10,11 +9,6 @@ returns-in-Some-clause-gives c =
     (step_ends c.args.config.now c.args.script.now _ c.args.runner c.owner-who.result
     c.requires.runs c.owner-who.ensures _ _ _ c.in_ok-note_run.ensures _ _ _ c.in_ok-ticked.ensures.tick
     (ap is_over c.in-Some.is))
-
-pub returns-in-Some-clause-still : goal.returns-in-Some-clause-still
-returns-in-Some-clause-still c =
-    still_at_end c.args.config.now c.args.script.now _ c.args.runner c.owner-who.result _ _ _ _ _
-    c.in_ok-ticked.ensures.tick _ c.somebody_ended-ended.ensures
 
 pub returns-in-Some-clause-ended : goal.returns-in-Some-clause-ended
 returns-in-Some-clause-ended c =
@@ -40,8 +34,3 @@ returns-clause-gives c =
     step_goes_on c.args.config.now c.args.script.now _ c.args.runner c.owner-who.result
     c.requires.runs c.owner-who.ensures _ _ _ c.in_ok-note_run.ensures _ _ _ c.in_ok-ticked.ensures.tick
     c.in_default.is _ _ (rw (sym c.somebody_ended-ended.ensures) c.in_ok-end_tick.ensures.gives)
-
-pub returns-clause-still : goal.returns-clause-still
-returns-clause-still c =
-    still_after c.args.config.now c.args.script.now _ c.args.runner c.owner-who.result _ _ _ _ _
-    c.in_ok-ticked.ensures.tick _ _ _ c.in_ok-end_tick.ensures.gives c.somebody_ended-ended.ensures

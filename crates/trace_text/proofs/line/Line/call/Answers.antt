@@ -10,11 +10,13 @@ returns-in-Switch-clause-text c =
 
 pub returns-in-Sync-clause-text : goal.returns-in-Sync-clause-text
 returns-in-Sync-clause-text c =
-    c.word-in-Sync.ensures ∙ ap (λ call. c.args.self.now ++ spaced (call_words c.args.names.now call)) (sym c.in-Sync.is)
+    c.word-in-Sync.ensures ∙ ap (λ call. c.args.self.now ++ spaced (call_words c.args.names.now call))
+    (sym c.in-Sync.is)
 
 pub returns-in-Shutdown-clause-text : goal.returns-in-Shutdown-clause-text
 returns-in-Shutdown-clause-text c =
-    c.word-in-Shutdown.ensures ∙ ap (λ call. c.args.self.now ++ spaced (call_words c.args.names.now call)) (sym c.in-Shutdown.is)
+    c.word-in-Shutdown.ensures ∙ ap (λ call. c.args.self.now ++ spaced (call_words c.args.names.now call))
+    (sym c.in-Shutdown.is)
 
 pub returns-in-Chain-clause-text : goal.returns-in-Chain-clause-text
 returns-in-Chain-clause-text c =

@@ -1,13 +1,78 @@
-use Rattle.std.proofs.Common.{◌<◌, length, get_or, false, ◌≡◌, rules, arith}
-use Rattle.std.specs.Str.{bytes_eq}
-use Rattle.tt_read.specs.declared.keyword.Keyword.{Keyword}
-use Rattle.tt_read.specs.declared.keyword.Keyword.TheVariants.{Osektime}
-use Rattle.tt_read.specs.Keywords.{keyword_text, keywords}
-use Rattle.tt_read.proofs.TermLaws.{find-drop_more}
+-- The longer words, of which the test of each byte is known.
+use Rattle.std.proofs.Common.{sym, ap, rules, arith}
+use Rattle.std.specs.Prelude.{codes}
+use Rattle.std.proofs.lemmas.Slice.Eq.{text_from_reads}
+use Rattle.tt_read.specs.Keywords.{keyword_of}
 use Rattle.tt_read.proofs.keyword.Keyword.new.Goals as goal
 
-pub loop-keyword-preserved : goal.loop-keyword-preserved
-loop-keyword-preserved c =
-    let inside : c.loop-keyword.keyword-index < length keywords = omega (arith, c.loop-keyword-test.true) in
-    let fails : bytes_eq c.args.text.now (keyword_text (get_or keywords c.loop-keyword.keyword-index Osektime)) ≡ false = search rules in
-    find-drop_more (λ (keyword : Keyword). bytes_eq c.args.text.now (keyword_text keyword)) keywords c.loop-keyword.keyword-index Osektime inside fails c.loop-keyword.invariant
+pub returns-in-round : goal.returns-in-round
+unfolding keyword_of
+returns-in-round c = ap keyword_of (sym (text_from_reads c.args.text.now (codes "round") (omega arith) (search rules)))
+
+pub returns-in-error : goal.returns-in-error
+unfolding keyword_of
+returns-in-error c = ap keyword_of (sym (text_from_reads c.args.text.now (codes "error") (omega arith) (search rules)))
+
+pub returns-in-start : goal.returns-in-start
+unfolding keyword_of
+returns-in-start c = ap keyword_of (sym (text_from_reads c.args.text.now (codes "start") (omega arith) (search rules)))
+
+pub returns-in-value : goal.returns-in-value
+unfolding keyword_of
+returns-in-value c = ap keyword_of (sym (text_from_reads c.args.text.now (codes "value") (omega arith) (search rules)))
+
+pub returns-in-chain : goal.returns-in-chain
+unfolding keyword_of
+returns-in-chain c = ap keyword_of (sym (text_from_reads c.args.text.now (codes "chain") (omega arith) (search rules)))
+
+pub returns-in-adjust : goal.returns-in-adjust
+unfolding keyword_of
+returns-in-adjust c = ap keyword_of (sym (text_from_reads c.args.text.now (codes "adjust") (omega arith) (search rules)))
+
+pub returns-in-arrive : goal.returns-in-arrive
+unfolding keyword_of
+returns-in-arrive c = ap keyword_of (sym (text_from_reads c.args.text.now (codes "arrive") (omega arith) (search rules)))
+
+pub returns-in-demand : goal.returns-in-demand
+unfolding keyword_of
+returns-in-demand c = ap keyword_of (sym (text_from_reads c.args.text.now (codes "demand") (omega arith) (search rules)))
+
+pub returns-in-enable : goal.returns-in-enable
+unfolding keyword_of
+returns-in-enable c = ap keyword_of (sym (text_from_reads c.args.text.now (codes "enable") (omega arith) (search rules)))
+
+pub returns-in-rounds : goal.returns-in-rounds
+unfolding keyword_of
+returns-in-rounds c = ap keyword_of (sym (text_from_reads c.args.text.now (codes "rounds") (omega arith) (search rules)))
+
+pub returns-in-repeat : goal.returns-in-repeat
+unfolding keyword_of
+returns-in-repeat c = ap keyword_of (sym (text_from_reads c.args.text.now (codes "repeat") (omega arith) (search rules)))
+
+pub returns-in-switch : goal.returns-in-switch
+unfolding keyword_of
+returns-in-switch c = ap keyword_of (sym (text_from_reads c.args.text.now (codes "switch") (omega arith) (search rules)))
+
+pub returns-in-osektime : goal.returns-in-osektime
+unfolding keyword_of
+returns-in-osektime c = ap keyword_of (sym (text_from_reads c.args.text.now (codes "osektime") (omega arith) (search rules)))
+
+pub returns-in-shutdown : goal.returns-in-shutdown
+unfolding keyword_of
+returns-in-shutdown c = ap keyword_of (sym (text_from_reads c.args.text.now (codes "shutdown") (omega arith) (search rules)))
+
+pub returns-in-activate : goal.returns-in-activate
+unfolding keyword_of
+returns-in-activate c = ap keyword_of (sym (text_from_reads c.args.text.now (codes "activate") (omega arith) (search rules)))
+
+pub returns-in-stringent : goal.returns-in-stringent
+unfolding keyword_of
+returns-in-stringent c = ap keyword_of (sym (text_from_reads c.args.text.now (codes "stringent") (omega arith) (search rules)))
+
+pub returns-in-terminate : goal.returns-in-terminate
+unfolding keyword_of
+returns-in-terminate c = ap keyword_of (sym (text_from_reads c.args.text.now (codes "terminate") (omega arith) (search rules)))
+
+pub returns-in-nonstringent : goal.returns-in-nonstringent
+unfolding keyword_of
+returns-in-nonstringent c = ap keyword_of (sym (text_from_reads c.args.text.now (codes "nonstringent") (omega arith) (search rules)))

@@ -1,0 +1,12 @@
+pub mod Counted
+pub mod Taken
+pub mod Firsts
+pub mod Chosen
+pub mod TickLists
+pub mod Places
+pub mod Silent
+pub mod Windows
+pub mod Arrivals
+pub mod Acceptances
+pub mod NextTicks
+pub mod Fewer
