@@ -1,6 +1,6 @@
 -- Who has the highest level among those that have something left, from the last number back.
-use Rattle.std.proofs.Common.{ℕ, zero, suc, ◌≡◌, ◌<◌, ◌≤◌, ◌+◌, ◌-◌, List, [], ◌∷◌, true, false, Bool, None, Some, refl, ap, sym, ◌∙◌, arith, length, cond}
-use Rattle.std.specs.Prelude.{Option, not, filter, slice_index_or}
+use Rattle.std.proofs.Common.{ℕ, suc, ◌≡◌, ◌<◌, ◌+◌, ◌-◌, List, [], ◌∷◌, true, false, None, Some, refl, arith, length}
+use Rattle.std.specs.Prelude.{not, filter, slice_index_or}
 use Rattle.std.specs.List.{range_with_len}
 use Rattle.task_lang.specs.declared.syntax.Stmt.{Stmt}
 use Rattle.tt_world.specs.Runners.{is_done, unfinished, higher, highest}

@@ -1,11 +1,10 @@
 -- What each service gives, where the tick of the caller was taken in place before.
-use Rattle.std.proofs.Common.{ℕ, ◌≡◌, ◌+◌, List, [], ◌∷◌, true, false, Bool, refl, ap, sym, ◌∙◌, None, Some, subst}
-use Rattle.std.specs.Prelude.{Option, slice_get, if◌then◌else◌}
+use Rattle.std.proofs.Common.{ℕ, ◌≡◌, List, [], true, false, refl, ap, sym, ◌∙◌, None, Some, subst}
+use Rattle.std.specs.Prelude.{Option, slice_get}
 use Rattle.std.proofs.lemmas.Bool.{eqb-true}
 use Rattle.task_lang.specs.declared.syntax.Stmt.{Stmt}
 use Rattle.tt_base.specs.declared.number.ModeNo.{ModeNo}
 use Rattle.tt_base.specs.declared.number.OsekNo.{OsekNo}
-use Rattle.tt_base.specs.declared.event.Call.{Call}
 use Rattle.tt_base.specs.declared.event.Call.TheVariants as call
 use Rattle.tt_world.specs.declared.config.ConfigParts.{ConfigParts}
 use Rattle.tt_world.specs.declared.script.ScriptParts.{ScriptParts}
@@ -14,7 +13,7 @@ use Rattle.tt_world.specs.declared.world.Runner.TheVariants as runner
 use Rattle.tt_world.specs.World.{World}
 use Rattle.tt_world.specs.Rows.{osek_body}
 use Rattle.tt_world.specs.Runners.{is_done, left_of, leaving}
-use Rattle.tt_world.specs.Services.{Answer, service, synced, is_suspended, is_caller, ready}
+use Rattle.tt_world.specs.Services.{service, synced, is_suspended, is_caller, ready}
 use Rattle.stack_dispatch.specs.Serving.{IsCalling, Gave, Serves}
 use Rattle.stack_dispatch.proofs.Leaving.{left_then, left_twice, other_left, other_first}
 
@@ -70,7 +69,8 @@ module _ (c : ConfigParts) (s : ScriptParts) (r : Runner) (now after : World) wh
     synced_is (Some global) e = record {
       result_is = refl;
       ended_is = done_is;
-      world_is = e ∙ ap (λ (w : World). (synced c (Some global) w []).world) h.now_is ∙ syncing c (Some global) before r left;
+      world_is = e ∙ ap (λ (w : World). (synced c (Some global) w []).world) h.now_is
+          ∙ syncing c (Some global) before r left;
     }
 
   pub gave_switch : (mode : ModeNo) → after ≡ record now { wanted = mode }
@@ -86,8 +86,8 @@ module _ (c : ConfigParts) (s : ScriptParts) (r : Runner) (now after : World) wh
       → Serves c s r call.Sync now after answer.result (is_done (left_of now r))
   unfolding service
   gave_sync e left before h =
-      subst (λ k. Gave r (synced c (slice_get s.times k) before left) (synced c (slice_get s.times now.times_used) now []).result
-      (is_done (left_of now r)) after)
+      let answer = synced c (slice_get s.times now.times_used) now [] in
+      subst (λ k. Gave r (synced c (slice_get s.times k) before left) answer.result (is_done (left_of now r)) after)
       (ap (λ (w : World). w.times_used) h.now_is ∙ used before r left)
       (synced_is left before h (slice_get s.times now.times_used) e)
 

@@ -1,5 +1,5 @@
 -- The tick of the one who runs, as the code takes it: in place, and then what follows from its effect.
-use Rattle.std.proofs.Common.{ℕ, ◌≡◌, ◌+◌, ◌-◌, ◌≤◌, List, [], ◌∷◌, ◌++◌, true, false, Bool, refl, ap, sym, ◌∙◌, None, Some, subst, arith, append-nil, append_assoc}
+use Rattle.std.proofs.Common.{ℕ, ◌≡◌, ◌-◌, ◌≤◌, List, [], ◌∷◌, ◌++◌, true, false, Bool, refl, ap, sym, ◌∙◌, None, Some, subst, arith, append-nil, append_assoc}
 use Rattle.std.specs.Prelude.{ℤ, ◌&&◌, Option, option_map, length}
 use Rattle.task_lang.specs.Tick.{tick}
 use Rattle.task_lang.specs.Limits.{HasCallees, names_below}
@@ -8,33 +8,32 @@ use Rattle.task_lang.specs.declared.tick.Effect.{Effect}
 use Rattle.task_lang.specs.declared.tick.Effect.TheVariants as effect
 use Rattle.tt_base.specs.declared.event.Call.{Call}
 use Rattle.tt_base.specs.declared.event.Event.{Event}
-use Rattle.tt_base.specs.declared.event.Event.TheVariants.{Called, Out}
+use Rattle.tt_base.specs.declared.event.Event.TheVariants.{Out}
 use Rattle.tt_base.specs.declared.event.Owner.{Owner}
 use Rattle.tt_world.specs.declared.config.ConfigParts.{ConfigParts}
 use Rattle.tt_world.specs.declared.script.ScriptParts.{ScriptParts}
 use Rattle.tt_world.specs.declared.world.Runner.{Runner}
 use Rattle.tt_world.specs.declared.world.Runner.TheVariants as runner
-use Rattle.tt_world.specs.declared.world.RunEnd.TheVariants as ending
 use Rattle.tt_world.specs.ConfigRules.{IsConfig}
 use Rattle.tt_world.specs.World.{World}
 use Rattle.tt_world.specs.Moved.{Moved, Outcome, Gives, preceded, followed, is_over}
-use Rattle.tt_world.specs.Hooks.{shuts_down}
 use Rattle.tt_world.specs.Runners.{is_done, left_of, leaving, first_runner, runner_of, owner_of}
-use Rattle.tt_world.specs.Services.{Answer, service, is_shutdown}
-use Rattle.tt_world.specs.Step.{state_after, called, effected, runner_tick, is_somebody, run_line, tick_over, step}
+use Rattle.tt_world.specs.Step.{state_after, effected, runner_tick, is_somebody, run_line, tick_over, step}
 use Rattle.tt_world.proofs.Fates.{effected_mid}
 use Rattle.tt_world.proofs.IsrAccounts.{highest_undone}
 use Rattle.tt_world.proofs.Modes.{EffectsNamed, effects_named}
 use Rattle.tt_world.proofs.Moves.{gives_next, gives_stop}
+use Rattle.tt_world.proofs.Still.{owner_ends}
 use Rattle.tt_world.proofs.TaskAccounts.{last_found_at}
-use Rattle.stack_dispatch.specs.Serving.{IsCalling, Serves}
+use Rattle.stack_dispatch.specs.Serving.{IsCalling}
 use Rattle.stack_dispatch.specs.Ticking.{IsReady, TicksLeft, IsTick, Calls}
 use Rattle.stack_dispatch.proofs.Leaving.{left_then}
 
 -- ---- the one who runs has something left
 
 ready_first : (w : World) (i t o k : Option ℕ) → ((n : ℕ) → i ≡ Some n → IsReady w (runner.Isr (record { 0 = n })))
-    → ((n : ℕ) → t ≡ Some n → IsReady w (runner.Job n)) → ((n : ℕ) → o ≡ Some n → IsReady w (runner.Oisr (record { 0 = n })))
+    → ((n : ℕ) → t ≡ Some n → IsReady w (runner.Job n))
+    → ((n : ℕ) → o ≡ Some n → IsReady w (runner.Oisr (record { 0 = n })))
     → ((n : ℕ) → k ≡ Some n → IsReady w (runner.Osek (record { 0 = n })))
     → IsReady w (first_runner (option_map (λ (n : ℕ). runner.Isr (record { 0 = n })) i
     ∷ option_map (λ (n : ℕ). runner.Job n) t ∷ option_map (λ (n : ℕ). runner.Oisr (record { 0 = n })) o
@@ -45,22 +44,25 @@ ready_first w None None (Some n) k a b d e = d n refl
 ready_first w None None None (Some n) a b d e = e n refl
 ready_first w None None None None a b d e = tt
 
-pub is_ready : (c : ConfigParts) (w : World) (r : Runner) → r ≡ runner_of c w → IsReady w r
+is_ready : (c : ConfigParts) (w : World) (r : Runner) → r ≡ runner_of c w → IsReady w r
 unfolding runner_of
 is_ready c w r e = subst (IsReady w) (sym e) (ready_first w _ _ _ _ (λ n. highest_undone _ w.isrs n)
     (λ n h. let z : n - 0 ≡ n = omega arith in
     subst (λ (k : ℕ). IsReady w (runner.Job k)) z (last_found_at w.jobs n h).undone)
     (λ n. highest_undone _ w.oisrs n) (λ n. highest_undone _ w.oseks n))
 
-pub somebody_ready : (w : World) (r : Runner) → IsReady w r → (r ≡ runner.Nobody → ⊥) → is_done (left_of w r) ≡ false
-somebody_ready w (runner.Isr i) h n = h
-somebody_ready w (runner.Job i) h n = h
-somebody_ready w (runner.Oisr i) h n = h
-somebody_ready w (runner.Osek i) h n = h
-somebody_ready w runner.Nobody h n = absurd (n refl)
+has_some : (w : World) (r : Runner) → IsReady w r → (r ≡ runner.Nobody → ⊥) → is_done (left_of w r) ≡ false
+has_some w (runner.Isr i) h n = h
+has_some w (runner.Job i) h n = h
+has_some w (runner.Oisr i) h n = h
+has_some w (runner.Osek i) h n = h
+has_some w runner.Nobody h n = absurd (n refl)
 
--- ---- a call
+pub somebody_ready : (c : ConfigParts) (w : World) (r : Runner) → r ≡ runner_of c w → (r ≡ runner.Nobody → ⊥)
+    → is_done (left_of w r) ≡ false
+somebody_ready c w r e n = has_some w r (is_ready c w r e) n
 
+-- what follows lines
 gives_after : (a b d line : List Event) (w : World) (end : Outcome) (m : Moved) → b ≡ a ++ line → Gives b d w end m
     → Gives a d w end (preceded line m)
 gives_after a b d line w end m e g = record {
@@ -68,34 +70,6 @@ gives_after a b d line w end m e g = record {
   events_are = g.events_are ∙ ap (λ x. x ++ m.events) e ∙ append_assoc a line m.events;
   end_is = g.end_is;
 }
-
-module _ (c : ConfigParts) (s : ScriptParts) (r : Runner) (who : Owner) (k : Call) (now after : World) (result : ℕ) (ended : Bool)
-    (serves : Serves c s r k now after result ended) (a b : List Event) (e : b ≡ a ++ Called after.tick who k result ∷ []) where
-  line_is : (v : World) (n : ℕ) → after ≡ v → result ≡ n → b ≡ a ++ Called v.tick who k n ∷ []
-  line_is v n p q = e ∙ ap (λ (x : World). a ++ Called x.tick who k result ∷ []) p
-      ∙ ap (λ m. a ++ Called v.tick who k m ∷ []) q
-
-  pub call_goes_on : is_shutdown k ≡ false → Calls c s r who k now a b after None ended
-  call_goes_on f = record {
-    calls = λ left w h.
-        let g = serves left w h in
-        rw f (record {
-          gives = record { world_is = g.world_is; events_are = line_is _ _ g.world_is g.result_is; end_is = refl };
-          ended_is = g.ended_is;
-        });
-  }
-
-  pub call_shuts_down : (d : List Event) (world : World) (end : Outcome) → is_shutdown k ≡ true
-      → Gives b d world end (shuts_down c (Some ending.Shutdown) after) → Calls c s r who k now a d world end ended
-  call_shuts_down d world end f g = record {
-    calls = λ left w h.
-        let q = serves left w h in
-        rw f (record {
-          gives = gives_after a b d _ world end _ (line_is _ _ q.world_is q.result_is)
-              (subst (λ (v : World). Gives b d world end (shuts_down c (Some ending.Shutdown) v)) q.world_is g);
-          ended_is = q.ended_is;
-        });
-  }
 
 -- ---- a tick
 
@@ -130,7 +104,9 @@ module _ (c : ConfigParts) (s : ScriptParts) (r : Runner) (who : Owner) (w now :
 
   calling : IsCalling r left mid now
   unfolding left mid
-  calling = record { ready = ap is_done (same_left w (state_after c s w (left_of w r)).vars (state_after c s w (left_of w r)).cursors r) ∙ some; now_is = t.world_is }
+  calling =
+      let state = state_after c s w (left_of w r) in
+      record { ready = ap is_done (same_left w state.vars state.cursors r) ∙ some; now_is = t.world_is }
 
   done_is : is_done (left_of now r) ≡ is_done left
   unfolding left mid
@@ -140,7 +116,8 @@ module _ (c : ConfigParts) (s : ScriptParts) (r : Runner) (who : Owner) (w now :
   unfolding left mid
   tick_is es e = ap (λ xs. effected c s r who xs left mid) (sym t.effects_are ∙ e)
 
-  pub tick_none : (a : List Event) → effects ≡ [] → IsTick a a now None (is_done (left_of now r)) (runner_tick c s r who w)
+  pub tick_none : (a : List Event) → effects ≡ []
+      → IsTick a a now None (is_done (left_of now r)) (runner_tick c s r who w)
   unfolding left mid
   tick_none a e = subst (IsTick a a now None (is_done (left_of now r))) (sym (tick_is [] e)) (record {
     gives = record { world_is = t.world_is; events_are = sym (append-nil a); end_is = refl };
@@ -150,12 +127,14 @@ module _ (c : ConfigParts) (s : ScriptParts) (r : Runner) (who : Owner) (w now :
   pub tick_out : (value : ℤ) (a b : List Event) → effects ≡ effect.Out value ∷ [] → b ≡ a ++ Out w.tick who value ∷ []
       → IsTick a b now None (is_done (left_of now r)) (runner_tick c s r who w)
   unfolding left mid
-  tick_out value a b e f = subst (IsTick a b now None (is_done (left_of now r))) (sym (tick_is (effect.Out value ∷ []) e)) (record {
-    gives = record { world_is = t.world_is; events_are = f; end_is = refl };
-    ended_is = done_is;
-  })
+  tick_out value a b e f = subst (IsTick a b now None (is_done (left_of now r)))
+      (sym (tick_is (effect.Out value ∷ []) e)) (record {
+        gives = record { world_is = t.world_is; events_are = f; end_is = refl };
+        ended_is = done_is;
+      })
 
-  pub tick_call : (k : Call) (a b : List Event) (world : World) (end : Outcome) (ended : Bool) → effects ≡ effect.Service k ∷ []
+  pub tick_call : (k : Call) (a b : List Event) (world : World) (end : Outcome) (ended : Bool)
+      → effects ≡ effect.Service k ∷ []
       → Calls c s r who k now a b world end ended → IsTick a b world end ended (runner_tick c s r who w)
   tick_call k a b world end ended e h =
       subst (IsTick a b world end ended) (sym (tick_is (effect.Service k ∷ []) e)) (h.calls left mid calling)
@@ -180,12 +159,14 @@ pub tick_stays : (c : ConfigParts) (s : ScriptParts) (r : Runner) (who : Owner) 
 tick_stays c s r who w v a b g =
     let state = state_after c s w (left_of w r) in
     ap (λ (x : World). x.tick) g.world_is
-    ∙ (effected_mid c s r who state.effects state.left w (record w { vars = state.vars; cursors = state.cursors }) refl refl refl refl
+    ∙ (effected_mid c s r who state.effects state.left w (record w { vars = state.vars; cursors = state.cursors })
+    refl refl refl refl
     (ap is_over (sym g.end_is))).tick
 
 -- ---- the whole tick
 
-module _ (c : ConfigParts) (s : ScriptParts) (w : World) (r : Runner) (who : Owner) (runs : r ≡ runner_of c w) (owns : who ≡ owner_of c w r)
+module _ (c : ConfigParts) (s : ScriptParts) (w : World) (r : Runner) (who : Owner) (runs : r ≡ runner_of c w)
+    (owns : who ≡ owner_of c w r)
     (a b d : List Event) (line : b ≡ a ++ run_line w who) (v : World) (end : Outcome) (ended : Bool)
     (t : IsTick b d v end ended (runner_tick c s r who w)) where
   step_is : step c s w ≡ followed (preceded (run_line w who) (runner_tick c s r who w).move)
@@ -199,7 +180,8 @@ module _ (c : ConfigParts) (s : ScriptParts) (w : World) (r : Runner) (who : Own
   pub step_ends : is_over end ≡ true → Gives a d v end (step c s w)
   step_ends over = subst (Gives a d v end) (sym step_is) (gives_stop a d v end _ _ over first)
 
-  pub step_goes_on : end ≡ None → (f : List Event) (u : World) → Gives d f u None (tick_over who (is_somebody r && ended) v)
+  pub step_goes_on : end ≡ None → (f : List Event) (u : World)
+      → Gives d f u None (tick_over who (is_somebody r && ended) v)
       → Gives a f u None (step c s w)
   step_goes_on e f u g = subst (Gives a f u None) (sym step_is)
       (gives_next a d f v u None (preceded (run_line w who) (runner_tick c s r who w).move)
@@ -209,3 +191,8 @@ module _ (c : ConfigParts) (s : ScriptParts) (w : World) (r : Runner) (who : Own
 
   pub step_room : end ≡ None → v.tick ≡ w.tick
   step_room e = tick_stays c s r who w v b d (subst (λ o. Gives b d v o (runner_tick c s r who w).move) e t.gives)
+
+  pub ends_is : (over : Bool) → over ≡ (is_somebody r && ended) → over ≡ owner_ends c s w
+  ends_is over e =
+      let same : (is_somebody r && (runner_tick c s r who w).ended) ≡ owner_ends c s w = rw (owns, runs) refl in
+      e ∙ ap (λ x. is_somebody r && x) t.ended_is ∙ same

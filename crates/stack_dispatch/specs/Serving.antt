@@ -21,7 +21,8 @@ pub record Gave (caller : Runner) (answer : Answer) (result : ℕ) (ended : Bool
   pub world_is : world ≡ leaving answer.world caller answer.left
 
 -- a service of a caller whose tick was taken in place: what it gives, and the world after it
-abbrev pub Serves : ConfigParts → ScriptParts → Runner → Call → (now after : World) → (result : ℕ) → (ended : Bool) → Type 0
+abbrev pub Serves : ConfigParts → ScriptParts → Runner → Call → (now after : World) → (result : ℕ) → (ended : Bool)
+    → Type 0
 Serves c s caller call now after result ended =
     (left : List Stmt) (before : World) → IsCalling caller left before now
     → Gave caller (service c s caller call left before) result ended after

@@ -1,5 +1,5 @@
 -- The tick of the one who runs.
-use Rattle.std.specs.Prelude.{ℕ, ℤ, ◌≡◌, ◌+◌, ◌^◌, ◌<◌, ◌≤◌, ◌&&◌, Bool, false, List, length}
+use Rattle.std.specs.Prelude.{ℕ, ℤ, ◌≡◌, ◌+◌, ◌^◌, ◌<◌, ◌≤◌, Bool, false, List, length}
 use Rattle.task_lang.specs.declared.tick.Effect.{Effect}
 use Rattle.task_lang.specs.Tick.{State}
 use Rattle.task_lang.specs.Limits.{HasCallees}
@@ -21,8 +21,8 @@ use Rattle.tt_world.specs.Step.{RunnerTick, state_after, called}
 use Rattle.stack_dispatch.specs.Serving.{IsCalling}
 use Rattle.stack_dispatch.specs.State.{RunState, IsFor}
 
--- the one who runs can take a tick: the next tick has a number, the round has begun, the present mode exists, and so do the modes
--- and the OSEK tasks that the services of the one who runs name
+-- the one who runs can take a tick: the next tick has a number, the round has begun, the present mode exists, and so
+-- do the modes and the OSEK tasks that the services of the one who runs name
 pub record CanTick (c : ConfigParts) (s : ScriptParts) (state : RunState) : Type 0 where
   pub rules : IsConfig c
   pub kept : IsFor c s state.beside
@@ -37,20 +37,23 @@ IsReady w Nobody = Unit {0}
 IsReady w runner = is_done (left_of w runner) ≡ false
 
 -- one tick of what is left of a runner, and its effects
-pub record TicksLeft (c : ConfigParts) (s : ScriptParts) (runner : Runner) (before after : World) (effects : List Effect) : Type 0 where
+pub record TicksLeft (c : ConfigParts) (s : ScriptParts) (runner : Runner) (before after : World)
+    (effects : List Effect) : Type 0 where
   pub effects_are : effects ≡ (state_after c s before (left_of before runner)).effects
   pub world_is : let state = state_after c s before (left_of before runner) in
       after ≡ leaving (record before { vars = state.vars; cursors = state.cursors }) runner state.left
 
 -- one tick of what is left of the job at a place gave this
-pub record IsJobTicked (before : List Job) (place : ℕ) (after : List Job) (vars : List ℤ) (cursors : List ℕ) (effects : List Effect) (state : State) : Type 0 where
+pub record IsJobTicked (before : List Job) (place : ℕ) (after : List Job) (vars : List ℤ) (cursors : List ℕ)
+    (effects : List Effect) (state : State) : Type 0 where
   pub jobs_are : after ≡ with_left before place state.left
   pub vars_are : vars ≡ state.vars
   pub cursors_are : cursors ≡ state.cursors
   pub effects_are : effects ≡ state.effects
 
 -- a part of the code of a tick did what its definition gives, and the runner has ended or not
-pub record IsTick (before after : List Event) (world : World) (end : Outcome) (ended : Bool) (tick : RunnerTick) : Type 0 where
+pub record IsTick (before after : List Event) (world : World) (end : Outcome) (ended : Bool)
+    (tick : RunnerTick) : Type 0 where
   pub gives : Gives before after world end tick.move
   pub ended_is : ended ≡ tick.ended
 

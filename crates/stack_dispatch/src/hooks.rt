@@ -11,7 +11,8 @@ use task_lang::{Body, Stmt, Vars};
 use tt_base::{Event, Memory, Owner, Series, TaskNo, Tick};
 use tt_world::{ConfigParts, RunEnd};
 
-/// Plays a statement of a hook. The rules allow no other than `set` and `out`; any other does nothing.
+/// Plays a statement of a hook. The rules allow no other than `set` and `out`; any other does
+/// nothing.
 fn play_statement(
     at: Tick,
     hook: Owner,
@@ -20,7 +21,8 @@ fn play_statement(
     events: &mut Series<Event>,
 ) -> Result<(), Memory>
     ensures vars { IfOk result (λ _. vars.new ≡ vars_by vars.old (out-Stmt stmt.now)) }
-    ensures events { IfOk result (λ _. events.new ≡ events.old ++ outs_by at hook vars.old (out-Stmt stmt.now)) }
+    ensures events { IfOk result (λ _.
+        events.new ≡ events.old ++ outs_by at hook vars.old (out-Stmt stmt.now)) }
 {
     match stmt {
         Stmt::Set(var, expr) => {
@@ -47,7 +49,8 @@ fn play(
     events: &mut Series<Event>,
 ) -> Result<(), Memory>
     ensures vars { IfOk result (λ _. vars.new ≡ vars_after vars.old body.now) }
-    ensures events { IfOk result (λ _. events.new ≡ events.old ++ outs_of at hook vars.old body.now) }
+    ensures events { IfOk result (λ _.
+        events.new ≡ events.old ++ outs_of at hook vars.old body.now) }
 {
     for stmt in body.as_slice() {
         play_statement(at, hook, stmt, vars, events)?;
@@ -63,7 +66,8 @@ impl State {
         end: RunEnd,
         events: &mut Series<Event>,
     ) -> Result<Option<RunEnd>, Memory>
-        ensures gives { IfOk result (λ over. Gives events.old events.new self.new.world over (shuts_down config.now (Some end) self.old.world)) }
+        ensures gives { IfOk result (λ over. Gives events.old events.new self.new.world over
+            (shuts_down config.now (Some end) self.old.world)) }
         ensures beside { IfOk result (λ _. self.new.beside ≡ self.old.beside) }
     {
         let at = self.tick;
@@ -79,14 +83,16 @@ impl State {
         Ok(Some(end))
     }
 
-    /// A task has missed its deadline: ttErrorHook is called with it, and then the run is shut down.
+    /// A task has missed its deadline: ttErrorHook is called with it, and then the run is shut
+    /// down.
     pub(crate) fn miss(
         &mut self,
         config: &ConfigParts,
         task: TaskNo,
         events: &mut Series<Event>,
     ) -> Result<Option<RunEnd>, Memory>
-        ensures gives { IfOk result (λ over. Gives events.old events.new self.new.world over (misses config.now task self.old.world)) }
+        ensures gives { IfOk result (λ over. Gives events.old events.new self.new.world over
+            (misses config.now task self.old.world)) }
         ensures beside { IfOk result (λ _. self.new.beside ≡ self.old.beside) }
     {
         let at = self.tick;

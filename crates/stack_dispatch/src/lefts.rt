@@ -110,7 +110,8 @@ impl Lefts {
         self.items.get_mut(number)
     }
 
-    /// The number of the one of the highest rank among those that have something left, the least of equals.
+    /// The number of the one of the highest rank among those that have something left, the least of
+    /// equals.
     #[tactic(auto, using(crate::proofs::Highest::none_yet, crate::proofs::Highest::all_seen, crate::proofs::Highest::one_more, crate::proofs::Highest::none_more))]
     pub(crate) fn highest<D: Ranked>(&self, ranked: &[D]) -> Option<u16>
         ensures { result ≡ highest (map D.rank_of ranked.now) (unfinished self.now) }

@@ -59,7 +59,8 @@ impl State {
         Some(Runner::Osek(OsekNo(number)))
     }
 
-    /// Who runs: a time-triggered routine before a job, a job before the OSEK subsystem, and there a routine before a task; else nobody.
+    /// Who runs: a time-triggered routine before a job, a job before the OSEK subsystem, and there
+    /// a routine before a task; else nobody.
     #[tactic(auto, unfolding(tt_world::specs::Runners::runner_of))]
     pub(crate) fn runner(&mut self, config: &ConfigParts) -> Runner
         ensures runner { result ≡ runner_of config.now self.old.world }

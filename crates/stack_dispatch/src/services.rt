@@ -104,14 +104,17 @@ impl State {
     fn sync(&mut self, config: &ConfigParts, script: &ScriptParts) -> u8
         requires kept { IsFor config.now script.now self.old.beside }
         requires started { self.old.world.start ≤ self.old.world.tick }
-        ensures result { result ≡ (synced config.now (slice_get script.now.times self.old.world.times_used) self.old.world []).result }
-        ensures world { self.new.world ≡ (synced config.now (slice_get script.now.times self.old.world.times_used) self.old.world []).world }
+        ensures result { let global = slice_get script.now.times self.old.world.times_used in
+            result ≡ (synced config.now global self.old.world []).result }
+        ensures world { let global = slice_get script.now.times self.old.world.times_used in
+            self.new.world ≡ (synced config.now global self.old.world []).world }
         ensures beside { self.new.beside ≡ self.old.beside }
     {
         self.round.sync(self.tick)
     }
 
-    /// ActivateTask. A caller that activates itself is not suspended, also where nothing is left of it now.
+    /// ActivateTask. A caller that activates itself is not suspended, also where nothing is left of
+    /// it now.
     fn activate(
         &mut self,
         alloc: Global,
@@ -120,7 +123,9 @@ impl State {
         caller: Runner,
         task: OsekNo,
     ) -> Result<u8, Memory>
-        ensures serves { IfOk result (λ number. Serves config.now script.now caller (call.Activate task) self.old.world self.new.world number (is_done (left_of self.old.world caller))) }
+        ensures serves { IfOk result (λ number.
+            Serves config.now script.now caller (call.Activate task) self.old.world self.new.world
+            number (is_done (left_of self.old.world caller))) }
         ensures beside { IfOk result (λ _. self.new.beside ≡ self.old.beside) }
     {
         if is_caller(caller, task) {
@@ -142,7 +147,9 @@ impl State {
         caller: Runner,
         task: OsekNo,
     ) -> Result<Answer, Memory>
-        ensures serves { IfOk result (λ answer. Serves config.now script.now caller (call.Chain task) self.old.world self.new.world answer.result answer.ended) }
+        ensures serves { IfOk result (λ answer.
+            Serves config.now script.now caller (call.Chain task) self.old.world self.new.world
+            answer.result answer.ended) }
         ensures beside { IfOk result (λ _. self.new.beside ≡ self.old.beside) }
     {
         let ended = Answer {
@@ -175,8 +182,11 @@ impl State {
     ) -> Result<Answer, Memory>
         requires kept { IsFor config.now script.now self.old.beside }
         requires started { self.old.world.start ≤ self.old.world.tick }
-        requires names { names_below (length config.now.modes) (length config.now.oseks) call ≡ true }
-        ensures serves { IfOk result (λ answer. Serves config.now script.now caller call self.old.world self.new.world answer.result answer.ended) }
+        requires names { names_below (length config.now.modes) (length config.now.oseks) call
+            ≡ true }
+        ensures serves { IfOk result (λ answer.
+            Serves config.now script.now caller call self.old.world self.new.world
+            answer.result answer.ended) }
         ensures beside { IfOk result (λ _. self.new.beside ≡ self.old.beside) }
     {
         let ended = self.is_done(caller);

@@ -7,6 +7,7 @@ ghost use Rattle.tt_world.specs.Moved.{Gives};
 ghost use Rattle.tt_world.specs.Runners.{is_done, left_of, job_at, runner_of};
 ghost use Rattle.tt_world.specs.Services.{is_shutdown};
 ghost use Rattle.tt_world.specs.Step.{run_line, is_somebody, runner_tick, tick_over, step};
+ghost use Rattle.tt_world.proofs.Still.{owner_ends};
 ghost use Rattle.stack_dispatch.specs.State.{IsFor};
 ghost use Rattle.stack_dispatch.specs.Ticking.{CanTick, TicksLeft, IsJobTicked, IsTick, Calls};
 
@@ -55,8 +56,10 @@ fn tick_job(
     script: &ScriptParts,
 ) -> Result<Option<Effect>, Memory>
     requires { place < length jobs.old }
-    ensures ok { IfOk result (λ effect. let state = tick (supply_of config.now.demands script.now.values) (state_of (job_at jobs.old place).left vars.old cursors.old []) in
-        IsJobTicked jobs.old place jobs.new vars.new cursors.new (option_to_list effect) state) }
+    ensures ok { IfOk result (λ effect.
+        IsJobTicked jobs.old place jobs.new vars.new cursors.new (option_to_list effect)
+        (tick (supply_of config.now.demands script.now.values)
+        (state_of (job_at jobs.old place).left vars.old cursors.old []))) }
     ensures err_jobs { OnErr result (jobs.new ≡ jobs.old) }
     ensures err_vars { OnErr result (vars.new ≡ vars.old) }
     ensures err_cursors { OnErr result (cursors.new ≡ cursors.old) }
@@ -79,7 +82,9 @@ impl State {
         runner: Runner,
     ) -> Result<Option<Effect>, Memory>
         requires { is_done (left_of self.old.world runner) ≡ false }
-        ensures ticks { IfOk result (λ effect. TicksLeft config.now script.now runner self.old.world self.new.world (option_to_list effect)) }
+        ensures ticks { IfOk result (λ effect.
+            TicksLeft config.now script.now runner self.old.world self.new.world
+            (option_to_list effect)) }
         ensures beside { IfOk result (λ _. self.new.beside ≡ self.old.beside) }
     {
         match runner {
@@ -130,8 +135,11 @@ impl State {
     ) -> Result<Ticked, Memory>
         requires kept { IsFor config.now script.now self.old.beside }
         requires started { self.old.world.start ≤ self.old.world.tick }
-        requires names { names_below (length config.now.modes) (length config.now.oseks) call ≡ true }
-        ensures calls { IfOk result (λ ticked. Calls config.now script.now runner who call self.old.world events.old events.new self.new.world ticked.end ticked.ended) }
+        requires names { names_below (length config.now.modes) (length config.now.oseks) call
+            ≡ true }
+        ensures calls { IfOk result (λ ticked.
+            Calls config.now script.now runner who call self.old.world events.old events.new
+            self.new.world ticked.end ticked.ended) }
         ensures beside { IfOk result (λ _. self.new.beside ≡ self.old.beside) }
     {
         let answer = self.serve(alloc, config, script, runner, call)?;
@@ -161,7 +169,9 @@ impl State {
     ) -> Result<Ticked, Memory>
         requires can { CanTick config.now script.now self.old }
         requires runs { runner ≡ runner_of config.now self.old.world }
-        ensures tick { IfOk result (λ ticked. IsTick events.old events.new self.new.world ticked.end ticked.ended (runner_tick config.now script.now runner who self.old.world)) }
+        ensures tick { IfOk result (λ ticked.
+            IsTick events.old events.new self.new.world ticked.end ticked.ended
+            (runner_tick config.now script.now runner who self.old.world)) }
         ensures beside { IfOk result (λ _. self.new.beside ≡ self.old.beside) }
     {
         if let Runner::Nobody = runner {
@@ -205,7 +215,8 @@ impl State {
         events: &mut Series<Event>,
     ) -> Result<(), Memory>
         requires { self.old.world.tick + 1 < 2 ^ 64 }
-        ensures gives { IfOk result (λ _. Gives events.old events.new self.new.world None (tick_over who ended self.old.world)) }
+        ensures gives { IfOk result (λ _.
+            Gives events.old events.new self.new.world None (tick_over who ended self.old.world)) }
         ensures beside { IfOk result (λ _. self.new.beside ≡ self.old.beside) }
     {
         self.tick += 1;
@@ -230,16 +241,20 @@ impl State {
     ) -> Result<Ticked, Memory>
         requires can { CanTick config.now script.now self.old }
         requires runs { runner ≡ runner_of config.now self.old.world }
-        ensures gives { IfOk result (λ ticked. Gives events.old events.new self.new.world ticked.end (step config.now script.now self.old.world)) }
+        ensures gives { IfOk result (λ ticked. Gives events.old events.new self.new.world ticked.end
+            (step config.now script.now self.old.world)) }
+        ensures ended { IfOk result (λ ticked.
+            ticked.ended ≡ owner_ends config.now script.now self.old.world) }
         ensures beside { IfOk result (λ _. self.new.beside ≡ self.old.beside) }
     {
         let who = self.owner(config, runner);
         self.note_run(who, events)?;
         let ticked = self.runner_tick(alloc, config, script, runner, who, events)?;
-        if let Some(_end) = ticked.end {
-            return Ok(ticked);
-        }
         let ended = somebody_ended(runner, ticked.ended);
+        let end = ticked.end;
+        if let Some(_end) = end {
+            return Ok(Ticked { end, ended });
+        }
         self.end_tick(who, ended, events)?;
         Ok(Ticked { end: None, ended })
     }
@@ -253,7 +268,10 @@ impl State {
         events: &mut Series<Event>,
     ) -> Result<Ticked, Memory>
         requires { CanTick config.now script.now self.old }
-        ensures gives { IfOk result (λ ticked. Gives events.old events.new self.new.world ticked.end (step config.now script.now self.old.world)) }
+        ensures gives { IfOk result (λ ticked. Gives events.old events.new self.new.world ticked.end
+            (step config.now script.now self.old.world)) }
+        ensures ended { IfOk result (λ ticked.
+            ticked.ended ≡ owner_ends config.now script.now self.old.world) }
         ensures beside { IfOk result (λ _. self.new.beside ≡ self.old.beside) }
     {
         let runner = self.runner(config);
