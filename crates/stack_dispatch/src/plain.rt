@@ -3,6 +3,7 @@
 ghost use Rattle.std.specs.Prelude.{◌≡◌, IfOk};
 ghost use Rattle.tt_world.specs.ConfigRules.{IsConfig};
 ghost use Rattle.tt_world.specs.ScriptRules.{IsScript};
+ghost use Rattle.tt_world.specs.EventLaws.{ActivatesRows, ChecksMonitor, InterruptsWait, OwnersRun};
 ghost use Rattle.tt_world.specs.Schedule.{schedule};
 ghost use Rattle.tt_world.specs.Status.{last_stamp, status_by, status_of};
 ghost use Rattle.round_table.specs.TableRows.{tables_of};
@@ -39,6 +40,10 @@ pub fn run_plain<L: Ledger>(
     ensures events { IfOk result (λ run. run.events ≡ schedule config.now script) }
     ensures end { IfOk result (λ run. status_by run.end run.tick ≡ status_of (schedule config.now script)) }
     ensures tick { IfOk result (λ run. run.tick ≡ last_stamp (schedule config.now script)) }
+    ensures activations { IfOk result (λ run. ActivatesRows config.now run.events) }
+    ensures owners { IfOk result (λ run. OwnersRun config.now run.events) }
+    ensures checks { IfOk result (λ run. ChecksMonitor config.now run.events) }
+    ensures interrupts { IfOk result (λ run. InterruptsWait config.now run.events) }
 {
     let tables = Tables::build(alloc, config)?;
     let state = State::new(alloc, config, script.parts())?;
@@ -60,6 +65,10 @@ fn run(
     ensures events { IfOk result (λ run. run.events ≡ schedule config.now script.now) }
     ensures end { IfOk result (λ run. status_by run.end run.tick ≡ status_of (schedule config.now script.now)) }
     ensures tick { IfOk result (λ run. run.tick ≡ last_stamp (schedule config.now script.now)) }
+    ensures activations { IfOk result (λ run. ActivatesRows config.now run.events) }
+    ensures owners { IfOk result (λ run. OwnersRun config.now run.events) }
+    ensures checks { IfOk result (λ run. ChecksMonitor config.now run.events) }
+    ensures interrupts { IfOk result (λ run. InterruptsWait config.now run.events) }
 {
     let mut events = Events::new(alloc);
     'instants: loop {

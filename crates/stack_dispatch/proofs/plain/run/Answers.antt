@@ -1,7 +1,12 @@
 use Rattle.std.proofs.Common.{◌≡◌, List, [], sym, ◌∙◌, ap, subst, refl}
 use Rattle.tt_base.specs.declared.event.Event.{Event}
+use Rattle.tt_world.specs.EventLaws.{ActivatesRows, ChecksMonitor, InterruptsWait, OwnersRun}
 use Rattle.tt_world.specs.Schedule.{first_world, most_ticks}
 use Rattle.tt_world.specs.Status.{status_by}
+use Rattle.tt_world.proofs.Activates.{activations_law}
+use Rattle.tt_world.proofs.InterruptLaws.{interrupts_law}
+use Rattle.tt_world.proofs.MonitorLaw.{checks_law}
+use Rattle.tt_world.proofs.OwnerLaws.{owners_are_right}
 use Rattle.tt_world.proofs.Ends.{are_bounded, few_ticks}
 use Rattle.stack_dispatch.specs.Served.{HasSources}
 use Rattle.stack_dispatch.specs.State.{RunState, IsFor, fixed_in}
@@ -55,3 +60,31 @@ returns-in-Some-clause-tick c =
     c.tick-tick.ensures
     ∙ stamp_is c.args.config.now c.args.script.now c.instants.state.world c.pass.new.self.world _ _ _ c.instants.invariant.at c.in_ok-end.ensures.gives
     c.in-Some.end c.in-Some.is (are_bounded _ _ c.requires.config c.requires.script)
+
+pub returns-in-Some-clause-activations : goal.returns-in-Some-clause-activations
+returns-in-Some-clause-activations c =
+    subst (ActivatesRows c.args.config.now)
+    (sym (events_all c.args.config.now c.args.script.now c.instants.state.world c.pass.new.self.world _ _ _ c.instants.invariant.at
+    c.in_ok-end.ensures.gives c.in-Some.end c.in-Some.is (are_bounded _ _ c.requires.config c.requires.script)))
+    (activations_law c.args.config.now c.args.script.now c.requires.config c.requires.script)
+
+pub returns-in-Some-clause-owners : goal.returns-in-Some-clause-owners
+returns-in-Some-clause-owners c =
+    subst (OwnersRun c.args.config.now)
+    (sym (events_all c.args.config.now c.args.script.now c.instants.state.world c.pass.new.self.world _ _ _ c.instants.invariant.at
+    c.in_ok-end.ensures.gives c.in-Some.end c.in-Some.is (are_bounded _ _ c.requires.config c.requires.script)))
+    (owners_are_right c.args.config.now c.args.script.now c.requires.config c.requires.script)
+
+pub returns-in-Some-clause-checks : goal.returns-in-Some-clause-checks
+returns-in-Some-clause-checks c =
+    subst (ChecksMonitor c.args.config.now)
+    (sym (events_all c.args.config.now c.args.script.now c.instants.state.world c.pass.new.self.world _ _ _ c.instants.invariant.at
+    c.in_ok-end.ensures.gives c.in-Some.end c.in-Some.is (are_bounded _ _ c.requires.config c.requires.script)))
+    (checks_law c.args.config.now c.args.script.now c.requires.config c.requires.script)
+
+pub returns-in-Some-clause-interrupts : goal.returns-in-Some-clause-interrupts
+returns-in-Some-clause-interrupts c =
+    subst (InterruptsWait c.args.config.now)
+    (sym (events_all c.args.config.now c.args.script.now c.instants.state.world c.pass.new.self.world _ _ _ c.instants.invariant.at
+    c.in_ok-end.ensures.gives c.in-Some.end c.in-Some.is (are_bounded _ _ c.requires.config c.requires.script)))
+    (interrupts_law c.args.config.now c.args.script.now c.requires.config c.requires.script)
