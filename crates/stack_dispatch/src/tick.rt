@@ -7,6 +7,7 @@ ghost use Rattle.tt_world.specs.Moved.{Gives};
 ghost use Rattle.tt_world.specs.Runners.{is_done, left_of, job_at, runner_of};
 ghost use Rattle.tt_world.specs.Services.{is_shutdown};
 ghost use Rattle.tt_world.specs.Step.{run_line, is_somebody, runner_tick, tick_over, step};
+ghost use Rattle.tt_world.proofs.Still.{owner_ends};
 ghost use Rattle.stack_dispatch.specs.State.{IsFor};
 ghost use Rattle.stack_dispatch.specs.Ticking.{CanTick, TicksLeft, IsJobTicked, IsTick, Calls};
 
@@ -231,6 +232,7 @@ impl State {
         requires can { CanTick config.now script.now self.old }
         requires runs { runner ≡ runner_of config.now self.old.world }
         ensures gives { IfOk result (λ ticked. Gives events.old events.new self.new.world ticked.end (step config.now script.now self.old.world)) }
+        ensures ended { IfOk result (λ ticked. ticked.end ≡ None → ticked.ended ≡ owner_ends config.now script.now self.old.world) }
         ensures beside { IfOk result (λ _. self.new.beside ≡ self.old.beside) }
     {
         let who = self.owner(config, runner);
@@ -254,6 +256,7 @@ impl State {
     ) -> Result<Ticked, Memory>
         requires { CanTick config.now script.now self.old }
         ensures gives { IfOk result (λ ticked. Gives events.old events.new self.new.world ticked.end (step config.now script.now self.old.world)) }
+        ensures ended { IfOk result (λ ticked. ticked.end ≡ None → ticked.ended ≡ owner_ends config.now script.now self.old.world) }
         ensures beside { IfOk result (λ _. self.new.beside ≡ self.old.beside) }
     {
         let runner = self.runner(config);
