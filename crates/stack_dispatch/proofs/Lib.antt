@@ -1,5 +1,6 @@
 pub mod Checking
 pub mod Enabling
+pub mod Foreseen
 pub mod Highest
 pub mod LastUnfinished
 pub mod Leaving

@@ -1,5 +1,5 @@
 -- What the parts of an opening rest on.
-use Rattle.std.specs.Prelude.{◌≡◌, ℕ, ◌+◌, ◌^◌, ◌<◌, ◌≤◌, List, Option, IfSome, length, slice_range}
+use Rattle.std.specs.Prelude.{◌≡◌, ℕ, ◌+◌, ◌^◌, ◌<◌, ◌≤◌, false, List, Option, IfSome, length, slice_range}
 use Rattle.std.specs.Option.{ForSome}
 use Rattle.tt_base.specs.declared.number.IsrNo.{IsrNo}
 use Rattle.tt_world.specs.declared.config.ConfigParts.{ConfigParts}
@@ -18,9 +18,10 @@ use Rattle.isr_window.specs.Played.{AreLeftFrom, AreSourcesOf}
 use Rattle.isr_window.specs.Window.{next_tick}
 use Rattle.round_end.specs.Round.{Round, next_own}
 use Rattle.round_table.specs.declared.due.Due.{Due}
-use Rattle.round_table.specs.ExpiryPoints.{IsCursor, IsFree}
+use Rattle.round_table.specs.ExpiryPoints.{IsFree}
 use Rattle.round_table.specs.DueRows.{checks_of, enables_of, entries_due, isrs_of}
 use Rattle.round_table.specs.TableRows.{TableRows, table_of}
+use Rattle.stack_dispatch.specs.declared.dispatcher.Ahead.{Ahead}
 use Rattle.stack_dispatch.specs.Due.{NoneAccepted}
 use Rattle.stack_dispatch.specs.State.{RunState, IsFor, window_in}
 
@@ -63,14 +64,6 @@ pub record CanPass (c : ConfigParts) (s : ScriptParts) (st : RunState) : Type 0 
   pub sources : HasSources c s st.world.tick st
   pub tick : st.world.tick + 1 < 2 ^ 64
 
--- a place of the present table is that of the first expiry point at or after an offset
-abbrev pub IsPlace : ConfigParts → World → (place offset : ℕ) → Type 0
-IsPlace c w place offset = IsCursor (table_of c (mode_of c w)) place offset
-
--- the same for the present offset; at the start of a round any place does
-abbrev pub IsPlaceNow : ConfigParts → World → ℕ → Type 0
-IsPlaceNow c w place = (offset_of w ≡ 0 → ⊥) → IsPlace c w place (offset_of w)
-
 -- the round of a state
 abbrev pub round_in : RunState → Round
 round_in st = record {
@@ -88,12 +81,19 @@ round_in st = record {
   times_used = st.world.times_used;
 }
 
--- nothing is due from the present tick on up to below the next one: no expiry point, latch, round's end or arrival. The place is that
--- of the expiry points up to there. k is 0 before the opening of an instant, and 1 after it. At tick 0 the head of the run is due
-pub record IsAhead (c : ConfigParts) (k : ℕ) (st : RunState) (place next : ℕ) : Type 0 where
+-- after the present offset nothing stands in the table of the present mode up to below a tick
+abbrev pub AreRowsFree : ConfigParts → World → ℕ → Type 0
+AreRowsFree c w tick = (offset : ℕ) → offset_of w + 1 ≤ offset → w.start + offset < tick → IsFree offset (mode_of c w)
+
+-- nothing is due at a tick from the present one on up to below the next one: no expiry point, latch, round's end or arrival. k is 0
+-- before the opening of an instant, and 1 after it. At tick 0 the head of the run is due
+pub record IsAhead (c : ConfigParts) (k : ℕ) (st : RunState) (next : ℕ) : Type 0 where
   pub head : st.world.tick + k ≡ 0 → next ≡ 0
-  pub ahead : st.world.tick + k ≤ next
-  pub places : (offset : ℕ) → offset_of st.world + k ≤ offset → st.world.start + offset ≤ next → IsPlace c st.world place offset
   pub free : (offset : ℕ) → offset_of st.world + k ≤ offset → st.world.start + offset < next → IsFree offset (mode_of c st.world)
   pub own : next ≤ next_own (round_in st)
   pub arrivals : ForSome (next_tick (window_in st)) (λ tick. next ≤ tick)
+
+-- what the runner sees ahead before an instant: until when nothing is due, and, unless an owner has ended, that nothing can be accepted
+pub record Foresees (c : ConfigParts) (st : RunState) (ahead : Ahead) : Type 0 where
+  pub next : IsAhead c 0 st ahead.next
+  pub none : ahead.ended ≡ false → NoneAccepted c st.world

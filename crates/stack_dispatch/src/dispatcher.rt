@@ -14,7 +14,7 @@ ghost use Rattle.round_table.specs.ExpiryPoints.{IsCursor};
 ghost use Rattle.round_table.specs.TableRows.{tables_of};
 ghost use Rattle.stack_dispatch.specs.Due.{NoneAccepted};
 ghost use Rattle.stack_dispatch.specs.State.{IsFor, fixed_in};
-ghost use Rattle.stack_dispatch.specs.Served.{CanPass, HasSources, IsAhead, IsOpened, IsPlace, IsPlaceNow, IsServed, IsTableOf, StandsAt};
+ghost use Rattle.stack_dispatch.specs.Served.{AreRowsFree, CanPass, Foresees, HasSources, IsAhead, IsOpened, IsServed, IsTableOf, StandsAt};
 
 use crate::plain::Events;
 use crate::state::{Job, State};
@@ -23,6 +23,15 @@ use std::alloc::Global;
 use task_lang::Left;
 use tt_base::{Event, Memory, TaskNo, Tick};
 use tt_world::{ConfigParts, RunEnd, ScriptParts};
+
+/// How far the runner sees ahead.
+#[derive(Clone, Copy, Debug)]
+pub(crate) struct Ahead {
+    /// Nothing is due at a tick from the present one on up to below this one.
+    pub(crate) next: Tick,
+    /// Whether an owner has ended since the acceptances were tried last.
+    pub(crate) ended: bool,
+}
 
 /// The whole body of a task. A task that is not there has none.
 fn begin_body(alloc: Global, config: &ConfigParts, task: TaskNo) -> Result<Left, Memory>
@@ -176,6 +185,85 @@ impl State {
         self.open_due(alloc, config, script, tables, events)
     }
 
+    /// The tick of the next expiry point of the round, the greatest tick where there is none.
+    fn next_row(&self, config: &ConfigParts, tables: &Tables) -> Tick
+        requires modes { self.now.beside.modes ≡ length config.now.modes }
+        requires tables { tables.now ≡ tables_of config.now }
+        ensures { AreRowsFree config.now self.now.world result }
+    {
+        let table = self.table(config, tables);
+        match table.next_after(self.offset()) {
+            Some(offset) => self.round.start().saturating_add(offset),
+            None => Tick::MAX,
+        }
+    }
+
+    /// The least tick after the present one at which something is due.
+    fn next_due(&self, config: &ConfigParts, tables: &Tables) -> Tick
+        requires modes { self.now.beside.modes ≡ length config.now.modes }
+        requires tables { tables.now ≡ tables_of config.now }
+        ensures { IsAhead config.now 1 self.now result }
+    {
+        let own = self.next_row(config, tables).min(self.round.next_own());
+        match self.gates.next_arrival() {
+            Some(tick) => own.min(tick),
+            None => own,
+        }
+    }
+
+    /// The opening of an instant at which nothing is due: the acceptances, where an owner has ended.
+    fn open_idle(
+        &mut self,
+        alloc: Global,
+        config: &ConfigParts,
+        script: &ScriptParts,
+        ahead: Ahead,
+        events: &mut Events,
+    ) -> Result<(), Memory>
+        requires can { CanPass config.now script.now self.old }
+        requires foresees { Foresees config.now self.old ahead }
+        requires idle { self.old.world.tick < ahead.next }
+        ensures gives { IfOk result (λ _. Gives events.old events.new self.new.world None (opening config.now script.now self.old.world)) }
+        ensures beside { IfOk result (λ _. self.new.beside ≡ self.old.beside) }
+        ensures opened { IfOk result (λ _. IsOpened config.now script.now self.old.world.tick self.new) }
+        ensures ahead { IfOk result (λ _. IsAhead config.now 1 self.new ahead.next) }
+    {
+        if !ahead.ended {
+            return Ok(());
+        }
+        self.accept_all(alloc, config, events)?;
+        Ok(())
+    }
+
+    /// The opening of an instant, which looks at nothing where nothing is due.
+    fn open_ahead(
+        &mut self,
+        alloc: Global,
+        config: &ConfigParts,
+        script: &ScriptParts,
+        tables: &Tables,
+        ahead: &mut Ahead,
+        events: &mut Events,
+    ) -> Result<Option<RunEnd>, Memory>
+        requires can { CanPass config.now script.now self.old }
+        requires tables { tables.now ≡ tables_of config.now }
+        requires foresees { Foresees config.now self.old ahead.old }
+        ensures gives { IfOk result (λ end. Gives events.old events.new self.new.world end (opening config.now script.now self.old.world)) }
+        ensures fixed { IfOk result (λ _. fixed_in self.new.beside ≡ fixed_in self.old.beside) }
+        ensures opened { IfOk result (λ end. None ≡ end → IsOpened config.now script.now self.old.world.tick self.new) }
+        ensures ahead { IfOk result (λ end. None ≡ end → IsAhead config.now 1 self.new ahead.new.next) }
+    {
+        if self.tick < ahead.next {
+            self.open_idle(alloc, config, script, *ahead, events)?;
+            return Ok(None);
+        }
+        if let Some(end) = self.open(alloc, config, script, tables, events)? {
+            return Ok(Some(end));
+        }
+        ahead.next = self.next_due(config, tables);
+        Ok(None)
+    }
+
     /// One instant.
     pub(crate) fn pass(
         &mut self,
@@ -183,18 +271,22 @@ impl State {
         config: &ConfigParts,
         script: &ScriptParts,
         tables: &Tables,
+        ahead: &mut Ahead,
         events: &mut Events,
     ) -> Result<Option<RunEnd>, Memory>
         requires can { CanPass config.now script.now self.old }
         requires tables { tables.now ≡ tables_of config.now }
+        requires foresees { Foresees config.now self.old ahead.old }
         ensures gives { IfOk result (λ end. Gives events.old events.new self.new.world end (instant config.now script.now self.old.world)) }
         ensures fixed { IfOk result (λ _. fixed_in self.new.beside ≡ fixed_in self.old.beside) }
         ensures sources { IfOk result (λ end. None ≡ end → HasSources config.now script.now (self.old.world.tick + 1) self.new) }
+        ensures foresees { IfOk result (λ end. None ≡ end → Foresees config.now self.new ahead.new) }
     {
-        if let Some(end) = self.open(alloc, config, script, tables, events)? {
+        if let Some(end) = self.open_ahead(alloc, config, script, tables, ahead, events)? {
             return Ok(Some(end));
         }
         let ticked = self.take_tick(alloc, config, script, events)?;
+        ahead.ended = ticked.ended;
         Ok(ticked.end)
     }
 }

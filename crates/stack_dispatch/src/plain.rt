@@ -9,6 +9,7 @@ ghost use Rattle.tt_world.specs.Status.{last_stamp, status_by, status_of};
 ghost use Rattle.round_table.specs.TableRows.{tables_of};
 ghost use Rattle.stack_dispatch.specs.First.{first_state};
 
+use crate::dispatcher::Ahead;
 use crate::state::State;
 use round_table::Tables;
 use std::alloc::Global;
@@ -71,9 +72,13 @@ fn run(
     ensures interrupts { IfOk result (λ run. InterruptsWait config.now run.events) }
 {
     let mut events = Events::new(alloc);
+    let mut ahead = Ahead {
+        next: 0,
+        ended: true,
+    };
     'instants: loop {
         let tick = state.tick();
-        if let Some(end) = state.pass(alloc, config, script, tables, &mut events)? {
+        if let Some(end) = state.pass(alloc, config, script, tables, &mut ahead, &mut events)? {
             return Ok(PlainRun { events, end, tick });
         }
     }

@@ -8,8 +8,9 @@ use Rattle.tt_world.proofs.InterruptLaws.{interrupts_law}
 use Rattle.tt_world.proofs.MonitorLaw.{checks_law}
 use Rattle.tt_world.proofs.OwnerLaws.{owners_are_right}
 use Rattle.tt_world.proofs.Ends.{are_bounded, few_ticks}
-use Rattle.stack_dispatch.specs.Served.{HasSources}
+use Rattle.stack_dispatch.specs.Served.{Foresees, HasSources}
 use Rattle.stack_dispatch.specs.State.{RunState, IsFor, fixed_in}
+use Rattle.stack_dispatch.proofs.Foreseen.{foresees_first}
 use Rattle.stack_dispatch.proofs.Opened.{can_pass, first_sources}
 use Rattle.stack_dispatch.proofs.Running.{AtTick, at_first, at_next, tick_next, events_all, status_is, stamp_is, nearer}
 use Rattle.stack_dispatch.proofs.plain.run.Goals as goal
@@ -21,6 +22,7 @@ instants-init c = record {
   fixed = ap (λ (z : RunState). fixed_in z.beside) c.requires.state;
   sources = subst (λ (z : RunState). HasSources c.args.config.now c.args.script.now z.world.tick z) (sym c.requires.state)
       (first_sources c.args.config.now c.args.script.now c.requires.script);
+  foresees = subst (λ (z : RunState). Foresees c.args.config.now z _) (sym c.requires.state) (foresees_first c.args.config.now c.args.script.now);
 }
 
 pub pass-requires-clause-can : goal.pass-requires-clause-can
@@ -36,6 +38,7 @@ instants-preserved c =
       at = at_next c.args.config.now c.args.script.now c.instants.state.world c.pass.new.self.world _ _ _ c.instants.invariant.at g c.in_default.is;
       fixed = c.in_ok-end.ensures.fixed ∙ c.instants.invariant.fixed;
       sources = subst (λ t. HasSources c.args.config.now c.args.script.now t c.pass.new.self) (sym next) (c.in_ok-end.ensures.sources (sym c.in_default.is));
+      foresees = c.in_ok-end.ensures.foresees (sym c.in_default.is);
     }
 
 pub instants-smaller : goal.instants-smaller
