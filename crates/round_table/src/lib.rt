@@ -17,6 +17,3 @@ pub use laws::{
 };
 pub use table::Table;
 pub use tables::Tables;
-
-#[cfg(test)]
-mod tests;
