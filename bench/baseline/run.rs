@@ -102,6 +102,7 @@ fn value(terms: &[Term], vars: &[i32; 256]) -> i32 {
 }
 
 /// The fixed texts of lines, by owner.
+#[derive(Default)]
 struct Texts {
     names: Vec<String>,
     modes: Vec<String>,
@@ -118,9 +119,12 @@ struct Texts {
 }
 
 impl Texts {
-    fn new(config: &Config) -> Texts {
+    fn new(config: &Config, text: bool) -> Texts {
         let document = &config.document;
         let mut names = vec![String::new(); OWNERS];
+        if !text {
+            return Texts { names, ..Texts::default() };
+        }
         let tasks = document.tasks.iter().map(|one| one.name).zip(0..);
         let isrs = document.isrs.iter().map(|one| one.name).zip(ISRS..);
         let oseks = document.oseks.iter().map(|one| one.name).zip(OSEKS..);
@@ -132,7 +136,8 @@ impl Texts {
             names[owner] = name.to_string();
         }
         let pieces = |word: &str, after: &str| -> Vec<Piece> {
-            names.iter().map(|name| Piece::new(&[" ", word, " ", name, after])).collect()
+            let piece = |name: &String| if name.is_empty() { Piece::new(&[]) } else { Piece::new(&[" ", word, " ", name, after]) };
+            names.iter().map(piece).collect()
         };
         let (run, end, out, call) = (pieces("run", "\n"), pieces("end", "\n"), pieces("out", " "), pieces("call", " "));
         let (activate, met, enable) = (pieces("activate", "\n"), pieces("check", " met\n"), pieces("enable", "\n"));
@@ -579,7 +584,7 @@ impl<const TEXT: bool> Run<'_, '_, TEXT> {
     }
 
     fn run(&mut self) {
-        let start = &self.texts.modes[self.mode].clone();
+        let start = self.config.mode_name(self.mode);
         self.rare(0, &[" os start ", start]);
         self.round_line();
         let mut due = 0;
@@ -634,7 +639,7 @@ pub fn run<const TEXT: bool>(config: &Config, lines: &mut Lines) -> Report {
         code: &document.code,
         terms: &document.terms,
         lines,
-        texts: Texts::new(config),
+        texts: Texts::new(config, TEXT),
         report,
         now: 0,
         round_start: 0,
