@@ -207,35 +207,147 @@ def full_modes():
     return "".join(rows)
 
 
-DOCUMENTS = [
-    every_row,
-    many_ends,
-    table_rows,
-    most_rows,
-    most_points,
-    used_names,
-    many_names,
-    deep_blocks,
-    arrivals,
-    nested_blocks,
-    many_tasks,
-    long_table,
-    much_output,
-    comment_lines,
-    work_rows,
-    long_expressions,
-    full_modes,
-]
+def storm():
+    """A storm of 16 sources: all of them arrive in each of 3,990 ticks, one gate is opened in each tick, and the run goes on for 100,000
+    rounds of 16 ticks."""
+    rows = ["osektime 1\nround 16\nmode m\n"]
+    rows += [f"isr {name} {i + 1} 4\nwork {1 + i % 2}\nend\n" for i, name in enumerate(SOURCES)]
+    rows += [f"at {i} m enable {name}\n" for i, name in enumerate(SOURCES)]
+    rows.append("start m\nrounds 100000\n")
+    rows += [f"arrive {name} {tick}\n" for tick in range(3990) for name in SOURCES]
+    return "".join(rows)
 
 
-def main():
-    folder = sys.argv[1]
+def one_source():
+    """60,000 arrivals of one source in consecutive ticks, of which one in ten is accepted and eight are merged."""
+    rows = ["osektime 1\nround 100\nmode m\nisr K 1 4\nwork 3\nend\n"]
+    rows += [f"at {10 * i} m enable K\n" for i in range(10)]
+    rows.append("start m\nrounds 600\n")
+    rows += [f"arrive K {tick}\n" for tick in range(60000)]
+    return "".join(rows)
+
+
+def corrected_rounds():
+    """100,000 rounds of 8 ticks with a correction and a mode switch in each."""
+    rows = ["osektime 1\nround 8\nadjust 2\nmode m\nmode n\n"]
+    rows.append("task A 8\nsync\nswitch n\nend\ntask B 8\nsync\nswitch m\nend\n")
+    rows.append("at 0 m activate A 6 stringent\nat 0 n activate B 6 nonstringent\nstart m\nrounds 100000\n")
+    rows += [f"time {i % 8}\n" for i in range(100000)]
+    return "".join(rows)
+
+
+def osek_load():
+    """32 OSEK tasks that chain to and activate one another in all idle time, and 20,000 arrivals of 16 OSEK routines: 5,000,000 ticks."""
+    rows = ["osektime 1\nround 100\nmode m\ntask A 8\nwork 3\nend\n"]
+    for i in range(32):
+        rows.append(f"osek P{i} {i + 1} auto\nactivate P{(i + 5) % 32}\nactivate P{(i + 11) % 32}\nchain P{(i + 1) % 32}\nend\n")
+    rows += [f"oisr X{i} {i + 1}\nactivate P{2 * i}\nwork 2\nend\n" for i in range(16)]
+    rows.append("at 10 m activate A 50 stringent\nstart m\nrounds 50000\n")
+    tick = 0
+    for i in range(20000):
+        tick += 1 + (i * 7919 + i * i * 31) % 490
+        rows.append(f"arrive X{(i * 5 + i // 16) % 16} {tick}\n")
+    return "".join(rows)
+
+
+def preemptions():
+    """64 preemptions in each of 100,000 rounds: 32,100,002 lines."""
+    tasks = numbered("task T{0} 8\nwork 2\nend\n", 64) + numbered("at {0} m activate T{0} 200 stringent\n", 64)
+    return "osektime 1\nround 200\nmode m\n" + tasks + "start m\nrounds 100000\n"
+
+
+def arrival_in_each_tick():
+    """An arrival in each of 65,000 ticks beside a work of 10,000,000 ticks."""
+    rows = ["osektime 1\nround 10000000\nmode m\ntask A 8\nwork 9900000\nend\nisr K 1 4\nwork 1\nend\n"]
+    rows.append("at 0 m activate A 10000000 stringent\nat 9950000 m enable K\nstart m\nrounds 1\n")
+    rows += [f"arrive K {tick}\n" for tick in range(65000)]
+    return "".join(rows)
+
+
+def long_work():
+    """10^12 ticks, all of them work."""
+    return ("osektime 1\nround 10000000\nmode m\ntask A 8\nwork 10000000\nend\nat 0 m activate A 10000000 stringent\n"
+            "start m\nrounds 100000\n")
+
+
+def long_idle():
+    """10^12 ticks, all of them idle."""
+    return "osektime 1\nround 10000000\nmode m\nstart m\nrounds 100000\n"
+
+
+def many_responses():
+    """As many activations of budget 1 as a document has room for, up to 4,000 in each of 6 modes, of 64 tasks in turn, each with its deadline
+    at the next activation of its task or near the end of a round of 10,000,000 ticks; 16 routines, of which every second has a distance."""
+    modes, count = MODES[:6], 4000
+    rows = ["osektime 1\nround 10000000\n"] + [f"mode {mode}\n" for mode in modes]
+    rows += [f"task T{i} 8\nwork 1\nend\n" for i in range(64)]
+    for i, name in enumerate(SOURCES):
+        distance = f" {100 + 50 * i}" if i % 2 else ""
+        rows.append(f"isr {name} {i + 1} 4{distance}\nwork 2\nend\n")
+    for mode in modes:
+        rows += [f"at {100 * i} {mode} enable {SOURCES[i % 16]}\n" for i in range(80)]
+    tail = "start a\nrounds 1\n"
+    head = "".join(rows)
+    ends = [2400 * (i + 64) if i + 64 < count else 9999999 for i in range(count)]
+    activations = (f"at {2400 * i} {mode} activate T{i % 64} {ends[i]} stringent\n" for i in range(count) for mode in modes)
+    return filled(head, activations, tail)
+
+
+def long_responses():
+    """64 activations of budget 1 and 3,900 enables in consecutive ticks in each of 11 modes: each response takes about 3,900 steps."""
+    modes = MODES[:11]
+    rows = ["osektime 1\nround 10000\n"] + [f"mode {mode}\n" for mode in modes]
+    rows += [f"task T{i} 8\nwork 1\nend\n" for i in range(64)] + ["isr K 1 4\nsync\nend\nisr J 2 4 9\nsync\nend\n"]
+    for mode in modes:
+        rows += [f"at {i} {mode} activate T{i} {9000 + i} stringent\n" for i in range(64)]
+        rows += [f"at {i} {mode} enable K\n" for i in range(66, 3900)] + [f"at {64 * i} {mode} enable J\n" for i in range(60)]
+    rows.append("start a\nrounds 1\n")
+    return "".join(rows)
+
+
+# Each document with the commands that are measured on it.
+ALL = ["show", "trace", "table"]
+DOCUMENTS = {
+    every_row: ["show", "trace"],
+    many_ends: ["show", "trace"],
+    table_rows: ALL,
+    most_rows: ALL,
+    most_points: ALL,
+    used_names: ["show", "trace"],
+    many_names: ["trace"],
+    deep_blocks: ["trace"],
+    arrivals: ["show", "trace"],
+    nested_blocks: ["show", "trace"],
+    many_tasks: ["trace", "load"],
+    long_table: ["trace", "load", "table"],
+    much_output: ["trace", "load"],
+    comment_lines: ["show"],
+    work_rows: ["show", "trace"],
+    long_expressions: ["show", "trace"],
+    full_modes: ["trace", "table", "check"],
+    storm: ["trace", "load"],
+    one_source: ["trace", "load"],
+    corrected_rounds: ["trace", "load"],
+    osek_load: ["trace", "load"],
+    preemptions: ["trace", "load"],
+    arrival_in_each_tick: ["trace", "load"],
+    long_work: ["trace", "load"],
+    long_idle: ["trace", "load"],
+    many_responses: ["check"],
+    long_responses: ["check"],
+}
+
+
+def write(folder):
+    """Writes all documents into the folder and gives their names with the commands that are measured on them."""
     os.makedirs(folder, exist_ok=True)
     for make in DOCUMENTS:
         text = make()
         assert len(text) <= LIMIT, make.__name__
         with open(os.path.join(folder, make.__name__), "w", encoding="ascii") as file:
             file.write(text)
+    return {make.__name__: commands for make, commands in DOCUMENTS.items()}
 
 
-main()
+if __name__ == "__main__":
+    write(sys.argv[1])

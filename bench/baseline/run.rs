@@ -1,533 +1,717 @@
-//! What `osektime trace` does with an accepted document, hand-written in plain Rust: it runs tick by tick, looks at the tables and
-//! the sources only in a tick at which something is due, and prints what happens. It applies no rule.
+//! The run, from event to event: a preemption stack, gates by number, frames with a place and four counters.
+use crate::check::bounds;
+use crate::config::{Config, AT_ACTIVATE, AT_CHECK};
+use crate::document::{Instr, Op, Term, TermOp};
+use crate::lines::{Lines, Piece};
 
-mod body;
-mod config;
-mod document;
-mod mode;
+/// Owners by number.
+const ISRS: usize = 64;
+const OSEKS: usize = 80;
+const OISRS: usize = 112;
+const IDLE: usize = 128;
+const ERROR_HOOK: usize = 129;
+const SHUTDOWN_HOOK: usize = 130;
+const OWNERS: usize = 131;
+/// The gates of OSEK ISRs, which are never closed, and the bits from which they begin.
+const OISR_GATES: u32 = 0xffff_0000;
 
-use body::{value, Call, Effect, Execution, Memory, Stmt};
-use config::{config_of, Config};
-use document::{answer_input, NumberedRow};
-use std::io::Write;
-use std::process::ExitCode;
-
-/// Lines on their way to standard output.
-struct Text {
-    bytes: Vec<u8>,
+pub enum End {
+    LastRound,
+    Missed(u8),
+    Shutdown,
 }
 
-impl Text {
-    fn number(&mut self, mut number: u64) -> &mut Self {
-        let mut digits = [0u8; 20];
-        let mut place = digits.len();
+pub struct Report {
+    pub ticks: u64,
+    pub rounds: u64,
+    pub events: u64,
+    pub activations: u64,
+    pub deepest: u64,
+    pub words: u64,
+    pub end: End,
+}
+
+/// What is left of a body: the ticks of the `work` in front, then the instruction at `at`. A counter is the turns left of a repeat, by how
+/// many repeats are around it; it is 0 outside of it.
+#[derive(Clone, Copy, Default)]
+struct Frame {
+    work: u64,
+    at: u32,
+    turns: [u32; 4],
+}
+
+impl Frame {
+    fn new(code: &[Instr], start: u32) -> Frame {
+        let mut frame = Frame { at: start, ..Frame::default() };
+        frame.settle(code);
+        frame
+    }
+
+    /// Passes over what takes no tick, and takes a `work` to the front.
+    #[inline]
+    fn settle(&mut self, code: &[Instr]) {
         loop {
-            place -= 1;
-            digits[place] = b'0' + (number % 10) as u8;
-            number /= 10;
-            if number == 0 {
-                break;
+            let instr = &code[self.at as usize];
+            match instr.op {
+                Op::Work => {
+                    self.work = u64::from(instr.b);
+                    self.at += 1;
+                    return;
+                }
+                Op::Jump => self.at = instr.b,
+                Op::Again if self.turns[usize::from(instr.a & 3)] > 0 => self.at = instr.b,
+                Op::Again => self.at += 1,
+                _ => return,
             }
         }
-        self.bytes.extend_from_slice(&digits[place..]);
-        self
     }
 
-    fn word(&mut self, word: &str) -> &mut Self {
-        self.bytes.push(b' ');
-        self.bytes.extend_from_slice(word.as_bytes());
-        self
+    fn ended(&self, code: &[Instr]) -> bool {
+        self.work == 0 && code[self.at as usize].op == Op::End
     }
+}
 
-    fn signed(&mut self, number: i64) -> &mut Self {
-        self.bytes.push(b' ');
-        if number < 0 {
-            self.bytes.push(b'-');
+fn value(terms: &[Term], vars: &[i32; 256]) -> i32 {
+    if let [term] = terms {
+        return if term.op == TermOp::Int { term.v } else { vars[term.v as usize & 255] };
+    }
+    let mut stack = [0i32; 128];
+    let mut height = 0;
+    for term in terms.iter().rev() {
+        let result = match term.op {
+            TermOp::Int => term.v,
+            TermOp::Var => vars[term.v as usize & 255],
+            op => {
+                height -= 2;
+                let (left, right) = (stack[(height + 1) & 127], stack[height & 127]);
+                match op {
+                    TermOp::Add => left.wrapping_add(right),
+                    TermOp::Sub => left.wrapping_sub(right),
+                    TermOp::Mul => left.wrapping_mul(right),
+                    TermOp::Less => i32::from(left < right),
+                    TermOp::AtMost => i32::from(left <= right),
+                    TermOp::Same => i32::from(left == right),
+                    _ => i32::from(left != right),
+                }
+            }
+        };
+        stack[height & 127] = result;
+        height += 1;
+    }
+    stack[0]
+}
+
+/// The fixed texts of lines, by owner.
+#[derive(Default)]
+struct Texts {
+    names: Vec<String>,
+    modes: Vec<String>,
+    run: Vec<Piece>,
+    end: Vec<Piece>,
+    out: Vec<Piece>,
+    call: Vec<Piece>,
+    activate: Vec<Piece>,
+    met: Vec<Piece>,
+    enable: Vec<Piece>,
+    arrive: Vec<Piece>,
+    merge: Vec<Piece>,
+    accept: Vec<Piece>,
+}
+
+impl Texts {
+    fn new(config: &Config, text: bool) -> Texts {
+        let document = &config.document;
+        let mut names = vec![String::new(); OWNERS];
+        if !text {
+            return Texts { names, ..Texts::default() };
         }
-        self.number(number.unsigned_abs())
-    }
-
-    fn end(&mut self) -> std::io::Result<()> {
-        self.bytes.push(b'\n');
-        if self.bytes.len() > 60_000 {
-            self.send()?;
+        let tasks = document.tasks.iter().map(|one| one.name).zip(0..);
+        let isrs = document.isrs.iter().map(|one| one.name).zip(ISRS..);
+        let oseks = document.oseks.iter().map(|one| one.name).zip(OSEKS..);
+        let oisrs = document.oisrs.iter().map(|one| one.name).zip(OISRS..);
+        for (id, owner) in tasks.chain(isrs).chain(oseks).chain(oisrs) {
+            names[owner] = config.name(id).to_string();
         }
-        Ok(())
+        for (owner, name) in [(IDLE, "idle"), (ERROR_HOOK, "ttErrorHook"), (SHUTDOWN_HOOK, "ttShutdownHook")] {
+            names[owner] = name.to_string();
+        }
+        let pieces = |word: &str, after: &str| -> Vec<Piece> {
+            let piece = |name: &String| if name.is_empty() { Piece::new(&[]) } else { Piece::new(&[" ", word, " ", name, after]) };
+            names.iter().map(piece).collect()
+        };
+        let (run, end, out, call) = (pieces("run", "\n"), pieces("end", "\n"), pieces("out", " "), pieces("call", " "));
+        let (activate, met, enable) = (pieces("activate", "\n"), pieces("check", " met\n"), pieces("enable", "\n"));
+        let (arrive, merge, accept) = (pieces("arrive", "\n"), pieces("merge", "\n"), pieces("accept", "\n"));
+        let modes = (0..config.modes.len()).map(|mode| config.mode_name(mode).to_string()).collect();
+        Texts { names, modes, run, end, out, call, activate, met, enable, arrive, merge, accept }
     }
-
-    fn send(&mut self) -> std::io::Result<()> {
-        std::io::stdout().lock().write_all(&self.bytes)?;
-        self.bytes.clear();
-        Ok(())
-    }
 }
 
-/// Who takes a tick: a job at a place of the stack of unfinished ones, or one of the numbers of its kind.
-#[derive(Clone, Copy)]
-enum Runner {
-    Isr(usize),
-    Job(usize),
-    Oisr(usize),
-    Osek(usize),
-    Nobody,
-}
-
-#[derive(Clone, Copy, PartialEq, Eq)]
-enum Owner {
-    Task(usize),
-    Isr(usize),
-    Osek(usize),
-    Oisr(usize),
-    Idle,
-}
-
-enum End {
-    Stopped,
-    Missed,
-    Shut,
-}
-
-/// A check: the offset of its monitoring point, which is the greatest number for the round's end, and its entry.
-type Checks = Vec<(u64, usize)>;
-
-struct Run<'a> {
-    config: &'a Config<'a>,
-    checks: &'a [Checks],
-    /// The tick, kind and number of each arrival, in order.
-    arrivals: Vec<(u64, usize)>,
-    text: Text,
-    tick: u64,
-    start: u64,
-    number: u64,
+struct Run<'a, 'b, const TEXT: bool> {
+    config: &'a Config,
+    code: &'a [Instr],
+    terms: &'a [Term],
+    lines: &'a mut Lines<'b>,
+    texts: Texts,
+    report: Report,
+    now: u64,
+    // The round.
+    round_start: u64,
     mode: usize,
     wanted: usize,
     pending: i64,
-    latched: Option<u64>,
+    length: Option<u64>,
     times_used: usize,
-    next_check: usize,
-    next_enable: usize,
-    next_activation: usize,
+    place: usize,
     next_arrival: usize,
-    /// Nothing is due before this tick.
-    next_due: u64,
-    /// Whether a routine may be accepted that was not before.
-    accepts: bool,
-    jobs: Vec<(usize, Execution<'a>)>,
-    enabled: Vec<bool>,
-    held: Vec<bool>,
-    /// The unfinished routines, time-triggered ones first, by source.
-    routines: Vec<Option<Execution<'a>>>,
-    oseks: Vec<Option<Execution<'a>>>,
-    last: Option<Owner>,
-    memory: Memory,
+    // What runs.
+    frames: [Frame; OWNERS],
+    starts: [u32; OWNERS],
+    stacks: [u64; OWNERS],
+    stack: [u8; 64],
+    height: usize,
+    unfinished: u64,
+    words: u64,
+    vars: [i32; 256],
+    used: Vec<u32>,
+    // Gates: bits 0 to 15 are ISRs and bits 16 to 31 OSEK ISRs.
+    held: u32,
+    enabled: u32,
+    busy: u32,
+    // Unfinished routines and ready tasks, by their place in the order of levels or priorities.
+    isr_ready: u32,
+    oisr_ready: u32,
+    osek_ready: u32,
+    rank: [u8; OWNERS],
+    by_rank: [[u8; 32]; 3],
 }
 
-impl<'a> Run<'a> {
-    fn offset(&self) -> u64 {
-        self.tick - self.start
-    }
+/// What a tick did beside its line.
+enum Effect {
+    /// The owner goes on.
+    Nothing,
+    /// Another owner may run now.
+    Change,
+    /// The owner ends here.
+    Gone,
+    /// The caller ends and is ready again.
+    Again,
+    Shutdown,
+}
 
-    fn line(&mut self, words: &[&str]) -> std::io::Result<()> {
-        self.text.number(self.tick);
-        for word in words {
-            self.text.word(word);
+impl<const TEXT: bool> Run<'_, '_, TEXT> {
+    #[inline]
+    fn line(&mut self, at: u64, text: impl Fn(&Texts) -> &Piece) {
+        self.report.events += 1;
+        if TEXT {
+            self.lines.begin(at);
+            self.lines.piece(text(&self.texts));
         }
-        self.text.end()
     }
 
-    /// The name of a source, time-triggered ones first.
-    fn source_name(&self, source: usize) -> &'a str {
-        let isrs = self.config.isrs.len();
-        if source < isrs { self.config.isrs[source].name } else { self.config.oisrs[source - isrs].name }
+    /// A line of which there are few.
+    fn rare(&mut self, at: u64, parts: &[&str]) {
+        self.report.events += 1;
+        if TEXT {
+            self.lines.begin(at);
+            for part in parts {
+                self.lines.text(part);
+            }
+            self.lines.text("\n");
+        }
     }
 
-    /// Plays the body of a hook, which takes no time.
-    fn play(&mut self, hook: &str, body: &[Stmt]) -> std::io::Result<()> {
-        for stmt in body {
-            match stmt {
-                Stmt::Set(var, expr) => self.memory.vars[*var] = value(expr, &self.memory.vars),
-                Stmt::Out(expr) => {
-                    let value = value(expr, &self.memory.vars);
-                    self.text.number(self.tick).word("out").word(hook).signed(i64::from(value)).end()?;
-                }
-                _ => {}
+    fn round_line(&mut self) {
+        self.report.events += 1;
+        if TEXT {
+            self.lines.begin(self.now);
+            self.lines.text(" round ");
+            self.lines.number(self.report.rounds as u32);
+            self.lines.text(" ");
+            self.lines.text(&self.texts.modes[self.mode]);
+            self.lines.text("\n");
+        }
+    }
+
+    fn out_line(&mut self, owner: usize, value: i32) {
+        self.report.events += 1;
+        if TEXT {
+            self.lines.begin(self.now);
+            self.lines.piece(&self.texts.out[owner]);
+            if value < 0 {
+                self.lines.text("-");
+            }
+            self.lines.number(value.unsigned_abs());
+            self.lines.text("\n");
+        }
+    }
+
+    fn call_line(&mut self, owner: usize, service: &str, argument: Option<usize>, result: u8) {
+        self.report.events += 1;
+        if TEXT {
+            self.lines.begin(self.now);
+            self.lines.piece(&self.texts.call[owner]);
+            self.lines.text(service);
+            if let Some(osek) = argument {
+                self.lines.text(" ");
+                self.lines.text(&self.texts.names[osek]);
+            }
+            self.lines.text(if result == 0 { " 0\n" } else if result == 1 { " 1\n" } else { " 4\n" });
+        }
+    }
+
+    fn hook(&mut self, which: usize, owner: usize) {
+        let Some(start) = self.config.document.hooks[which] else { return };
+        let (code, terms) = (self.code, self.terms);
+        for instr in code[start as usize..].iter().take_while(|instr| instr.op != Op::End) {
+            let first = instr.c as usize;
+            let value = value(&terms[first..first + usize::from(instr.a)], &self.vars);
+            if instr.op == Op::Out {
+                self.out_line(owner, value);
+            } else {
+                self.vars[instr.b as usize & 255] = value;
             }
         }
-        Ok(())
     }
 
-    fn shut_down(&mut self) -> std::io::Result<()> {
-        self.line(&["hook", "ttShutdownHook"])?;
-        self.play("ttShutdownHook", &self.config.shutdown_hook)?;
-        self.line(&["shutdown"])
+    fn shut_down(&mut self, end: End) {
+        self.rare(self.now, &[" hook ttShutdownHook"]);
+        self.hook(1, SHUTDOWN_HOOK);
+        self.rare(self.now, &[" shutdown"]);
+        self.report.end = end;
     }
 
-    /// Checks the jobs whose points are up to this offset; tells whether one is missed.
-    fn check(&mut self, offset: u64) -> std::io::Result<bool> {
-        let config = self.config;
-        while let Some((point, entry)) = self.checks[self.mode].get(self.next_check) {
-            if *point > offset {
-                break;
-            }
-            self.next_check += 1;
-            let name = config.tasks[config.modes[self.mode].activations[*entry].task].name;
-            if self.jobs.iter().any(|job| job.0 == *entry) {
-                self.line(&["check", name, "missed"])?;
-                self.line(&["hook", "ttErrorHook", name])?;
-                self.play("ttErrorHook", &config.error_hook)?;
-                self.shut_down()?;
-                return Ok(true);
-            }
-            self.line(&["check", name, "met"])?;
+    /// Checks an activation of the task; whether it is met.
+    fn check(&mut self, task: usize) -> bool {
+        if self.unfinished >> task & 1 == 0 {
+            self.line(self.now, |texts| &texts.met[task]);
+            return true;
         }
-        Ok(false)
+        let name = self.config.task_name(task as u8);
+        self.rare(self.now, &[" check ", name, " missed"]);
+        self.rare(self.now, &[" hook ttErrorHook ", name]);
+        self.hook(0, ERROR_HOOK);
+        self.shut_down(End::Missed(task as u8));
+        false
     }
 
-    /// The latch and the round's end; tells how the run ends, where it does.
-    fn turn(&mut self) -> std::io::Result<Option<End>> {
-        let (at, config) = (self.tick, self.config);
-        if self.offset() == config.round - config.adjust {
-            if self.pending != 0 {
-                let sign = if self.pending < 0 { "-" } else { "+" };
-                self.text.number(at).word("correct").word(sign).number(self.pending.unsigned_abs()).end()?;
+    fn make_ready(&mut self, owner: usize) {
+        self.frames[owner] = Frame::new(self.code, self.starts[owner]);
+    }
+
+    fn latch(&mut self) {
+        let by = std::mem::take(&mut self.pending);
+        self.length = Some((self.config.round as i64 + by) as u64);
+        if by != 0 {
+            let sign = if by < 0 { " correct -" } else { " correct +" };
+            self.rare(self.now, &[sign, &by.unsigned_abs().to_string()]);
+        }
+    }
+
+    /// The checks of the round's end, and the next round; whether the run goes on.
+    fn end_round(&mut self) -> bool {
+        let mode = &self.config.modes[self.mode];
+        while mode.dues[self.place].kind == AT_CHECK {
+            if !self.check(usize::from(mode.dues[self.place].who)) {
+                return false;
             }
-            self.latched = Some(config.round.wrapping_add_signed(self.pending));
-            self.pending = 0;
+            self.place += 1;
         }
-        if self.latched != Some(self.offset()) {
-            return Ok(None);
+        for &task in &mode.ends {
+            if !self.check(usize::from(task)) {
+                return false;
+            }
         }
-        if self.check(u64::MAX)? {
-            return Ok(Some(End::Missed));
+        if self.report.rounds == self.config.rounds {
+            self.rare(self.now, &[" stop"]);
+            return false;
         }
-        if self.number == config.rounds {
-            self.line(&["stop"])?;
-            return Ok(Some(End::Stopped));
-        }
-        self.start = at;
-        self.number += 1;
+        self.report.rounds += 1;
         self.mode = self.wanted;
-        self.latched = None;
-        (self.next_check, self.next_enable, self.next_activation) = (0, 0, 0);
-        self.text.number(at).word("round").signed(self.number as i64).word(config.mode_names[self.mode]).end()?;
-        Ok(None)
+        self.round_start = self.now;
+        self.length = None;
+        self.place = 0;
+        self.round_line();
+        true
     }
 
-    fn gates(&mut self) -> std::io::Result<()> {
-        let config = self.config;
-        while let Some(row) = config.modes[self.mode].enables.get(self.next_enable) {
-            if row.offset != self.offset() {
-                break;
-            }
-            self.next_enable += 1;
-            self.enabled[row.isr] = true;
-            self.accepts = true;
-            self.line(&["enable", config.isrs[row.isr].name])?;
+    /// Parts 1 to 5 of an instant; whether the run goes on.
+    fn before_acceptances(&mut self) -> bool {
+        let mut offset = self.now - self.round_start;
+        if self.length.is_none() && offset == self.config.round - self.config.adjust {
+            self.latch();
         }
-        while let Some((tick, source)) = self.arrivals.get(self.next_arrival).copied() {
-            if tick != self.tick {
+        if self.length == Some(offset) {
+            if !self.end_round() {
+                return false;
+            }
+            offset = 0;
+        }
+        let dues = &self.config.modes[self.mode].dues;
+        while u64::from(dues[self.place].offset) == offset && dues[self.place].kind != AT_ACTIVATE {
+            let due = dues[self.place];
+            if due.kind == AT_CHECK {
+                if !self.check(usize::from(due.who)) {
+                    return false;
+                }
+            } else {
+                self.enabled |= 1 << due.who;
+                self.line(self.now, |texts| &texts.enable[ISRS + usize::from(due.who)]);
+            }
+            self.place += 1;
+        }
+        while let Some(&arrival) = self.config.arrivals.get(self.next_arrival) {
+            if arrival >> 6 != self.now {
                 break;
             }
             self.next_arrival += 1;
-            let word = if self.held[source] { "merge" } else { "arrive" };
-            self.line(&[word, self.source_name(source)])?;
-            self.held[source] = true;
-            self.accepts = true;
-        }
-        Ok(())
-    }
-
-    fn accept(&mut self) -> std::io::Result<()> {
-        let config = self.config;
-        self.accepts = false;
-        let isrs = config.isrs.len();
-        for source in 0..self.held.len() {
-            if self.held[source] && self.enabled[source] && self.routines[source].is_none() {
-                self.held[source] = false;
-                let body = if source < isrs { &config.isrs[source].body } else { &config.oisrs[source - isrs].body };
-                self.enabled[source] = source >= isrs;
-                self.routines[source] = Some(Execution::begin(body));
-                self.line(&["accept", self.source_name(source)])?;
+            let source = arrival as usize & 31;
+            let owner = source_owner(source);
+            if self.held >> source & 1 == 0 {
+                self.held |= 1 << source;
+                self.line(self.now, |texts| &texts.arrive[owner]);
+            } else {
+                self.line(self.now, |texts| &texts.merge[owner]);
             }
         }
-        Ok(())
+        true
     }
 
-    fn activate(&mut self) -> std::io::Result<()> {
-        let config = self.config;
-        let Some(row) = config.modes[self.mode].activations.get(self.next_activation) else {
-            return Ok(());
-        };
-        if row.offset == self.offset() {
-            let task = &config.tasks[row.task];
-            self.jobs.push((self.next_activation, Execution::begin(&task.body)));
-            self.next_activation += 1;
-            self.line(&["activate", task.name])?;
-        }
-        Ok(())
-    }
-
-    /// The next tick at which something is due.
-    fn look_ahead(&mut self) {
-        let table = &self.config.modes[self.mode];
-        let own = self.latched.unwrap_or(self.config.round - self.config.adjust);
-        let mut offset = own;
-        if let Some((point, _)) = self.checks[self.mode].get(self.next_check) {
-            offset = offset.min(*point);
-        }
-        if let Some(row) = table.enables.get(self.next_enable) {
-            offset = offset.min(row.offset);
-        }
-        if let Some(row) = table.activations.get(self.next_activation) {
-            offset = offset.min(row.offset);
-        }
-        self.next_due = self.start + offset;
-        if let Some((tick, _)) = self.arrivals.get(self.next_arrival) {
-            self.next_due = self.next_due.min(*tick);
-        }
-    }
-
-    /// What comes before the tick; tells how the run ends, where it does.
-    fn open(&mut self) -> std::io::Result<Option<End>> {
-        if self.tick < self.next_due {
-            if self.accepts {
-                self.accept()?;
+    fn accept_all(&mut self, mut sources: u32) {
+        while sources != 0 {
+            let source = sources.trailing_zeros() as usize;
+            sources &= sources - 1;
+            let owner = source_owner(source);
+            self.held &= !(1 << source);
+            self.busy |= 1 << source;
+            self.make_ready(owner);
+            if source < 16 {
+                self.enabled &= !(1 << source);
+                self.isr_ready |= 1 << self.rank[owner];
+                self.words += self.stacks[owner];
+            } else {
+                self.oisr_ready |= 1 << self.rank[owner];
             }
-            return Ok(None);
-        }
-        if self.tick > 0 {
-            if let Some(end) = self.turn()? {
-                return Ok(Some(end));
-            }
-        }
-        if self.check(self.offset())? {
-            return Ok(Some(End::Missed));
-        }
-        self.gates()?;
-        if self.accepts {
-            self.accept()?;
-        }
-        self.activate()?;
-        self.look_ahead();
-        Ok(None)
-    }
-
-    fn runner(&self) -> Runner {
-        let (config, isrs) = (self.config, self.config.isrs.len());
-        let unfinished = |from: usize, to: usize| (from..to).filter(|n| self.routines[*n].is_some());
-        if let Some(isr) = unfinished(0, isrs).max_by_key(|n| config.isrs[*n].level) {
-            return Runner::Isr(isr);
-        }
-        if !self.jobs.is_empty() {
-            return Runner::Job(self.jobs.len() - 1);
-        }
-        if let Some(source) = unfinished(isrs, self.routines.len()).max_by_key(|n| config.oisrs[*n - isrs].priority) {
-            return Runner::Oisr(source - isrs);
-        }
-        let ready = (0..self.oseks.len()).filter(|n| self.oseks[*n].is_some());
-        match ready.max_by_key(|n| config.oseks[*n].priority) {
-            Some(task) => Runner::Osek(task),
-            None => Runner::Nobody,
+            self.line(self.now, |texts| &texts.accept[owner]);
         }
     }
 
-    fn sync(&mut self) -> u64 {
-        let (config, round) = (self.config, self.config.round);
-        let Some(global) = config.times.get(self.times_used) else {
-            return 1;
-        };
+    fn activation(&mut self) {
+        let due = self.config.modes[self.mode].dues[self.place];
+        if u64::from(due.offset) == self.now - self.round_start {
+            let task = usize::from(due.who);
+            self.place += 1;
+            self.make_ready(task);
+            self.unfinished |= 1 << task;
+            self.stack[self.height & 63] = due.who;
+            self.height += 1;
+            self.words += self.stacks[task];
+            self.report.activations += 1;
+            self.line(self.now, |texts| &texts.activate[task]);
+        }
+    }
+
+    fn next_due(&self) -> u64 {
+        let row = self.round_start + u64::from(self.config.modes[self.mode].dues[self.place].offset);
+        let own = self.round_start + self.length.unwrap_or(self.config.round - self.config.adjust);
+        let arrival = self.config.arrivals.get(self.next_arrival).map_or(u64::MAX, |arrival| arrival >> 6);
+        row.min(own).min(arrival)
+    }
+
+    #[inline]
+    fn who(&self) -> usize {
+        let top = |ready: u32, kind: usize| usize::from(self.by_rank[kind][31 - ready.leading_zeros() as usize]);
+        if self.isr_ready != 0 {
+            top(self.isr_ready, 0)
+        } else if self.height > 0 {
+            usize::from(self.stack[(self.height - 1) & 63])
+        } else if self.oisr_ready != 0 {
+            top(self.oisr_ready, 1)
+        } else if self.osek_ready != 0 {
+            top(self.osek_ready, 2)
+        } else {
+            IDLE
+        }
+    }
+
+    fn finish(&mut self, owner: usize) {
+        self.line(self.now, |texts| &texts.end[owner]);
+        if owner < ISRS {
+            self.height -= 1;
+            self.unfinished &= !(1 << owner);
+            self.words -= self.stacks[owner];
+        } else if owner < OSEKS {
+            self.isr_ready &= !(1 << self.rank[owner]);
+            self.busy &= !(1 << (owner - ISRS));
+            self.words -= self.stacks[owner];
+        } else if owner < OISRS {
+            self.osek_ready &= !(1 << self.rank[owner]);
+        } else {
+            self.oisr_ready &= !(1 << self.rank[owner]);
+            self.busy &= !(1 << (owner - OISRS + 16));
+        }
+    }
+
+    fn sync(&mut self) -> u8 {
+        let Some(&time) = self.config.document.times.get(self.times_used) else { return 1 };
         self.times_used += 1;
-        let ahead = (global + round - self.offset() % round) % round;
-        let least = |ticks: u64| ticks.min(config.adjust) as i64;
-        self.pending = if 2 * ahead <= round { -least(ahead) } else { least(round - ahead) };
+        let (round, most) = (self.config.round as i64, self.config.adjust as i64);
+        let ahead = (time as i64 - (self.now - self.round_start) as i64).rem_euclid(round);
+        self.pending = if 2 * ahead <= round { -ahead.min(most) } else { (round - ahead).min(most) };
         0
     }
 
-    /// Answers a call: the result, whether the caller has ended, and whether it is ready again.
-    fn serve(&mut self, call: Call, runner: Runner) -> (u64, bool, bool) {
-        let config = self.config;
-        match call {
-            Call::Switch(mode) => {
-                self.wanted = mode;
-                (0, false, false)
-            }
-            Call::Sync => (self.sync(), false, false),
-            Call::Shutdown => (0, false, false),
-            Call::Terminate => (0, true, false),
-            Call::Chain(task) if matches!(runner, Runner::Osek(caller) if caller == task) => (0, true, true),
-            Call::Activate(task) | Call::Chain(task) => {
-                if self.oseks[task].is_some() {
-                    return (4, false, false);
+    /// A service that the owner calls at this tick.
+    fn service(&mut self, owner: usize, instr: Instr) -> Effect {
+        let other = OSEKS + instr.b as usize;
+        match instr.op {
+            Op::Switch => {
+                self.wanted = instr.b as usize;
+                self.report.events += 1;
+                if TEXT {
+                    self.lines.begin(self.now);
+                    self.lines.piece(&self.texts.call[owner]);
+                    self.lines.text("ttSwitchAppMode ");
+                    self.lines.text(&self.texts.modes[self.wanted]);
+                    self.lines.text(" 0\n");
                 }
-                self.oseks[task] = Some(Execution::begin(&config.oseks[task].body));
-                (0, matches!(call, Call::Chain(_)), false)
+                Effect::Nothing
             }
-        }
-    }
-
-    fn execution(&mut self, runner: Runner) -> Option<&mut Execution<'a>> {
-        let isrs = self.config.isrs.len();
-        match runner {
-            Runner::Isr(isr) => self.routines[isr].as_mut(),
-            Runner::Job(place) => self.jobs.get_mut(place).map(|job| &mut job.1),
-            Runner::Oisr(oisr) => self.routines[isrs + oisr].as_mut(),
-            Runner::Osek(task) => self.oseks[task].as_mut(),
-            Runner::Nobody => None,
-        }
-    }
-
-    fn finish(&mut self, runner: Runner, again: bool) {
-        let isrs = self.config.isrs.len();
-        self.accepts = true;
-        match runner {
-            Runner::Isr(isr) => self.routines[isr] = None,
-            Runner::Job(_) => drop(self.jobs.pop()),
-            Runner::Oisr(oisr) => self.routines[isrs + oisr] = None,
-            Runner::Osek(task) => self.oseks[task] = again.then(|| Execution::begin(&self.config.oseks[task].body)),
-            Runner::Nobody => {}
-        }
-    }
-
-    fn owner(&self, runner: Runner) -> (Owner, &'a str) {
-        let config = self.config;
-        match runner {
-            Runner::Isr(isr) => (Owner::Isr(isr), config.isrs[isr].name),
-            Runner::Job(place) => {
-                let task = config.modes[self.mode].activations[self.jobs[place].0].task;
-                (Owner::Task(task), config.tasks[task].name)
+            Op::Sync => {
+                let result = self.sync();
+                self.call_line(owner, "ttSyncTimes", None, result);
+                Effect::Nothing
             }
-            Runner::Oisr(oisr) => (Owner::Oisr(oisr), config.oisrs[oisr].name),
-            Runner::Osek(task) => (Owner::Osek(task), config.oseks[task].name),
-            Runner::Nobody => (Owner::Idle, "idle"),
-        }
-    }
-
-    /// The line of a call.
-    fn call_line(&mut self, name: &str, call: Call, result: u64) -> std::io::Result<()> {
-        let config = self.config;
-        let (service, argument) = match call {
-            Call::Switch(mode) => ("ttSwitchAppMode", Some(config.mode_names[mode])),
-            Call::Sync => ("ttSyncTimes", None),
-            Call::Shutdown => ("ttShutdownOS", None),
-            Call::Activate(task) => ("ActivateTask", Some(config.oseks[task].name)),
-            Call::Chain(task) => ("ChainTask", Some(config.oseks[task].name)),
-            Call::Terminate => ("TerminateTask", None),
-        };
-        let text = self.text.number(self.tick).word("call").word(name).word(service);
-        if let Some(argument) = argument {
-            text.word(argument);
-        }
-        self.text.signed(result as i64).end()
-    }
-
-    /// One tick of the one who runs; tells how the run ends, where it does.
-    fn step(&mut self) -> std::io::Result<Option<End>> {
-        let config = self.config;
-        let runner = self.runner();
-        let (owner, name) = self.owner(runner);
-        if self.last != Some(owner) {
-            self.line(&["run", name])?;
-            self.last = Some(owner);
-        }
-        let mut memory = std::mem::replace(&mut self.memory, Memory { vars: Vec::new(), used: Vec::new() });
-        let effect = self.execution(runner).map_or(Effect::Nothing, |e| e.tick(&config.demands, &mut memory));
-        self.memory = memory;
-        let (mut ends, mut again) = (false, false);
-        match effect {
-            Effect::Nothing => {}
-            Effect::Out(value) => self.text.number(self.tick).word("out").word(name).signed(i64::from(value)).end()?,
-            Effect::Call(call) => {
-                let result;
-                (result, ends, again) = self.serve(call, runner);
-                self.call_line(name, call, result)?;
-                if matches!(call, Call::Shutdown) {
-                    self.shut_down()?;
-                    return Ok(Some(End::Shut));
+            Op::Shutdown => {
+                self.call_line(owner, "ttShutdownOS", None, 0);
+                self.shut_down(End::Shutdown);
+                Effect::Shutdown
+            }
+            Op::Terminate => {
+                self.call_line(owner, "TerminateTask", None, 0);
+                Effect::Gone
+            }
+            Op::Chain if other == owner => {
+                self.call_line(owner, "ChainTask", Some(other), 0);
+                Effect::Again
+            }
+            _ => {
+                let chains = instr.op == Op::Chain;
+                let suspended = self.osek_ready >> self.rank[other] & 1 == 0;
+                let name = if chains { "ChainTask" } else { "ActivateTask" };
+                self.call_line(owner, name, Some(other), if suspended { 0 } else { 4 });
+                if !suspended {
+                    return Effect::Nothing;
                 }
+                self.make_ready(other);
+                self.osek_ready |= 1 << self.rank[other];
+                if chains { Effect::Gone } else { Effect::Change }
             }
         }
-        self.tick += 1;
-        if ends || self.execution(runner).is_some_and(|e| e.has_ended()) {
-            self.finish(runner, again);
-            self.line(&["end", name])?;
-        }
-        Ok(None)
     }
 
-    fn run(mut self) -> std::io::Result<End> {
-        let mode = self.config.mode_names[self.mode];
-        self.line(&["os", "start", mode])?;
-        self.line(&["round", "1", mode])?;
+    /// Runs the owner until something is due, it ends, or another may run; whether the run goes on.
+    fn run_owner(&mut self, owner: usize, due: u64) -> bool {
+        let (code, terms) = (self.code, self.terms);
+        let mut frame = self.frames[owner];
         loop {
-            let mut end = self.open()?;
-            if end.is_none() {
-                end = self.step()?;
+            let mut effect = Effect::Nothing;
+            if frame.work > 0 {
+                let ticks = frame.work.min(due - self.now);
+                frame.work -= ticks;
+                self.now += ticks;
+                if frame.work == 0 {
+                    frame.settle(code);
+                }
+            } else {
+                let instr = code[frame.at as usize];
+                let first = instr.c as usize;
+                frame.at += 1;
+                match instr.op {
+                    Op::Set | Op::If | Op::Out => {
+                        let value = value(&terms[first..first + usize::from(instr.a)], &self.vars);
+                        match instr.op {
+                            Op::Set => self.vars[instr.b as usize & 255] = value,
+                            Op::If if value == 0 => frame.at = instr.b,
+                            Op::If => {}
+                            _ => self.out_line(owner, value),
+                        }
+                        frame.settle(code);
+                    }
+                    Op::Repeat => {
+                        let turns = &mut frame.turns[usize::from(instr.a & 3)];
+                        *turns = if *turns == 0 { instr.b - 1 } else { *turns - 1 };
+                        frame.settle(code);
+                    }
+                    Op::Take => {
+                        let demand = instr.b as usize;
+                        let used = self.used[demand] as usize;
+                        let given = self.config.values[demand].get(used).copied();
+                        self.used[demand] += u32::from(given.is_some());
+                        frame.work = given.map_or(self.config.document.demands[demand].2, u64::from);
+                        if frame.work == 0 {
+                            frame.settle(code);
+                        }
+                    }
+                    _ => {
+                        frame.settle(code);
+                        effect = self.service(owner, instr);
+                        if matches!(effect, Effect::Shutdown) {
+                            return false;
+                        }
+                    }
+                }
+                self.now += 1;
             }
-            if let Some(end) = end {
-                self.text.send()?;
-                return Ok(end);
+            match effect {
+                Effect::Again => {
+                    self.line(self.now, |texts| &texts.end[owner]);
+                    self.make_ready(owner);
+                    return true;
+                }
+                Effect::Nothing | Effect::Change if !frame.ended(code) => {
+                    if self.now == due || matches!(effect, Effect::Change) {
+                        self.frames[owner] = frame;
+                        return true;
+                    }
+                }
+                _ => {
+                    self.finish(owner);
+                    return true;
+                }
             }
         }
+    }
+
+    fn run(&mut self) {
+        let start = self.config.mode_name(self.mode);
+        self.rare(0, &[" os start ", start]);
+        self.round_line();
+        let mut due = 0;
+        let mut last = OWNERS;
+        loop {
+            let is_due = self.now == due;
+            if is_due && !self.before_acceptances() {
+                break;
+            }
+            let sources = self.held & (self.enabled | OISR_GATES) & !self.busy;
+            if sources != 0 {
+                self.accept_all(sources);
+            }
+            if is_due {
+                self.activation();
+                due = self.next_due();
+            }
+            self.report.deepest = self.report.deepest.max(self.height as u64 + u64::from(self.isr_ready.count_ones()));
+            self.report.words = self.report.words.max(self.words);
+            let owner = self.who();
+            if owner != last {
+                self.line(self.now, |texts| &texts.run[owner]);
+                last = owner;
+            }
+            if owner == IDLE {
+                self.now = due;
+            } else if !self.run_owner(owner, due) {
+                break;
+            }
+            if TEXT && self.lines.failed() {
+                break;
+            }
+        }
+        self.report.ticks = self.now;
     }
 }
 
-fn run(config: &Config) -> std::io::Result<End> {
-    let at_end = |(entry, point): (usize, Option<u64>)| (point.unwrap_or(u64::MAX), entry);
-    let mut checks: Vec<Checks> = Vec::new();
-    for mode in &config.modes {
-        let mut points: Checks = mode.points().into_iter().enumerate().map(at_end).collect();
-        points.sort_unstable();
-        checks.push(points);
+fn source_owner(source: usize) -> usize {
+    if source < 16 { ISRS + source } else { OISRS + source - 16 }
+}
+
+/// Runs the configuration. With TEXT its lines are written.
+pub fn run<const TEXT: bool>(config: &Config, lines: &mut Lines) -> Report {
+    let document = &config.document;
+    let mut vars = [0; 256];
+    for (var, one) in vars.iter_mut().zip(&document.vars) {
+        *var = one.1;
     }
-    let mut arrivals = Vec::new();
-    for (source, ticks) in config.arrivals.iter().enumerate() {
-        arrivals.extend(ticks.iter().map(|tick| (*tick, source)));
-    }
-    arrivals.sort_unstable();
-    let sources = config.arrivals.len();
-    let ready = |task: &'_ config::Osek| task.auto;
-    let run = Run {
+    let report = Report { ticks: 0, rounds: 1, events: 0, activations: 0, deepest: 0, words: 0, end: End::LastRound };
+    let mut run: Run<TEXT> = Run {
         config,
-        checks: &checks,
-        arrivals,
-        text: Text { bytes: Vec::with_capacity(1 << 16) },
-        tick: 0,
-        start: 0,
-        number: 1,
+        code: &document.code,
+        terms: &document.terms,
+        lines,
+        texts: Texts::new(config, TEXT),
+        report,
+        now: 0,
+        round_start: 0,
         mode: config.start,
         wanted: config.start,
         pending: 0,
-        latched: None,
+        length: None,
         times_used: 0,
-        next_check: 0,
-        next_enable: 0,
-        next_activation: 0,
+        place: 0,
         next_arrival: 0,
-        next_due: 0,
-        accepts: false,
-        jobs: Vec::new(),
-        enabled: vec![true; sources],
-        held: vec![false; sources],
-        routines: (0..sources).map(|_| None).collect(),
-        oseks: config.oseks.iter().map(|task| ready(task).then(|| Execution::begin(&task.body))).collect(),
-        last: None,
-        memory: Memory { vars: config.vars.clone(), used: vec![0; config.demands.len()] },
+        frames: [Frame::default(); OWNERS],
+        starts: [0; OWNERS],
+        stacks: [0; OWNERS],
+        stack: [0; 64],
+        height: 0,
+        unfinished: 0,
+        words: 0,
+        vars,
+        used: vec![0; document.demands.len()],
+        held: 0,
+        enabled: u32::MAX,
+        busy: 0,
+        isr_ready: 0,
+        oisr_ready: 0,
+        osek_ready: 0,
+        rank: [0; OWNERS],
+        by_rank: [[0; 32]; 3],
     };
-    run.run()
-}
-
-fn answer(rows: &[NumberedRow]) -> ExitCode {
-    let Some(config) = config_of(rows) else {
-        return ExitCode::from(70);
-    };
-    match run(&config) {
-        Ok(End::Stopped) => ExitCode::SUCCESS,
-        Ok(End::Missed) => ExitCode::from(9),
-        Ok(End::Shut) => ExitCode::from(10),
-        Err(_) => ExitCode::from(4),
+    for (owner, task) in document.tasks.iter().enumerate() {
+        run.starts[owner] = task.body.start;
+        run.stacks[owner] = u64::from(task.stack);
     }
+    for (owner, isr) in (ISRS..).zip(&document.isrs) {
+        run.starts[owner] = isr.body.start;
+        run.stacks[owner] = u64::from(isr.stack);
+    }
+    let mut orders: [Vec<(u32, usize)>; 3] = [
+        document.isrs.iter().map(|isr| isr.level).zip(ISRS..).collect(),
+        document.oisrs.iter().map(|oisr| oisr.priority).zip(OISRS..).collect(),
+        document.oseks.iter().map(|osek| osek.priority).zip(OSEKS..).collect(),
+    ];
+    for (order, by_rank) in orders.iter_mut().zip(&mut run.by_rank) {
+        order.sort_unstable();
+        for (rank, &(_, owner)) in order.iter().enumerate() {
+            run.rank[owner] = rank as u8;
+            by_rank[rank] = owner as u8;
+        }
+    }
+    for (owner, oisr) in (OISRS..).zip(&document.oisrs) {
+        run.starts[owner] = oisr.body.start;
+    }
+    for (owner, osek) in (OSEKS..).zip(&document.oseks) {
+        run.starts[owner] = osek.body.start;
+        if osek.auto {
+            run.make_ready(owner);
+            run.osek_ready |= 1 << run.rank[owner];
+        }
+    }
+    run.run();
+    run.report
 }
 
-fn main() -> ExitCode {
-    answer_input(answer)
+/// The seven lines of `load`.
+pub fn summary(config: &Config, report: &Report) -> String {
+    let (depth, words) = bounds(config);
+    let end = match report.end {
+        End::LastRound => "last round".to_string(),
+        End::Missed(task) => format!("missed {}", config.task_name(task)),
+        End::Shutdown => "shutdown".to_string(),
+    };
+    format!(
+        "ticks {}\nrounds {}\nevents {}\nactivations {}\ndepth {} of {depth}\nwords {} of {words}\nend {end}\n",
+        report.ticks, report.rounds, report.events, report.activations, report.deepest, report.words
+    )
 }
