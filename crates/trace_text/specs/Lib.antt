@@ -1,1 +1,4 @@
 pub mod Lines
+pub mod ListRecorder
+pub mod Noted
+pub mod Records

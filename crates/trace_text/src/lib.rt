@@ -1,8 +1,19 @@
-//! The text of a trace: the line of each event. Other printed lines are made of the same words.
+//! The text of a trace: the line of each event, and who notes events. Other printed lines are made of the same words.
 #![tactic(auto)]
 
+mod discard;
 mod event_line;
 mod line;
+mod list_recorder;
+mod notes;
+mod recorder;
 
+pub use discard::Discard;
 pub use event_line::line_of;
 pub use line::Line;
+pub use list_recorder::ListRecorder;
+pub use notes::{note_all, note_one};
+pub use recorder::{Failed, Noted, Recorder};
+
+#[cfg(test)]
+mod tests;
