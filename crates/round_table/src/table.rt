@@ -124,6 +124,20 @@ impl Table {
         self.activations.len()
     }
 
+    /// The rows that activate, in ascending order of offset: the place of a row is its entry number.
+    pub fn activations(&self) -> &[Activation]
+        ensures { result.now ≡ self.now.mode.activations }
+    {
+        &self.activations
+    }
+
+    /// The rows that enable, in ascending order of offset, and then of the routine's number.
+    pub fn enables(&self) -> &[Enable]
+        ensures { result.now ≡ self.now.mode.enables }
+    {
+        &self.enables
+    }
+
     /// The row that activates, of an entry number.
     pub fn activation(&self, entry: usize) -> Activation
         requires { entry < length self.now.mode.activations }

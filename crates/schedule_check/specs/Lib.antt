@@ -1,0 +1,4 @@
+pub mod Least
+pub mod TablesOf
+pub mod Responses
+pub mod Kept

@@ -1,0 +1,15 @@
+//! The schedule check: before any run, whether each activation of a configuration has finished by
+//! its deadline in every run of a script that keeps its declared bounds, when it has finished at
+//! the latest, and how deep activations and routines are nested at most. The formulas are the
+//! bench's own; deadlines and their monitoring are the OSEK/VDX standard's. No call takes memory.
+#![tactic(auto)]
+
+mod answers;
+mod bounds;
+mod demands;
+mod responses;
+
+pub use answers::{CheckAnswer, check};
+pub use bounds::kept;
+pub use demands::demand;
+pub use responses::response;
