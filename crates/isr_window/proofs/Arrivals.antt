@@ -43,29 +43,7 @@ arrivals_ascend c s rules (OisrSource oisr) = each_ascends s.arrivals.oisrs rule
 
 -- ---- the arrivals to come
 
--- before tick 0 all are to come
-pub new_are : (c : ConfigParts) (s : ScriptParts) → IsScript c s → AreSourcesOf c (new_window s.arrivals)
-new_are c s rules = record {
-  isrs = rules.isrs;
-  oisrs = rules.oisrs;
-  isrs_held = length-replicate (length s.arrivals.isrs) false ∙ rules.isrs;
-  oisrs_held = length-replicate (length s.arrivals.oisrs) false ∙ rules.oisrs;
-}
-
--- the gates before tick 0 are those of the first world
-pub new_seen : (c : ConfigParts) (s : ScriptParts) → IsScript c s
-    → with_window (first_world c s) (new_window s.arrivals) ≡ first_world c s
-new_seen c s rules =
-    ap
-    (λ n. record (first_world c s) {
-      isrs_enabled = replicate n true;
-      isrs_held = replicate n false;
-      oisrs_held =
-          replicate (length s.arrivals.oisrs) false;
-    }) rules.isrs
-    ∙ ap (λ n. record (first_world c s) { oisrs_held = replicate n false }) rules.oisrs
-
--- and all arrivals of the script are to come
+-- before tick 0 all arrivals of the script are to come
 pub new_left : (c : ConfigParts) (s : ScriptParts) → IsScript c s → AreLeftFrom c s 0 (new_window s.arrivals)
 new_left c s rules = record { left = λ k below. all (source_at c k) }
   where

@@ -91,12 +91,6 @@ pub accepting_is : (w : World) (g : Window) (x : Source)
 accepting_is w g (IsrSource x) = refl
 accepting_is w g (OisrSource x) = refl
 
--- there are as many time-triggered sources after an arrival or an acceptance as before
-pub length-taking : (found : Option Source) (g : Window) → length (taking found g).isrs_enabled ≡ length g.isrs_enabled
-length-taking None g = refl
-length-taking (Some (IsrSource x)) g = refl
-length-taking (Some (OisrSource x)) g = refl
-
 -- the same of an acceptance
 pub length-accepting : (found : Option Source) (g : Window)
     → length (accepting found g).isrs_enabled ≡ length g.isrs_enabled

@@ -1,5 +1,4 @@
 pub mod Told
-pub mod AcceptedRows
 pub mod EventLines
 pub mod TablePlaces
 pub mod TableTexts

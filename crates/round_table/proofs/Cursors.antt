@@ -103,11 +103,6 @@ module _ (table : TableRows) where
         ∙ append-nil (expiry_below table offset))
         (cases_lt n offset)
 
-  -- the cursor of offset 0
-  pub cursor_first : IsCursor table 0 0
-  unfolding below
-  cursor_first = refl
-
   module _ (past : (offset : ℕ) → table.limit < offset → IsFree offset table.mode) where
     abbrev end : ℕ
     end = suc table.limit

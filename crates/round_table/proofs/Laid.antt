@@ -79,15 +79,6 @@ module _ {X : Type 0} (at : ℕ → List X) where
   unfolding below
   below_nothing n none = ap (λ xs. length (below at n ++ xs)) none ∙ ap length (append-nil (below at n))
 
-  -- where nothing is added there is nothing
-  pub below_none : (k n : ℕ) → length (below at n) ≡ length (below at k) → (j : ℕ) → k ≤ j → j < n → at j ≡ []
-  unfolding below
-  below_none k n same j kj jn =
-      nil_from_length (at j)
-      (let first = below_rises k j kj in
-      let last = below_rises (suc j) n (omega arith) in
-      omega (arith, length-append (below at j) (at j)))
-
   pub all_below : (P : X → Type 0) → ((k : ℕ) → All P (at k)) → (n : ℕ) → All P (below at n)
   unfolding below
   all_below P h zero = All-nil P

@@ -89,21 +89,3 @@ with_more places xs y h =
       λ k l m. absurd (omega arith),
       alike places (length xs) xs (xs ++ y ∷ []) (λ k l. get_or-append xs (y ∷ []) no_job k l) h,
     )
-
--- what is left of the last one changes
-with_last : (place : ℕ) (before : List ℕ) (xs ys : List Job) (to : ℕ) → ((k : ℕ) → k ≢ place → job_at ys k ≡ job_at xs k) → AreUnfinished (place ∷ before) to xs → AreUnfinished (place ∷ before) to ys
-with_last place before xs ys to same h =
-    (h.0, λ k l m. ap (λ x. is_done x.left) (same k (λ e. omega arith)) ∙ h.1 k l m, alike before place xs ys (λ k l. same k (λ e. omega arith)) h.2)
-
-pub with_changed : (places : List ℕ) (place : ℕ) (xs : List Job) (left : List Stmt) → slice_get places 0 ≡ Some place
-    → AreUnfinished places (length xs) xs → AreUnfinished places (length (with_left xs place left)) (with_left xs place left)
-with_changed [] place xs left e h = cc
-with_changed (p ∷ before) place xs left e h =
-    let same : p ≡ place = cc in
-    let long = length-set xs place (record { entry = (job_at xs place).entry; left = left }) in
-    rw long (with_last p before xs _ (length xs) (λ k ne. at_other xs place k left (λ e. ne (e ∙ sym same))) h)
-
--- the last place is one of the list
-pub last_there : (places : List ℕ) (place : ℕ) (xs : List Job) → slice_get places 0 ≡ Some place
-    → AreUnfinished places (length xs) xs → place < length xs
-last_there places place xs e h = last_below places place (length xs) xs e h

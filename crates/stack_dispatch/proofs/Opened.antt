@@ -244,7 +244,7 @@ module _ (c : ConfigParts) (s : ScriptParts) where
           tick = subst (λ t. t + 1 < 2 ^ 64) (sym (ap (λ (x : World). x.tick) is ∙ opened_tick)) room;
           started = (subst (Timed Begun c s) (sym is) opened_timed).started;
           mode = has_mode c st.world named;
-          callees = named.lefts (runner_of c st.world);
+          runnable = named.lefts (runner_of c st.world);
         }
 
   pub instant_over : (w v : World) (a b : List Event) (end : Outcome) (last : RunEnd) → Gives a b v end (opening c s w) → end ≡ Some last

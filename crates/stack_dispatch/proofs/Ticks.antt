@@ -2,7 +2,7 @@
 use Rattle.std.proofs.Common.{ℕ, ◌≡◌, ◌-◌, ◌≤◌, List, [], ◌∷◌, ◌++◌, true, false, Bool, refl, ap, sym, ◌∙◌, None, Some, subst, arith, append-nil, append_assoc}
 use Rattle.std.specs.Prelude.{ℤ, ◌&&◌, Option, option_map, length}
 use Rattle.task_lang.specs.Tick.{tick}
-use Rattle.task_lang.specs.Limits.{HasCallees, names_below}
+use Rattle.task_lang.specs.Limits.{names_below}
 use Rattle.task_lang.specs.declared.syntax.Stmt.{Stmt}
 use Rattle.task_lang.specs.declared.tick.Effect.{Effect}
 use Rattle.task_lang.specs.declared.tick.Effect.TheVariants as effect
@@ -14,7 +14,7 @@ use Rattle.tt_world.specs.declared.config.ConfigParts.{ConfigParts}
 use Rattle.tt_world.specs.declared.script.ScriptParts.{ScriptParts}
 use Rattle.tt_world.specs.declared.world.Runner.{Runner}
 use Rattle.tt_world.specs.declared.world.Runner.TheVariants as runner
-use Rattle.tt_world.specs.ConfigRules.{IsConfig}
+use Rattle.tt_world.specs.ConfigRules.{IsConfig, IsRunnable}
 use Rattle.tt_world.specs.World.{World}
 use Rattle.tt_world.specs.Moved.{Moved, Outcome, Gives, preceded, followed, is_over}
 use Rattle.tt_world.specs.Runners.{is_done, left_of, leaving, first_runner, runner_of, owner_of}
@@ -139,11 +139,11 @@ module _ (c : ConfigParts) (s : ScriptParts) (r : Runner) (who : Owner) (w now :
   tick_call k a b world end ended e h =
       subst (IsTick a b world end ended) (sym (tick_is (effect.Service k ∷ []) e)) (h.calls left mid calling)
 
-  pub call_named : IsConfig c → HasCallees (length c.modes) (length c.oseks) (left_of w r) → (k : Call)
+  pub call_named : IsConfig c → IsRunnable c (left_of w r) → (k : Call)
       → effects ≡ effect.Service k ∷ [] → names_below (length c.modes) (length c.oseks) k ≡ true
-  call_named rules callees k e =
+  call_named rules runnable k e =
       let all : EffectsNamed c s rules (effect.Service k ∷ []) =
-      subst (EffectsNamed c s rules) (sym t.effects_are ∙ e) (effects_named c s rules w (left_of w r) callees) in
+      subst (EffectsNamed c s rules) (sym t.effects_are ∙ e) (effects_named c s rules w (left_of w r) runnable) in
       all.0
 
 -- nobody's tick does nothing

@@ -2,7 +2,6 @@
 use Rattle.std.specs.Prelude.{ℕ, ℤ, ◌≡◌, ◌+◌, ◌^◌, ◌<◌, ◌≤◌, Bool, false, List, length}
 use Rattle.task_lang.specs.declared.tick.Effect.{Effect}
 use Rattle.task_lang.specs.Tick.{State}
-use Rattle.task_lang.specs.Limits.{HasCallees}
 use Rattle.task_lang.specs.declared.syntax.Stmt.{Stmt}
 use Rattle.tt_base.specs.declared.event.Call.{Call}
 use Rattle.tt_base.specs.declared.event.Event.{Event}
@@ -11,7 +10,7 @@ use Rattle.tt_world.specs.declared.config.ConfigParts.{ConfigParts}
 use Rattle.tt_world.specs.declared.script.ScriptParts.{ScriptParts}
 use Rattle.tt_world.specs.declared.world.Runner.{Runner}
 use Rattle.tt_world.specs.declared.world.Runner.TheVariants.{Nobody}
-use Rattle.tt_world.specs.ConfigRules.{IsConfig}
+use Rattle.tt_world.specs.ConfigRules.{IsConfig, IsRunnable}
 use Rattle.tt_world.specs.World.{World, Job}
 use Rattle.tt_world.specs.Rows.{HasMode}
 use Rattle.tt_world.specs.Runners.{is_done, left_of, leaving, runner_of, with_left}
@@ -21,15 +20,15 @@ use Rattle.tt_world.specs.Step.{RunnerTick, state_after, called}
 use Rattle.stack_dispatch.specs.Serving.{IsCalling}
 use Rattle.stack_dispatch.specs.State.{RunState, IsFor}
 
--- the one who runs can take a tick: the next tick has a number, the round has begun, the present mode exists, and so
--- do the modes and the OSEK tasks that the services of the one who runs name
+-- the one who runs can take a tick: the next tick has a number, the round has begun, the present mode exists, and what
+-- is left of the one who runs has short expressions and names what is declared
 pub record CanTick (c : ConfigParts) (s : ScriptParts) (state : RunState) : Type 0 where
   pub rules : IsConfig c
   pub kept : IsFor c s state.beside
   pub tick : state.world.tick + 1 < 2 ^ 64
   pub started : state.world.start ≤ state.world.tick
   pub mode : HasMode c state.world
-  pub callees : HasCallees (length c.modes) (length c.oseks) (left_of state.world (runner_of c state.world))
+  pub runnable : IsRunnable c (left_of state.world (runner_of c state.world))
 
 -- the one who runs has something left, or is nobody
 abbrev pub IsReady : World → Runner → Type 0

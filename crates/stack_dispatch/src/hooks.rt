@@ -1,8 +1,10 @@
 //! The hooks. A hook is played whole at one instant.
 
-ghost use Rattle.std.specs.Prelude.{◌≡◌, ◌++◌, IfOk, Some};
+ghost use Rattle.std.specs.Prelude.{◌≡◌, ◌++◌, true, IfOk, Some};
+ghost use Rattle.task_lang.specs.Limits.{AreExpressionsShort, is_expression_short};
 ghost use Rattle.task_lang.specs.declared.syntax.Stmt.{out-Stmt};
 ghost use Rattle.tt_world.specs.Hooks.{vars_by, outs_by, vars_after, outs_of, shuts_down, misses};
+ghost use Rattle.tt_world.specs.ConfigRules.{IsConfig};
 ghost use Rattle.tt_world.specs.Moved.{Gives};
 
 use crate::state::State;
@@ -20,6 +22,7 @@ fn play_statement(
     vars: &mut Vars,
     events: &mut Series<Event>,
 ) -> Result<(), Memory>
+    requires { is_expression_short (out-Stmt stmt.now) ≡ true }
     ensures vars { IfOk result (λ _. vars.new ≡ vars_by vars.old (out-Stmt stmt.now)) }
     ensures events { IfOk result (λ _.
         events.new ≡ events.old ++ outs_by at hook vars.old (out-Stmt stmt.now)) }
@@ -48,6 +51,7 @@ fn play(
     vars: &mut Vars,
     events: &mut Series<Event>,
 ) -> Result<(), Memory>
+    requires { AreExpressionsShort body.now }
     ensures vars { IfOk result (λ _. vars.new ≡ vars_after vars.old body.now) }
     ensures events { IfOk result (λ _.
         events.new ≡ events.old ++ outs_of at hook vars.old body.now) }
@@ -66,6 +70,7 @@ impl State {
         end: RunEnd,
         events: &mut Series<Event>,
     ) -> Result<Option<RunEnd>, Memory>
+        requires { IsConfig config.now }
         ensures gives { IfOk result (λ over. Gives events.old events.new self.new.world over
             (shuts_down config.now (Some end) self.old.world)) }
         ensures beside { IfOk result (λ _. self.new.beside ≡ self.old.beside) }
@@ -91,6 +96,7 @@ impl State {
         task: TaskNo,
         events: &mut Series<Event>,
     ) -> Result<Option<RunEnd>, Memory>
+        requires { IsConfig config.now }
         ensures gives { IfOk result (λ over. Gives events.old events.new self.new.world over
             (misses config.now task self.old.world)) }
         ensures beside { IfOk result (λ _. self.new.beside ≡ self.old.beside) }

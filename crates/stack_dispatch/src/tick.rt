@@ -1,8 +1,9 @@
 //! One tick of the one who runs.
 
 ghost use Rattle.std.specs.Prelude.{◌≡◌, ◌+◌, ◌^◌, ◌<◌, ◌≤◌, ◌++◌, ◌&&◌, [], false, true, None, length, IfOk, OnErr, option_to_list};
-ghost use Rattle.task_lang.specs.Limits.{names_below};
+ghost use Rattle.task_lang.specs.Limits.{AreExpressionsShort, names_below};
 ghost use Rattle.task_lang.specs.Tick.{tick, supply_of, state_of};
+ghost use Rattle.tt_world.specs.ConfigRules.{IsConfig};
 ghost use Rattle.tt_world.specs.Moved.{Gives};
 ghost use Rattle.tt_world.specs.Runners.{is_done, left_of, job_at, runner_of};
 ghost use Rattle.tt_world.specs.Services.{is_shutdown};
@@ -55,7 +56,8 @@ fn tick_job(
     config: &ConfigParts,
     script: &ScriptParts,
 ) -> Result<Option<Effect>, Memory>
-    requires { place < length jobs.old }
+    requires place { place < length jobs.old }
+    requires short { AreExpressionsShort (job_at jobs.old place).left }
     ensures ok { IfOk result (λ effect.
         IsJobTicked jobs.old place jobs.new vars.new cursors.new (option_to_list effect)
         (tick (supply_of config.now.demands script.now.values)
@@ -81,7 +83,8 @@ impl State {
         script: &ScriptParts,
         runner: Runner,
     ) -> Result<Option<Effect>, Memory>
-        requires { is_done (left_of self.old.world runner) ≡ false }
+        requires some { is_done (left_of self.old.world runner) ≡ false }
+        requires short { AreExpressionsShort (left_of self.old.world runner) }
         ensures ticks { IfOk result (λ effect.
             TicksLeft config.now script.now runner self.old.world self.new.world
             (option_to_list effect)) }
@@ -133,6 +136,7 @@ impl State {
         call: Call,
         events: &mut Series<Event>,
     ) -> Result<Ticked, Memory>
+        requires rules { IsConfig config.now }
         requires kept { IsFor config.now script.now self.old.beside }
         requires started { self.old.world.start ≤ self.old.world.tick }
         requires names { names_below (length config.now.modes) (length config.now.oseks) call

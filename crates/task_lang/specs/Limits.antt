@@ -154,10 +154,6 @@ HasDemands count body = IsTrue (each_in (has_demand count) body)
 abbrev pub HasCallees : (modes oseks : ℕ) → List Stmt → Type 0
 HasCallees modes oseks body = IsTrue (each_in (has_callee modes oseks) body)
 
--- An owner of this kind may have each of the statements.
-abbrev pub AreAllowed : OwnerKind → List Stmt → Type 0
-AreAllowed kind body = IsTrue (each_in (is_allowed kind) body)
-
 -- A demand asks for at most 10,000,000 ticks.
 abbrev pub AreMostsInRange : List Demand → Type 0
 AreMostsInRange demands = IsTrue (list_all (λ demand. nat_le demand.most 10000000) demands)

@@ -1,8 +1,9 @@
 //! One tick of what is left of a body.
 
-ghost use Rattle.std.specs.Prelude.{◌≡◌, ◌+◌, ◌-◌, ◌<◌, ◌≤◌, ◌↔◌, [], ◌∷◌, ◌++◌, length, reverse, IsTrue, IfOk, OnOk, OnErr, vec_len, vec_capacity, option_to_list, slice_get, slice_index, slice_index_or};
+ghost use Rattle.std.specs.Prelude.{◌≡◌, ◌+◌, ◌-◌, ◌<◌, ◌≤◌, ◌↔◌, [], ◌∷◌, ◌++◌, true, length, reverse, IsTrue, IfOk, OnOk, OnErr, vec_len, vec_capacity, option_to_list, slice_get, slice_index, slice_index_or};
 ghost use Rattle.task_lang.specs.declared.syntax.Stmt.{out-Stmt};
 ghost use Rattle.task_lang.specs.declared.syntax.Stmt.TheVariants as s;
+ghost use Rattle.task_lang.specs.Limits.{AreExpressionsShort, is_expression_short, terms_of};
 ghost use Rattle.task_lang.specs.Value.{value_of};
 ghost use Rattle.task_lang.specs.Tick.{supply_of, state_of, work_then, repeat_then, branch, usual_of, given, use_one, tick, tick_by};
 
@@ -77,7 +78,7 @@ impl Left {
     }
 
     /// One tick of the statement in front, and its effect, if it has one. Where nothing is left, nothing happens. A variable or
-    /// a demand that is not there counts as 0 and keeps nothing. `Memory`: nothing has changed.
+    /// a demand that is not there counts as 0 and keeps nothing. Each expression has at most 100 terms. `Memory`: nothing has changed.
     #[tactic(auto, unfolding(crate::specs::Tick::tick))]
     pub fn tick(
         &mut self,
@@ -87,6 +88,7 @@ impl Left {
         demands: &Demands,
         values: &Values,
     ) -> Result<Option<Effect>, Memory>
+        requires { AreExpressionsShort self.old }
         ensures ok { IfOk result (λ effect.
             state_of self.new vars.new cursors.new (option_to_list effect)
             ≡ tick (supply_of demands.now values.now) (state_of self.old vars.old cursors.old [])) }
@@ -119,7 +121,8 @@ fn tick_front(
     demands: &Demands,
     values: &Values,
 ) -> Result<Option<Effect>, Memory>
-    requires { vec_len stack.old < vec_capacity stack.old }
+    requires room { vec_len stack.old < vec_capacity stack.old }
+    requires short { is_expression_short (out-Stmt front) ≡ true }
     ensures ok { let rest = reverse stack.old.items in IfOk result (λ effect.
         state_of (reverse stack.new.items) vars.new cursors.new (option_to_list effect)
         ≡ tick_by (supply_of demands.now values.now)
@@ -206,7 +209,8 @@ fn put_branch(
     second: Body,
     vars: &Vars,
 ) -> Result<(), Memory>
-    requires { vec_len stack.old < vec_capacity stack.old }
+    requires room { vec_len stack.old < vec_capacity stack.old }
+    requires short { terms_of expr ≤ 100 }
     ensures ok { OnOk result (reverse stack.new.items
         ≡ branch (value_of vars.now expr) first second ++ reverse stack.old.items) }
     ensures err { OnErr result (stack.new.items ≡ stack.old.items ++ s.If expr first second ∷ []) }

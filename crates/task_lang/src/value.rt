@@ -1,14 +1,16 @@
 //! The value of an expression.
 
-ghost use Rattle.std.specs.Prelude.{◌≡◌};
+ghost use Rattle.std.specs.Prelude.{◌≡◌, ◌≤◌};
+ghost use Rattle.task_lang.specs.Limits.{terms_of};
 ghost use Rattle.task_lang.specs.Value.{value_of, result_of};
 
 use crate::syntax::{Expr, Op};
 use crate::vars::Vars;
 
-/// The value of an expression. A variable that `vars` does not have counts as 0. It calls itself once for each term, of which
-/// the rules allow 100.
+/// The value of an expression of at most 100 terms. A variable that `vars` does not have counts as 0. It
+/// calls itself once for each term, so that the bound on terms bounds the native stack too.
 pub fn value(expr: &Expr, vars: &Vars) -> i32
+    requires { terms_of expr.now ≤ 100 }
     ensures { result ≡ value_of vars.now expr.now }
 {
     match expr {

@@ -1,5 +1,5 @@
--- The present and the wanted mode exist, and so does each mode and OSEK task that is named in what is left of anybody.
-use Rattle.std.proofs.Common.{ℕ, ◌≡◌, ◌≢◌, ◌<◌, ◌≤◌, ◌+◌, ◌-◌, List, [], ◌∷◌, ◌++◌, Bool, true, false, Option, None, Some, refl, ap, sym, ◌∙◌, subst, eqb, arith, length, ◌⊎◌, ⊎_elim, inl, inr, get_or, set, get_or-set_same, get_or-set_other}
+-- The present and the wanted mode exist, and what is left of anybody has short expressions and names what is declared.
+use Rattle.std.proofs.Common.{ℕ, suc, ◌≡◌, ◌≢◌, ◌<◌, ◌≤◌, ◌+◌, ◌-◌, List, [], ◌∷◌, ◌++◌, Bool, true, false, Option, None, Some, refl, ap, sym, ◌∙◌, subst, eqb, arith, length, ◌⊎◌, ⊎_elim, inl, inr, get_or, set, get_or-set_same, get_or-set_other}
 use Rattle.std.specs.Prelude.{◌==◌, ◌&&◌, map, replicate, if◌then◌else◌}
 use Rattle.std.specs.List.{list_any}
 use Rattle.std.proofs.Math.ListN.{get_or-map}
@@ -18,7 +18,9 @@ use Rattle.task_lang.specs.declared.syntax.Stmt.TheFolds.{map-Stmt}
 use Rattle.task_lang.specs.declared.syntax.Stmt.TheFolds.{fold_out-Stmt}
 use Rattle.task_lang.specs.declared.tick.Effect.{Effect}
 use Rattle.task_lang.specs.declared.tick.Effect.TheVariants as effect
-use Rattle.task_lang.specs.Limits.{HasCallees, has_callee, names_below, each_of, inner_pass}
+use Rattle.task_lang.specs.declared.allowed.OwnerKind.{OwnerKind}
+use Rattle.task_lang.specs.declared.allowed.OwnerKind.TheVariants as owner
+use Rattle.task_lang.specs.Limits.{has_callee, has_demand, has_variables, is_expression_short, names_below, each_of, inner_pass}
 use Rattle.task_lang.specs.Tick.{supply_of, state_of, tick, tick_by}
 use Rattle.task_lang.specs.TickLaws.{LastsThroughTicks}
 use Rattle.task_lang.proofs.Ticking.{keeps_each}
@@ -27,7 +29,7 @@ use Rattle.tt_world.specs.declared.script.ScriptParts.{ScriptParts}
 use Rattle.tt_world.specs.declared.world.Runner.{Runner}
 use Rattle.tt_world.specs.declared.world.Runner.TheVariants as runner
 use Rattle.tt_world.specs.World.{World, Source, IsrSource, OisrSource, Job}
-use Rattle.tt_world.specs.ConfigRules.{IsConfig, IsIsr, IsOisr, IsOsek, IsTask}
+use Rattle.tt_world.specs.ConfigRules.{IsBody, IsConfig, IsIsr, IsOisr, IsOsek, IsRunnable, IsTask}
 use Rattle.tt_world.specs.Rows.{HasMode, offset_of, mode_of, enables_at, entry_at, no_isr, no_oisr, no_osek, no_task, routine_of, osek_body, body_of}
 use Rattle.tt_world.specs.Correction.{is_length}
 use Rattle.tt_world.specs.Monitoring.{monitored, is_at, is_at_end}
@@ -86,70 +88,76 @@ each_leaving Test w r left t e q =
 
 -- ---- names
 
-abbrev pub Callees : ConfigParts → List Stmt → Type 0
-Callees c left = HasCallees (length c.modes) (length c.oseks) left
+-- nothing left
+pub none_runnable : (c : ConfigParts) → IsRunnable c []
+none_runnable c = record { expressions = refl; variables = refl; demands = refl; callees = refl }
+
+-- a whole body
+pub body_runnable : (c : ConfigParts) (kind : OwnerKind) (body : List Stmt) → IsBody c kind body → IsRunnable c body
+body_runnable c kind body h =
+    record { expressions = h.expressions; variables = h.variables; demands = h.demands; callees = h.callees }
 
 pub record Named (c : ConfigParts) (w : World) : Type 0 where
   pub mode : w.mode.0 < length c.modes
   pub wanted : w.wanted.0 < length c.modes
-  pub lefts : EachLeft (Callees c) w
+  pub lefts : EachLeft (IsRunnable c) w
 
 pub has_mode : (c : ConfigParts) (w : World) → Named c w → HasMode c w
 has_mode c w n = record { mode = n.mode; wanted = n.wanted }
 
-leaving_named : (c : ConfigParts) (w : World) (r : Runner) (left : List Stmt) → Callees c left → Named c w
+leaving_named : (c : ConfigParts) (w : World) (r : Runner) (left : List Stmt) → IsRunnable c left → Named c w
     → Named c (leaving w r left)
 leaving_named c w (runner.Isr i) left t n =
-    record { mode = n.mode; wanted = n.wanted; lefts = each_leaving (Callees c) w (runner.Isr i) left t n.lefts }
+    record { mode = n.mode; wanted = n.wanted; lefts = each_leaving (IsRunnable c) w (runner.Isr i) left t n.lefts }
 leaving_named c w (runner.Job i) left t n =
-    record { mode = n.mode; wanted = n.wanted; lefts = each_leaving (Callees c) w (runner.Job i) left t n.lefts }
+    record { mode = n.mode; wanted = n.wanted; lefts = each_leaving (IsRunnable c) w (runner.Job i) left t n.lefts }
 leaving_named c w (runner.Oisr i) left t n =
-    record { mode = n.mode; wanted = n.wanted; lefts = each_leaving (Callees c) w (runner.Oisr i) left t n.lefts }
+    record { mode = n.mode; wanted = n.wanted; lefts = each_leaving (IsRunnable c) w (runner.Oisr i) left t n.lefts }
 leaving_named c w (runner.Osek i) left t n =
-    record { mode = n.mode; wanted = n.wanted; lefts = each_leaving (Callees c) w (runner.Osek i) left t n.lefts }
+    record { mode = n.mode; wanted = n.wanted; lefts = each_leaving (IsRunnable c) w (runner.Osek i) left t n.lefts }
 leaving_named c w runner.Nobody left t n = n
 
 module _ (c : ConfigParts) (s : ScriptParts) (rules : IsConfig c) where
-  body_named : (task : _) → Callees c (body_of c task)
+  body_named : (task : _) → IsRunnable c (body_of c task)
   body_named task =
       ⊎_elim (λ (l : task.0 < length c.tasks).
-      (All-get_or (IsTask c) c.tasks task.0 no_task l rules.tasks).routine.is_body.callees)
-      (λ (g : length c.tasks ≤ task.0). subst (λ x. Callees c x.body) (sym (get_or_past c.tasks task.0 no_task g)) refl)
+      body_runnable c owner.Task _ (All-get_or (IsTask c) c.tasks task.0 no_task l rules.tasks).routine.is_body)
+      (λ (g : length c.tasks ≤ task.0). subst (λ x. IsRunnable c x.body) (sym (get_or_past c.tasks task.0 no_task g)) (none_runnable c))
       (cases_lt task.0 (length c.tasks))
 
-  osek_named : (task : OsekNo) → Callees c (osek_body c task)
+  osek_named : (task : OsekNo) → IsRunnable c (osek_body c task)
   osek_named task =
       ⊎_elim (λ (l : task.0 < length c.oseks).
-      (All-get_or (IsOsek c) c.oseks task.0 no_osek l rules.oseks).routine.is_body.callees)
-      (λ (g : length c.oseks ≤ task.0). subst (λ x. Callees c x.body) (sym (get_or_past c.oseks task.0 no_osek g)) refl)
+      body_runnable c owner.Osek _ (All-get_or (IsOsek c) c.oseks task.0 no_osek l rules.oseks).routine.is_body)
+      (λ (g : length c.oseks ≤ task.0). subst (λ x. IsRunnable c x.body) (sym (get_or_past c.oseks task.0 no_osek g)) (none_runnable c))
       (cases_lt task.0 (length c.oseks))
 
-  routine_named : (source : Source) → Callees c (routine_of c source)
+  routine_named : (source : Source) → IsRunnable c (routine_of c source)
   routine_named (IsrSource i) =
       ⊎_elim (λ (l : i.0 < length c.isrs).
-      (All-get_or (IsIsr c) c.isrs i.0 no_isr l rules.isrs).routine.is_body.callees)
-      (λ (g : length c.isrs ≤ i.0). subst (λ x. Callees c x.body) (sym (get_or_past c.isrs i.0 no_isr g)) refl)
+      body_runnable c owner.Isr _ (All-get_or (IsIsr c) c.isrs i.0 no_isr l rules.isrs).routine.is_body)
+      (λ (g : length c.isrs ≤ i.0). subst (λ x. IsRunnable c x.body) (sym (get_or_past c.isrs i.0 no_isr g)) (none_runnable c))
       (cases_lt i.0 (length c.isrs))
   routine_named (OisrSource i) =
       ⊎_elim (λ (l : i.0 < length c.oisrs).
-      (All-get_or (IsOisr c) c.oisrs i.0 no_oisr l rules.oisrs).routine.is_body.callees)
-      (λ (g : length c.oisrs ≤ i.0). subst (λ x. Callees c x.body) (sym (get_or_past c.oisrs i.0 no_oisr g)) refl)
+      body_runnable c owner.Oisr _ (All-get_or (IsOisr c) c.oisrs i.0 no_oisr l rules.oisrs).routine.is_body)
+      (λ (g : length c.oisrs ≤ i.0). subst (λ x. IsRunnable c x.body) (sym (get_or_past c.oisrs i.0 no_oisr g)) (none_runnable c))
       (cases_lt i.0 (length c.oisrs))
 
   -- ---- services
 
   record NamedAnswer (a : Answer) : Type 0 where
     world : Named c a.world
-    left : Callees c a.left
+    left : IsRunnable c a.left
 
-  synced_named : (global : Option ℕ) (left : List Stmt) (w : World) → Named c w → Callees c left
+  synced_named : (global : Option ℕ) (left : List Stmt) (w : World) → Named c w → IsRunnable c left
       → NamedAnswer (synced c global w left)
   synced_named None left w n t = record { world = n; left = t }
   synced_named (Some global) left w n t =
       record { world = record { mode = n.mode; wanted = n.wanted; lefts = n.lefts }; left = t }
 
   service_named : (r : Runner) (k : Call) (left : List Stmt) (w : World)
-      → names_below (length c.modes) (length c.oseks) k ≡ true → Named c w → Callees c left
+      → names_below (length c.modes) (length c.oseks) k ≡ true → Named c w → IsRunnable c left
       → NamedAnswer (service c s r k left w)
   unfolding service
   service_named r (call.Switch mode) left w b n t =
@@ -164,9 +172,9 @@ module _ (c : ConfigParts) (s : ScriptParts) (rules : IsConfig c) where
       cond_both (is_caller r task) _ _ NamedAnswer
       (λ _. record { world = n; left = osek_named task })
       (λ _. cond_both (is_suspended w task) _ _ NamedAnswer
-      (λ _. record { world = leaving_named c w (runner.Osek task) (osek_body c task) (osek_named task) n; left = refl })
+      (λ _. record { world = leaving_named c w (runner.Osek task) (osek_body c task) (osek_named task) n; left = none_runnable c })
       (λ _. record { world = n; left = t }))
-  service_named r call.Terminate left w b n t = record { world = n; left = refl }
+  service_named r call.Terminate left w b n t = record { world = n; left = none_runnable c }
 
   -- ---- a tick
 
@@ -187,24 +195,39 @@ module _ (c : ConfigParts) (s : ScriptParts) (rules : IsConfig c) where
   tick_named left w (Stmt-F.If expr first second) rest h = tt
   tick_named left w (Stmt-F.Repeat n body) rest h = tt
 
-  pub effects_named : (w : World) (left : List Stmt) → Callees c left → EffectsNamed (state_after c s w left).effects
+  pub effects_named : (w : World) (left : List Stmt) → IsRunnable c left → EffectsNamed (state_after c s w left).effects
   unfolding tick
   effects_named w [] t = tt
   effects_named w (front ∷ rest) t =
       let test = has_callee {A = Bool} (length c.modes) (length c.oseks) in
       let here = sym (fold_out-Stmt Bool (λ y. test y && inner_pass y) front)
-      ∙ (and_parts (each_of test front) _ t).0 in
+      ∙ (and_parts (each_of test front) _ t.callees).0 in
       tick_named (front ∷ rest) w (out-Stmt front) rest
       (and_parts (test (map-Stmt Stmt Bool (each_of test) (out-Stmt front))) _ here).0
 
-  callees_last : LastsThroughTicks (supply_of c.demands s.values) (has_callee (length c.modes) (length c.oseks))
-  callees_last = record { work = λ n e. refl; repeat = λ n body e. refl; take = λ demand used n is e. refl }
+  -- the tests of expressions and names say nothing of work and repeats, so they last
+  lasting : (test : Stmt-F Bool → Bool) → ((n : ℕ) → test (Stmt-F.Work n) ≡ true)
+      → ((n : ℕ) (body : List Bool) → test (Stmt-F.Repeat n body) ≡ true)
+      → LastsThroughTicks (supply_of c.demands s.values) test
+  lasting test work repeat = record {
+    work = λ n e. work (suc n);
+    repeat = λ n body e. repeat (suc n) body;
+    take = λ demand used n is e. work (suc n);
+  }
 
-  ticked_named : (w : World) (left : List Stmt) → Callees c left → Callees c (state_after c s w left).left
-  ticked_named w left t = keeps_each (supply_of c.demands s.values) (state_of left w.vars w.cursors []) _ callees_last t
+  ticked_named : (w : World) (left : List Stmt) → IsRunnable c left → IsRunnable c (state_after c s w left).left
+  ticked_named w left t =
+      let keeps = keeps_each (supply_of c.demands s.values) (state_of left w.vars w.cursors []) in
+      record {
+        expressions = keeps _ (lasting is_expression_short (λ n. refl) (λ n body. refl)) t.expressions;
+        variables = keeps _ (lasting (has_variables (length c.vars)) (λ n. refl) (λ n body. refl)) t.variables;
+        demands = keeps _ (lasting (has_demand (length c.demands)) (λ n. refl) (λ n body. refl)) t.demands;
+        callees = keeps _
+            (lasting (has_callee (length c.modes) (length c.oseks)) (λ n. refl) (λ n body. refl)) t.callees;
+      }
 
   effected_named : (r : Runner) (effects : List Effect) (who : Owner) (left : List Stmt) (w : World) (es : List Event)
-      → EffectsNamed effects → Named c w → Callees c left → Holds (Named c) es (effected c s r who effects left w).move
+      → EffectsNamed effects → Named c w → IsRunnable c left → Holds (Named c) es (effected c s r who effects left w).move
   effected_named r [] who left w es f n t = leaving_named c w r left t n
   effected_named r (effect.Out value ∷ rest) who left w es f n t = leaving_named c w r left t n
   effected_named r (effect.Service k ∷ rest) who left w es f n t =
@@ -232,14 +255,14 @@ module _ (c : ConfigParts) (s : ScriptParts) (rules : IsConfig c) where
       (λ _. record { mode = n.mode; wanted = n.wanted; lefts = n.lefts }) (λ _. n)
 
   -- the next round has the wanted mode, and no activation
-  none_left : (w : World) → EachLeft (Callees c) w → (number : ℕ) (mode : _)
-      → EachLeft (Callees c) (record w { start = w.tick; number = number; mode = mode; latched = None; jobs = [] })
+  none_left : (w : World) → EachLeft (IsRunnable c) w → (number : ℕ) (mode : _)
+      → EachLeft (IsRunnable c) (record w { start = w.tick; number = number; mode = mode; latched = None; jobs = [] })
   none_left w e number mode (runner.Job place) =
-      subst (λ (x : Job). Callees c x.left) (sym (get_or_past [] place no_job (omega arith))) refl
+      subst (λ (x : Job). IsRunnable c x.left) (sym (get_or_past [] place no_job (omega arith))) (none_runnable c)
   none_left w e number mode (runner.Isr i) = e (runner.Isr i)
   none_left w e number mode (runner.Oisr i) = e (runner.Oisr i)
   none_left w e number mode (runner.Osek i) = e (runner.Osek i)
-  none_left w e number mode runner.Nobody = refl
+  none_left w e number mode runner.Nobody = none_runnable c
 
   next_round_named : Leads (Alone (Named c)) (Alone (Named c)) Anything (next_round s)
   unfolding next_round
@@ -281,22 +304,22 @@ module _ (c : ConfigParts) (s : ScriptParts) (rules : IsConfig c) where
       (λ _. arrived_named (is_held w source) source w es n) (λ _. n)
 
   -- a new activation
-  more_left : (w : World) (entry : ℕ) (left : List Stmt) → Callees c left → EachLeft (Callees c) w
-      → EachLeft (Callees c) (record w { jobs = w.jobs ++ record { entry = entry; left = left } ∷ [] })
+  more_left : (w : World) (entry : ℕ) (left : List Stmt) → IsRunnable c left → EachLeft (IsRunnable c) w
+      → EachLeft (IsRunnable c) (record w { jobs = w.jobs ++ record { entry = entry; left = left } ∷ [] })
   more_left w entry left t e (runner.Job place) =
       let y : Job = record { entry = entry; left = left } in
       ⊎_elim
       (λ (l : place < length (w.jobs ++ y ∷ [])).
-      ⊎_elim (λ (old : IsOldPlace w.jobs y place). subst (λ x. Callees c x.left) (sym old.1) (e (runner.Job place)))
-      (λ (new : IsNewPlace w.jobs y place). subst (λ x. Callees c x.left) (sym new.1) t)
+      ⊎_elim (λ (old : IsOldPlace w.jobs y place). subst (λ x. IsRunnable c x.left) (sym old.1) (e (runner.Job place)))
+      (λ (new : IsNewPlace w.jobs y place). subst (λ x. IsRunnable c x.left) (sym new.1) t)
       (place_of_more w.jobs y place l))
-      (λ (g : length (w.jobs ++ y ∷ []) ≤ place). subst (λ (x : Job). Callees c x.left)
-      (sym (get_or_past (w.jobs ++ y ∷ []) place no_job g)) refl)
+      (λ (g : length (w.jobs ++ y ∷ []) ≤ place). subst (λ (x : Job). IsRunnable c x.left)
+      (sym (get_or_past (w.jobs ++ y ∷ []) place no_job g)) (none_runnable c))
       (cases_lt place (length (w.jobs ++ y ∷ [])))
   more_left w entry left t e (runner.Isr i) = e (runner.Isr i)
   more_left w entry left t e (runner.Oisr i) = e (runner.Oisr i)
   more_left w entry left t e (runner.Osek i) = e (runner.Osek i)
-  more_left w entry left t e runner.Nobody = refl
+  more_left w entry left t e runner.Nobody = none_runnable c
 
   activated_named : (entry : Option ℕ) (w : World) (es : List Event) → Named c w
       → Holds (Named c) es (activated c entry w)
@@ -330,31 +353,32 @@ module _ (c : ConfigParts) (s : ScriptParts) (rules : IsConfig c) where
   named_at first = kept_at c s (Named c) first instant_named
 
   -- before tick 0
-  auto_named : (task : OsekDef) → IsOsek c task → Callees c (if task.auto then task.body else [])
-  auto_named task h = cond_both task.auto task.body [] (Callees c) (λ _. h.routine.is_body.callees) (λ _. refl)
+  auto_named : (task : OsekDef) → IsOsek c task → IsRunnable c (if task.auto then task.body else [])
+  auto_named task h = cond_both task.auto task.body [] (IsRunnable c) (λ _. body_runnable c owner.Osek _ h.routine.is_body)
+      (λ _. none_runnable c)
 
   oseks_named : (i : ℕ)
-      → Callees c (get_or (map (λ (task : OsekDef). if task.auto then task.body else []) c.oseks) i [])
+      → IsRunnable c (get_or (map (λ (task : OsekDef). if task.auto then task.body else []) c.oseks) i [])
   oseks_named i =
-      subst (Callees c) (sym (get_or-map (λ (task : OsekDef). if task.auto then task.body else []) c.oseks i no_osek))
+      subst (IsRunnable c) (sym (get_or-map (λ (task : OsekDef). if task.auto then task.body else []) c.oseks i no_osek))
       (⊎_elim (λ (l : i < length c.oseks). auto_named _ (All-get_or (IsOsek c) c.oseks i no_osek l rules.oseks))
-      (λ (g : length c.oseks ≤ i). subst (λ (x : OsekDef). Callees c (if x.auto then x.body else []))
-      (sym (get_or_past c.oseks i no_osek g)) refl) (cases_lt i (length c.oseks)))
+      (λ (g : length c.oseks ≤ i). subst (λ (x : OsekDef). IsRunnable c (if x.auto then x.body else []))
+      (sym (get_or_past c.oseks i no_osek g)) (none_runnable c)) (cases_lt i (length c.oseks)))
 
-  none_of : (n i : ℕ) → Callees c (get_or (replicate {A = List Stmt} n []) i [])
+  none_of : (n i : ℕ) → IsRunnable c (get_or (replicate {A = List Stmt} n []) i [])
   none_of n i =
-      ⊎_elim (λ (l : i < n). subst (Callees c) (sym (get_or-replicate {A = List Stmt} n i [] [] l)) refl)
-      (λ (g : n ≤ i). subst (Callees c) (sym
+      ⊎_elim (λ (l : i < n). subst (IsRunnable c) (sym (get_or-replicate {A = List Stmt} n i [] [] l)) (none_runnable c))
+      (λ (g : n ≤ i). subst (IsRunnable c) (sym
       (get_or_past (replicate {A = List Stmt} n []) i []
-      (let e = length-replicate {A = List Stmt} n [] in omega arith))) refl) (cases_lt i n)
+      (let e = length-replicate {A = List Stmt} n [] in omega arith))) (none_runnable c)) (cases_lt i n)
 
-  first_lefts : EachLeft (Callees c) (first_world c s)
+  first_lefts : EachLeft (IsRunnable c) (first_world c s)
   first_lefts (runner.Isr i) = none_of (length c.isrs) i.0
-  first_lefts (runner.Job place) = subst (λ (x : Job). Callees c x.left)
-      (sym (get_or_past [] place no_job (omega arith))) refl
+  first_lefts (runner.Job place) = subst (λ (x : Job). IsRunnable c x.left)
+      (sym (get_or_past [] place no_job (omega arith))) (none_runnable c)
   first_lefts (runner.Oisr i) = none_of (length c.oisrs) i.0
   first_lefts (runner.Osek i) = oseks_named i.0
-  first_lefts runner.Nobody = refl
+  first_lefts runner.Nobody = none_runnable c
 
   pub run_named : IsScript c s → (n : ℕ) → GoesOnBefore c s n → Named c (world_at c s n)
   unfolding world_at

@@ -8,17 +8,21 @@ returns-in-Nobody-clause-tick c =
     rw c.in-Nobody.is (tick_nobody c.args.config.now c.args.script.now c.args.who _ _)
 
 pub tick_left-requires : goal.tick_left-requires
-tick_left-requires c = (somebody_ready c.args.config.now _ _ c.requires.runs c.in_default.not-Nobody)
+tick_left-requires c = record {
+  some = somebody_ready c.args.config.now _ _ c.requires.runs c.in_default.not-Nobody;
+  short = rw c.requires.runs c.requires.can.runnable.expressions;
+}
 
 pub call-requires : goal.call-requires
 call-requires c =
     let t = c.in_ok-effect.ensures.ticks in
     let some = somebody_ready c.args.config.now _ _ c.requires.runs c.in_default.not-Nobody in
     record {
+      rules = c.requires.can.rules;
       kept = rw c.in_ok-effect.ensures.beside c.requires.can.kept;
       started = still_started _ _ _ _ _ _ t c.requires.can.started;
       names = call_named _ _ _ c.args.who _ _ _ some t c.requires.can.rules
-          (rw c.requires.runs c.requires.can.callees) c.in-Service.call
+          (rw c.requires.runs c.requires.can.runnable) c.in-Service.call
           (ap option_to_list c.in-Some.is ∙ ap (λ e. e ∷ []) c.in-Service.is);
     }
 
