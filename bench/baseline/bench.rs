@@ -4,6 +4,7 @@ use crate::config::{self, Config};
 use crate::document;
 use crate::lines::Lines;
 use crate::run::{self, End, Report};
+use crate::words;
 use std::io::Write;
 
 pub const USAGE: i32 = 2;
@@ -90,7 +91,7 @@ fn answer(command: &str, bytes: Vec<u8>, output: &mut dyn Write) -> (Vec<u8>, i3
 /// Does what the words say and gives the status. Input is read only for a command that reads; its fault is the status of its own.
 pub fn serve(words: &[&str], input: impl FnOnce() -> Result<Vec<u8>, i32>, output: &mut dyn Write) -> i32 {
     let (text, status) = match words {
-        ["bulk", number] => match document::number(number.as_bytes()) {
+        ["bulk", number] => match words::number(number.as_bytes()) {
             Some(number) if number < 1 << 32 => answer("load", bulk_document(number), output),
             _ => return USAGE,
         },

@@ -6,6 +6,7 @@ mod config;
 mod document;
 mod lines;
 mod run;
+mod words;
 
 use std::fs::File;
 use std::io::Read;

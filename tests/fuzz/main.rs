@@ -19,6 +19,8 @@ mod program;
 mod random;
 #[path = "../../bench/baseline/run.rs"]
 mod run;
+#[path = "../../bench/baseline/words.rs"]
+mod words;
 
 use program::{Answer, Program};
 use std::collections::BTreeMap;
@@ -174,11 +176,16 @@ fn compare(path: &str, options: &Options) -> Result<usize, Fault> {
     };
     let until = Duration::from_secs(options.seconds.unwrap_or(if options.count.is_some() { u64::MAX } else { 60 }));
     let started = Instant::now();
+    let mut told = started;
     let mut tally = Tally::default();
     let mut differences = 0;
     for number in numbers {
         if started.elapsed() >= until || differences >= MOST_DIFFERENCES {
             break;
+        }
+        if told.elapsed() >= Duration::from_secs(10) {
+            told = Instant::now();
+            eprintln!("{} documents, {differences} with a difference", tally.documents);
         }
         let document = maker::document(seed, number);
         if options.write {
