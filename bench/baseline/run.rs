@@ -396,9 +396,11 @@ impl<const TEXT: bool> Run<'_, '_, TEXT> {
         }
     }
 
-    fn activation(&mut self) {
+    /// Part 7 of an instant; whether a task was activated.
+    fn activation(&mut self) -> bool {
         let due = self.config.modes[self.mode].dues[self.place];
-        if u64::from(due.offset) == self.now - self.round_start {
+        let stands = u64::from(due.offset) == self.now - self.round_start;
+        if stands {
             let task = usize::from(due.who);
             self.place += 1;
             self.make_ready(task);
@@ -409,6 +411,7 @@ impl<const TEXT: bool> Run<'_, '_, TEXT> {
             self.report.activations += 1;
             self.line(self.now, |texts| &texts.activate[task]);
         }
+        stands
     }
 
     fn next_due(&self) -> u64 {
@@ -595,15 +598,18 @@ impl<const TEXT: bool> Run<'_, '_, TEXT> {
                 break;
             }
             let sources = self.held & (self.enabled | OISR_GATES) & !self.busy;
-            if sources != 0 {
+            let mut more = sources != 0;
+            if more {
                 self.accept_all(sources);
             }
             if is_due {
-                self.activation();
+                more |= self.activation();
                 due = self.next_due();
             }
-            self.report.deepest = self.report.deepest.max(self.height as u64 + u64::from(self.isr_ready.count_ones()));
-            self.report.words = self.report.words.max(self.words);
+            if more {
+                self.report.deepest = self.report.deepest.max(self.height as u64 + u64::from(self.isr_ready.count_ones()));
+                self.report.words = self.report.words.max(self.words);
+            }
             let owner = self.who();
             if owner != last {
                 self.line(self.now, |texts| &texts.run[owner]);
