@@ -136,7 +136,8 @@ impl Texts {
             names[owner] = name.to_string();
         }
         let pieces = |word: &str, after: &str| -> Vec<Piece> {
-            let piece = |name: &String| if name.is_empty() { Piece::new(&[]) } else { Piece::new(&[" ", word, " ", name, after]) };
+            let piece =
+                |name: &String| if name.is_empty() { Piece::new(&[]) } else { Piece::new(&[" ", word, " ", name, after]) };
             names.iter().map(piece).collect()
         };
         let (run, end, out, call) = (pieces("run", "\n"), pieces("end", "\n"), pieces("out", " "), pieces("call", " "));
@@ -256,7 +257,13 @@ impl<const TEXT: bool> Run<'_, '_, TEXT> {
                 self.lines.text(" ");
                 self.lines.text(&self.texts.names[osek]);
             }
-            self.lines.text(if result == 0 { " 0\n" } else if result == 1 { " 1\n" } else { " 4\n" });
+            self.lines.text(if result == 0 {
+                " 0\n"
+            } else if result == 1 {
+                " 1\n"
+            } else {
+                " 4\n"
+            });
         }
     }
 
@@ -508,7 +515,11 @@ impl<const TEXT: bool> Run<'_, '_, TEXT> {
                 }
                 self.make_ready(other);
                 self.osek_ready |= 1 << self.rank[other];
-                if chains { Effect::Gone } else { Effect::Change }
+                if chains {
+                    Effect::Gone
+                } else {
+                    Effect::Change
+                }
             }
         }
     }
@@ -629,7 +640,11 @@ impl<const TEXT: bool> Run<'_, '_, TEXT> {
 }
 
 fn source_owner(source: usize) -> usize {
-    if source < 16 { ISRS + source } else { OISRS + source - 16 }
+    if source < 16 {
+        ISRS + source
+    } else {
+        OISRS + source - 16
+    }
 }
 
 /// Runs the configuration. With TEXT its lines are written.
