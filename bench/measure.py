@@ -3,8 +3,8 @@
 
 For each document and command the texts and statuses are compared first; then both programs run in turn, output to /dev/null. Told are the
 least wall time, the least processor time and the peak memory of each, and the ratios. What it does is told on standard error while it does
-it; the table goes to standard output and, with --table, between the marks of that file. The status is 1 where an answer differs or takes
-too long. A command that the program does not know yet (status 2) is left out."""
+it; the table goes to standard output and, with --table, between the marks of that file. The status is 1 where an answer differs. A program
+that is stopped after 20 s of processor time, or that has no memory below 4 GiB, differs too, and has a row that says so. A command that the program does not know yet (status 2) is left out."""
 import hashlib
 import os
 import subprocess
@@ -15,7 +15,7 @@ import documents
 
 RUNS = 9
 QUICK_RUNS = 3
-LONGEST = 120
+LONGEST = 20
 MEMORY = 4 << 20
 MARKS = ("<!-- table of bench/run.sh -->\n", "<!-- end of the table -->\n")
 
@@ -63,15 +63,35 @@ def milliseconds(seconds):
     return f"{seconds * 1000:.1f}"
 
 
+def least(words, document, runs):
+    found = [once(words, document) for _ in range(runs)]
+    return min(run[0] for run in found), min(run[1] for run in found)
+
+
+def refused(name, command, answers, plain, document, runs):
+    """The row of a program that was stopped or that had no memory, beside the plain one's numbers. None for every other difference."""
+    status = answers[0][3]
+    if status < 0 or status > 128:
+        reason = f"> {LONGEST * 1000:,}"
+    elif status == 1:
+        reason = "no memory"
+    else:
+        return None
+    wall, used = least(plain, document, runs)
+    memory = f"{peak(plain, document) / 1024:.1f}"
+    row = [name, command, f"{answers[1][1]:,}", reason, milliseconds(wall), "", reason, milliseconds(used), "", "", memory, ""]
+    return row
+
+
 def measure(name, command, programs, document, runs):
-    """A row of the table, or None where the answers differ."""
+    """A row of the table, or None where the answers differ, and whether all is well."""
     words = [[program, *command.split()] for program in programs]
     tell(f"{name}, {command}: comparing the answers")
     answers = [answer(one, document) for one in words]
     if answers[0] != answers[1]:
         for one, (size, lines, text, status) in zip(words, answers):
             tell(f"DIFFERENT: {name}: {' '.join(one)}: {lines} lines, {size} bytes, hash {text[:16]}, status {status}")
-        return None
+        return refused(name, command, answers, words[1], document, runs), False
     tell(f"{name}, {command}: {answers[0][1]} lines, status {answers[0][3]}; measuring")
     found = [[], []]
     for _ in range(runs):
@@ -87,7 +107,7 @@ def measure(name, command, programs, document, runs):
     row += [milliseconds(used[0]), milliseconds(used[1]), f"{processor_ratio:.2f}"]
     row += [f"{peaks[0] / 1024:.1f}", f"{peaks[1] / 1024:.1f}", f"{memory_ratio:.2f}"]
     tell(f"{name}, {command}: {ratio:.2f} times as long, {processor_ratio:.2f} times the processor time, {memory_ratio:.2f} times the memory")
-    return row
+    return row, True
 
 
 def write_table(path, text):
@@ -130,10 +150,9 @@ def main():
                 tell(f"left out: {command}, which the program does not know")
         if unknown[command]:
             continue
-        row = measure(name, command, (program, plain), os.path.join(folder, name), QUICK_RUNS if quick else RUNS)
-        if row is None:
-            faults += 1
-        else:
+        row, well = measure(name, command, (program, plain), os.path.join(folder, name), QUICK_RUNS if quick else RUNS)
+        faults += not well
+        if row is not None:
             rows.append(row)
     lines = ["| " + " | ".join(row) + " |" for row in [head, ["---"] * 2 + ["---:"] * 10, *rows]]
     text = "\n".join(lines) + "\n"

@@ -4,6 +4,7 @@ use crate::config::{self, Config};
 use crate::document;
 use crate::lines::Lines;
 use crate::run::{self, End, Report};
+use crate::words;
 use std::io::Write;
 
 pub const USAGE: i32 = 2;
@@ -38,8 +39,7 @@ fn bulk_document(number: u64) -> Vec<u8> {
 
 /// The configuration of an accepted document, or the refusal's line and status.
 fn accepted(bytes: &[u8]) -> Result<Config, (String, i32)> {
-    let document =
-        document::read(bytes, None).map_err(|fault| (format!("form line {} {}\n", fault.line, fault.kind), 6))?;
+    let document = document::read(bytes, None).map_err(|fault| (format!("form line {} {}\n", fault.line, fault.kind), 6))?;
     config::accept(document).map_err(|broken| (format!("rule {} line {}\n", broken.rule, broken.line), 7))
 }
 
@@ -72,7 +72,11 @@ fn answer(command: &str, bytes: Vec<u8>, output: &mut dyn Write) -> (Vec<u8>, i3
         "trace" => {
             let mut lines = Lines::new(output);
             let report = run::run::<true>(&config, &mut lines);
-            if lines.finish() { status_of(&report) } else { WRITE_FAULT }
+            if lines.finish() {
+                status_of(&report)
+            } else {
+                WRITE_FAULT
+            }
         }
         "check" => match check::check(&config, &mut text) {
             Ok(true) => 0,
@@ -90,7 +94,7 @@ fn answer(command: &str, bytes: Vec<u8>, output: &mut dyn Write) -> (Vec<u8>, i3
 /// Does what the words say and gives the status. Input is read only for a command that reads; its fault is the status of its own.
 pub fn serve(words: &[&str], input: impl FnOnce() -> Result<Vec<u8>, i32>, output: &mut dyn Write) -> i32 {
     let (text, status) = match words {
-        ["bulk", number] => match document::number(number.as_bytes()) {
+        ["bulk", number] => match words::number(number.as_bytes()) {
             Some(number) if number < 1 << 32 => answer("load", bulk_document(number), output),
             _ => return USAGE,
         },
@@ -100,5 +104,9 @@ pub fn serve(words: &[&str], input: impl FnOnce() -> Result<Vec<u8>, i32>, outpu
         },
         _ => return USAGE,
     };
-    if output.write_all(&text).is_ok() { status } else { WRITE_FAULT }
+    if output.write_all(&text).is_ok() {
+        status
+    } else {
+        WRITE_FAULT
+    }
 }

@@ -1,5 +1,6 @@
 //! The form of a document: lines, words and rows, read in one pass. Names are interned once; a body becomes flat code at once; what a row
 //! breaks of the rules that need no other row is noted by the way.
+use crate::words::{integer, line_fault, name, number, FormFault, CLASS};
 use std::collections::HashMap;
 
 /// Kinds of a declared name.
@@ -182,12 +183,6 @@ impl std::hash::BuildHasher for NameHashes {
     }
 }
 
-/// The first fault of a document's form.
-pub struct FormFault {
-    pub line: u32,
-    pub kind: &'static str,
-}
-
 pub struct Document {
     /// For each rule the least line that breaks it, as far as it was read.
     pub broken: [u32; 29],
@@ -226,77 +221,8 @@ pub struct Document {
 
 pub const NONE: u32 = u32::MAX;
 
-const CLASS: [u8; 256] = {
-    let mut class = [3; 256];
-    let mut byte = 0x20;
-    while byte <= 0x7e {
-        class[byte] = 0;
-        byte += 1;
-    }
-    class[b' ' as usize] = 1;
-    class[b'\n' as usize] = 2;
-    class
-};
-
-/// 1 to 12 digits, without a leading zero unless it is `0`.
-pub fn number(word: &[u8]) -> Option<u64> {
-    if word.is_empty() || word.len() > 12 || (word[0] == b'0' && word.len() > 1) {
-        return None;
-    }
-    let mut value = 0;
-    for &byte in word {
-        let digit = byte.wrapping_sub(b'0');
-        if digit > 9 {
-            return None;
-        }
-        value = value * 10 + u64::from(digit);
-    }
-    Some(value)
-}
-
-fn integer(word: &[u8]) -> Option<i32> {
-    let value = match word.split_first() {
-        Some((b'-', rest)) => match number(rest)? {
-            0 => return None,
-            value => -(value as i64),
-        },
-        _ => number(word)? as i64,
-    };
-    i32::try_from(value).ok()
-}
-
-fn name(word: &[u8]) -> Option<u128> {
-    if word.is_empty() || word.len() > 16 || word[0].is_ascii_digit() {
-        return None;
-    }
-    let mut text = [0; 16];
-    for (place, &byte) in text.iter_mut().zip(word) {
-        if !byte.is_ascii_alphanumeric() && byte != b'_' {
-            return None;
-        }
-        *place = byte;
-    }
-    Some(u128::from_le_bytes(text))
-}
-
 fn small(value: u64) -> u32 {
     value.min(u64::from(NONE)) as u32
-}
-
-/// The first fault of the line that begins at `start`, which has one.
-fn line_fault(bytes: &[u8], start: usize, line: u32) -> FormFault {
-    let rest = &bytes[start..];
-    let length = rest.iter().position(|&byte| byte == b'\n').unwrap_or(rest.len());
-    let kind = if rest[..length].iter().any(|&byte| CLASS[usize::from(byte)] == 3) {
-        "byte"
-    } else if length > 200 {
-        "long"
-    } else if length == rest.len() {
-        "cut"
-    } else {
-        "row"
-    };
-    FormFault { line, kind }
 }
 
 impl Document {

@@ -6,6 +6,7 @@ mod config;
 mod document;
 mod lines;
 mod run;
+mod words;
 
 use std::fs::File;
 use std::io::Read;
@@ -17,7 +18,11 @@ fn read_input() -> Result<Vec<u8>, i32> {
     let mut bytes = Vec::with_capacity(1 << 16);
     let input = std::io::stdin().as_fd().try_clone_to_owned().map_err(|_| 3)?;
     File::from(input).take(LIMIT + 1).read_to_end(&mut bytes).map_err(|_| 3)?;
-    if bytes.len() as u64 > LIMIT { Err(5) } else { Ok(bytes) }
+    if bytes.len() as u64 > LIMIT {
+        Err(5)
+    } else {
+        Ok(bytes)
+    }
 }
 
 fn main() {

@@ -136,7 +136,8 @@ impl Texts {
             names[owner] = name.to_string();
         }
         let pieces = |word: &str, after: &str| -> Vec<Piece> {
-            let piece = |name: &String| if name.is_empty() { Piece::new(&[]) } else { Piece::new(&[" ", word, " ", name, after]) };
+            let piece =
+                |name: &String| if name.is_empty() { Piece::new(&[]) } else { Piece::new(&[" ", word, " ", name, after]) };
             names.iter().map(piece).collect()
         };
         let (run, end, out, call) = (pieces("run", "\n"), pieces("end", "\n"), pieces("out", " "), pieces("call", " "));
@@ -256,7 +257,13 @@ impl<const TEXT: bool> Run<'_, '_, TEXT> {
                 self.lines.text(" ");
                 self.lines.text(&self.texts.names[osek]);
             }
-            self.lines.text(if result == 0 { " 0\n" } else if result == 1 { " 1\n" } else { " 4\n" });
+            self.lines.text(if result == 0 {
+                " 0\n"
+            } else if result == 1 {
+                " 1\n"
+            } else {
+                " 4\n"
+            });
         }
     }
 
@@ -396,9 +403,11 @@ impl<const TEXT: bool> Run<'_, '_, TEXT> {
         }
     }
 
-    fn activation(&mut self) {
+    /// Part 7 of an instant; whether a task was activated.
+    fn activation(&mut self) -> bool {
         let due = self.config.modes[self.mode].dues[self.place];
-        if u64::from(due.offset) == self.now - self.round_start {
+        let stands = u64::from(due.offset) == self.now - self.round_start;
+        if stands {
             let task = usize::from(due.who);
             self.place += 1;
             self.make_ready(task);
@@ -409,6 +418,7 @@ impl<const TEXT: bool> Run<'_, '_, TEXT> {
             self.report.activations += 1;
             self.line(self.now, |texts| &texts.activate[task]);
         }
+        stands
     }
 
     fn next_due(&self) -> u64 {
@@ -505,7 +515,11 @@ impl<const TEXT: bool> Run<'_, '_, TEXT> {
                 }
                 self.make_ready(other);
                 self.osek_ready |= 1 << self.rank[other];
-                if chains { Effect::Gone } else { Effect::Change }
+                if chains {
+                    Effect::Gone
+                } else {
+                    Effect::Change
+                }
             }
         }
     }
@@ -595,15 +609,18 @@ impl<const TEXT: bool> Run<'_, '_, TEXT> {
                 break;
             }
             let sources = self.held & (self.enabled | OISR_GATES) & !self.busy;
-            if sources != 0 {
+            let mut more = sources != 0;
+            if more {
                 self.accept_all(sources);
             }
             if is_due {
-                self.activation();
+                more |= self.activation();
                 due = self.next_due();
             }
-            self.report.deepest = self.report.deepest.max(self.height as u64 + u64::from(self.isr_ready.count_ones()));
-            self.report.words = self.report.words.max(self.words);
+            if more {
+                self.report.deepest = self.report.deepest.max(self.height as u64 + u64::from(self.isr_ready.count_ones()));
+                self.report.words = self.report.words.max(self.words);
+            }
             let owner = self.who();
             if owner != last {
                 self.line(self.now, |texts| &texts.run[owner]);
@@ -623,7 +640,11 @@ impl<const TEXT: bool> Run<'_, '_, TEXT> {
 }
 
 fn source_owner(source: usize) -> usize {
-    if source < 16 { ISRS + source } else { OISRS + source - 16 }
+    if source < 16 {
+        ISRS + source
+    } else {
+        OISRS + source - 16
+    }
 }
 
 /// Runs the configuration. With TEXT its lines are written.

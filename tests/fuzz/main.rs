@@ -1,9 +1,10 @@
 //! Compares the built program with the plain one over random documents, command by command: text and status.
 //!
-//!     fuzz PROGRAM [--count N | --seconds S] [--seed SEED] [--only NUMBER] [--write]
+//!     fuzz PROGRAM [--count N | --seconds S] [--seed SEED] [--only NUMBER] [--write] [--tally]
 //!
 //! A command that the program does not know (status 2) is left out. A difference is told with its seed and number, and with the smallest
-//! document to which it can be cut by lines; the exit status is then 1. `--only` looks at one document, and `--write` writes it.
+//! document to which it can be cut by lines; the exit status is then 1. `--only` looks at one document, and `--write` writes it. `--tally`
+//! only counts what documents there are, by the plain program's answers.
 #[path = "../../bench/baseline/bench.rs"]
 mod bench;
 #[path = "../../bench/baseline/check.rs"]
@@ -19,6 +20,8 @@ mod program;
 mod random;
 #[path = "../../bench/baseline/run.rs"]
 mod run;
+#[path = "../../bench/baseline/words.rs"]
+mod words;
 
 use program::{Answer, Program};
 use std::collections::BTreeMap;
@@ -95,6 +98,7 @@ struct Options {
     seed: Option<u64>,
     only: Option<u64>,
     write: bool,
+    tally: bool,
 }
 
 fn options(words: &[String]) -> Option<Options> {
@@ -104,6 +108,10 @@ fn options(words: &[String]) -> Option<Options> {
         let option = match word.as_str() {
             "--write" => {
                 options.write = true;
+                continue;
+            }
+            "--tally" => {
+                options.tally = true;
                 continue;
             }
             "--count" => &mut options.count,
@@ -157,13 +165,13 @@ fn compare(path: &str, options: &Options) -> Result<usize, Fault> {
     let mut program = Program::new(path)?;
     let mut known = Vec::new();
     program.give(b"")?;
-    for command in COMMANDS {
+    for command in COMMANDS.into_iter().filter(|_| !options.tally) {
         match program.answer(&[command])?.status {
             Some(bench::USAGE) => println!("left out: {command}, which the program does not know"),
             _ => known.push(command),
         }
     }
-    if known.is_empty() {
+    if known.is_empty() && !options.tally {
         return Err("the program knows no command".into());
     }
     let seed = options.seed.unwrap_or(1);
@@ -174,11 +182,16 @@ fn compare(path: &str, options: &Options) -> Result<usize, Fault> {
     };
     let until = Duration::from_secs(options.seconds.unwrap_or(if options.count.is_some() { u64::MAX } else { 60 }));
     let started = Instant::now();
+    let mut told = started;
     let mut tally = Tally::default();
     let mut differences = 0;
     for number in numbers {
         if started.elapsed() >= until || differences >= MOST_DIFFERENCES {
             break;
+        }
+        if told.elapsed() >= Duration::from_secs(10) {
+            told = Instant::now();
+            eprintln!("{} documents, {differences} with a difference", tally.documents);
         }
         let document = maker::document(seed, number);
         if options.write {
@@ -210,7 +223,7 @@ fn compare(path: &str, options: &Options) -> Result<usize, Fault> {
 fn main() -> ExitCode {
     let words: Vec<String> = std::env::args().skip(1).collect();
     let Some((path, rest)) = words.split_first() else {
-        eprintln!("fuzz PROGRAM [--count N | --seconds S] [--seed SEED] [--only NUMBER] [--write]");
+        eprintln!("fuzz PROGRAM [--count N | --seconds S] [--seed SEED] [--only NUMBER] [--write] [--tally]");
         return ExitCode::from(2);
     };
     let Some(options) = options(rest) else {

@@ -10,8 +10,22 @@ enum Owner {
 }
 
 const WORDS_AS_NAMES: [&str; 16] = [
-    "work", "end", "at", "start", "m1", "auto", "stringent", "_", "x_y", "Z9", "a_name_of_16_byt", "osektime", "if", "Idle",
-    "error", "A_name_of_16_byt",
+    "work",
+    "end",
+    "at",
+    "start",
+    "m1",
+    "auto",
+    "stringent",
+    "_",
+    "x_y",
+    "Z9",
+    "a_name_of_16_byt",
+    "osektime",
+    "if",
+    "Idle",
+    "error",
+    "A_name_of_16_byt",
 ];
 const VALUES: [&str; 10] = ["0", "1", "2", "3", "-1", "5", "-7", "2147483647", "-2147483648", "65536"];
 
@@ -476,17 +490,98 @@ pub fn limits(random: &mut Random) -> Vec<String> {
 }
 
 const NUMBERS: [&str; 22] = [
-    "0", "1", "2", "3", "5", "8", "20", "99", "255", "256", "65535", "65536", "100000", "100001", "10000000", "10000001", "-1", "010",
-    "999999999999", "1000000000000", "-0", "2147483648",
+    "0",
+    "1",
+    "2",
+    "3",
+    "5",
+    "8",
+    "20",
+    "99",
+    "255",
+    "256",
+    "65535",
+    "65536",
+    "100000",
+    "100001",
+    "10000000",
+    "10000001",
+    "-1",
+    "010",
+    "999999999999",
+    "1000000000000",
+    "-0",
+    "2147483648",
 ];
 const OTHER_WORDS: [&str; 32] = [
-    "A", "B", "K", "J", "m", "n", "x", "d", "P", "X", "idle", "ttErrorHook", "ttShutdownHook", "end", "else", "-", "+", "<=", "==", "#",
-    "auto", "stringent", "nonstringent", "enable", "activate", "name_of_17_bytes_", "9x", "a-b", "start_", "error", "shutdown", "=",
+    "A",
+    "B",
+    "K",
+    "J",
+    "m",
+    "n",
+    "x",
+    "d",
+    "P",
+    "X",
+    "idle",
+    "ttErrorHook",
+    "ttShutdownHook",
+    "end",
+    "else",
+    "-",
+    "+",
+    "<=",
+    "==",
+    "#",
+    "auto",
+    "stringent",
+    "nonstringent",
+    "enable",
+    "activate",
+    "name_of_17_bytes_",
+    "9x",
+    "a-b",
+    "start_",
+    "error",
+    "shutdown",
+    "=",
 ];
 const ROWS: [&str; 34] = [
-    "osektime 1", "osektime 2", "round 10", "adjust 2", "mode m", "var x 1", "demand d 3 1", "end", "else", "if 1", "repeat 2", "work 1",
-    "take d", "set x 1", "out 1", "sync", "shutdown", "terminate", "activate P", "chain P", "switch m", "hook error", "hook shutdown",
-    "task A 1", "isr K 1 1", "osek P 1", "oisr X 1", "start m", "rounds 2", "value d 1", "arrive K 1", "time 1", "foo", "at 1 m enable K",
+    "osektime 1",
+    "osektime 2",
+    "round 10",
+    "adjust 2",
+    "mode m",
+    "var x 1",
+    "demand d 3 1",
+    "end",
+    "else",
+    "if 1",
+    "repeat 2",
+    "work 1",
+    "take d",
+    "set x 1",
+    "out 1",
+    "sync",
+    "shutdown",
+    "terminate",
+    "activate P",
+    "chain P",
+    "switch m",
+    "hook error",
+    "hook shutdown",
+    "task A 1",
+    "isr K 1 1",
+    "osek P 1",
+    "oisr X 1",
+    "start m",
+    "rounds 2",
+    "value d 1",
+    "arrive K 1",
+    "time 1",
+    "foo",
+    "at 1 m enable K",
 ];
 
 const SINGLE: [&str; 5] = ["osektime ", "round ", "start ", "rounds ", "adjust "];
@@ -495,7 +590,11 @@ const OPENERS: [&str; 5] = ["task ", "isr ", "osek ", "oisr ", "hook "];
 /// A line that begins with one of the words, or any where there is none.
 fn line_of(random: &mut Random, lines: &[String], words: &[&str]) -> usize {
     let found: Vec<usize> = (0..lines.len()).filter(|&at| words.iter().any(|word| lines[at].starts_with(word))).collect();
-    if found.is_empty() { random.place(lines.len()) } else { *random.of(&found) }
+    if found.is_empty() {
+        random.place(lines.len())
+    } else {
+        *random.of(&found)
+    }
 }
 
 /// Rows in the place of a line, in one of the ways in which a rule is broken.
@@ -538,7 +637,8 @@ pub fn break_rule(random: &mut Random, lines: &mut Vec<String>) {
         6 => lines.extend([random.of(&["task Empty 1", "oisr Empty 250", "osek Empty 255 auto"]).to_string(), "end".to_string()]),
         7 | 8 => {
             let place = line_of(random, lines, &OPENERS) + 1;
-            let row = random.of(&["sync", "shutdown", "terminate", "chain P", "activate P", "switch m", "work 1", "take d", "set x 1"]);
+            let row =
+                random.of(&["sync", "shutdown", "terminate", "chain P", "activate P", "switch m", "work 1", "take d", "set x 1"]);
             lines.insert(place, row.to_string());
         }
         9 | 10 => {
@@ -570,7 +670,8 @@ pub fn break_rule(random: &mut Random, lines: &mut Vec<String>) {
 
 /// One row more than a mode may have, or as many.
 fn many_rows(random: &mut Random) -> Vec<String> {
-    let mut lines: Vec<String> = ["osektime 1", "round 10000", "mode m", "mode n", "task A 1", "sync", "end"].map(str::to_string).to_vec();
+    let mut lines: Vec<String> =
+        ["osektime 1", "round 10000", "mode m", "mode n", "task A 1", "sync", "end"].map(str::to_string).to_vec();
     let rows = random.from_to(4095, 4097);
     lines.extend((0..rows).map(|i| format!("at {} m activate A {} nonstringent", 2 * i, 2 * i + 1 + random.to(1))));
     lines.extend(["at 0 n activate A 1 stringent", "start n", "rounds 2"].map(str::to_string));

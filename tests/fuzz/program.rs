@@ -57,12 +57,8 @@ impl Program {
     pub fn answer(&self, words: &[&str]) -> std::io::Result<Answer> {
         let (mut reader, writer) = std::io::pipe()?;
         let input = File::open(&self.input_path)?;
-        let child = Command::new(&self.path)
-            .args(words)
-            .stdin(input)
-            .stderr(writer.try_clone()?)
-            .stdout(Stdio::from(writer))
-            .spawn()?;
+        let child =
+            Command::new(&self.path).args(words).stdin(input).stderr(writer.try_clone()?).stdout(Stdio::from(writer)).spawn()?;
         *self.running.lock().unwrap_or_else(PoisonError::into_inner) = Some((child, Instant::now()));
         let mut text = Vec::new();
         reader.read_to_end(&mut text)?;

@@ -19,7 +19,11 @@ impl Random {
 
     /// From 0 to `most`.
     pub fn to(&mut self, most: u64) -> u64 {
-        if most == u64::MAX { self.next() } else { self.next() % (most + 1) }
+        if most == u64::MAX {
+            self.next()
+        } else {
+            self.next() % (most + 1)
+        }
     }
 
     pub fn from_to(&mut self, least: u64, most: u64) -> u64 {
