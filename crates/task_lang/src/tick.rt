@@ -166,7 +166,7 @@ fn put_work(stack: &mut Vec<Stmt>, ticks: u64)
 }
 
 /// How many ticks a demand is given now. It uses one of the script's values, if there is one.
-fn take(cursors: &mut Cursors, demand: DemandNo, demands: &Demands, values: &Values) -> u64
+pub fn take(cursors: &mut Cursors, demand: DemandNo, demands: &Demands, values: &Values) -> u64
     ensures given { result
         ≡ given (supply_of demands.now values.now) demand.0 (slice_index cursors.old demand.0) }
     ensures used { cursors.new ≡ use_one (supply_of demands.now values.now) demand.0 cursors.old }

@@ -19,7 +19,7 @@ pub fn value(expr: &Expr, vars: &Vars) -> i32
 }
 
 /// What an operator gives of two values.
-fn apply(op: Op, left: i32, right: i32) -> i32
+pub fn apply(op: Op, left: i32, right: i32) -> i32
     ensures { result ≡ result_of op left right }
 {
     match op {

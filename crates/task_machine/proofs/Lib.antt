@@ -1,0 +1,10 @@
+pub mod Compiles
+pub mod Ends
+pub mod Exprs
+pub mod Fronts
+pub mod OnlyLeft
+pub mod Ranges
+pub mod ReadBack
+pub mod Standings
+pub mod Steps
+pub mod Turns

@@ -1,0 +1,40 @@
+//! Instructions.
+
+use task_lang::Op;
+use tt_base::{Call, DemandNo, VarNo};
+
+/// One term of an expression.
+#[derive(Clone, Copy, Debug, PartialEq, Eq)]
+pub enum Term {
+    /// A number.
+    Const(i32),
+    /// The value that a variable has.
+    Var(VarNo),
+    /// An operator. The terms of its two operands follow.
+    Apply(Op),
+}
+
+/// One instruction. Where it has an expression, the terms follow it in prefix form.
+#[derive(Clone, Copy, Debug, PartialEq, Eq)]
+pub enum Instr {
+    /// So many ticks of computing.
+    Work(u64),
+    /// One tick, then the ticks that a demand is given.
+    Take(DemandNo),
+    /// A variable gets the value of the expression.
+    Set(VarNo),
+    /// Where the expression is 0, so many instructions after it are passed.
+    If(usize),
+    /// So many instructions are passed, in no time.
+    Skip(usize),
+    /// The counter that it sets, and the turns of the body that follows.
+    Repeat(u8, u16),
+    /// The end of a body: while its counter is not 0, one turn more, so many instructions back.
+    Again(u8, usize),
+    /// Puts out the value of the expression.
+    Out,
+    /// Calls a service.
+    Service(Call),
+    /// A term of an expression.
+    Term(Term),
+}
