@@ -1,6 +1,6 @@
 //! Codes of bodies.
 
-ghost use Rattle.std.specs.Prelude.{◌≡◌, ◌<◌, [], ◌∷◌, ◌++◌, length, IfOk, OnOk, OnErr};
+ghost use Rattle.std.specs.Prelude.{◌≡◌, ◌<◌, ◌≤◌, ◌+◌, [], ◌∷◌, ◌++◌, length, IfOk, OnOk, OnErr};
 ghost use Rattle.task_machine.specs.Layout.{AreInRange, body_code};
 ghost use Rattle.task_machine.specs.Standing.{code_of};
 
@@ -39,7 +39,7 @@ pub struct Codes {
 }
 
 impl Model for Codes {
-    ghost use Rattle.std.specs.Prelude.{List};
+    ghost use Rattle.std.specs.Prelude.{List, ◌≤◌, length};
     ghost use Rattle.std.specs.Coded.{coded_list};
     ghost use Rattle.task_lang.specs.contracts.syntax.Stmt as stmt;
     ghost use Rattle.task_lang.specs.declared.syntax.Stmt.{Stmt};
@@ -49,6 +49,8 @@ impl Model for Codes {
     ghost coded = { coded_list (coded_list stmt.the_row.coded) };
 
     ghost view = { λ c. c.codes.items };
+
+    ghost invariant = { λ c. length c.codes.items ≤ 256 };
 }
 
 impl Codes {
@@ -75,9 +77,19 @@ impl Codes {
 
     /// How many codes there are.
     pub fn len(&self) -> usize
-        ensures { result ≡ length self.now }
+        ensures value { result ≡ length self.now }
+        ensures few { result ≤ 256 }
     {
         self.codes.len()
+    }
+
+    /// The number of the code so many after another.
+    pub fn number_after(&self, first: u16, count: u16) -> u16
+        requires { first + count < length self.now }
+        ensures { result ≡ first + count }
+    {
+        let _codes = self.codes.as_slice();
+        first + count
     }
 
     /// The instructions of a program.

@@ -26,9 +26,19 @@ notes_event r names s event t kept ready never_falls =
 
 -- one event was cut
 pub cut_event : {S : Type 0} (r : Ghosts S) (names : List NameEntry) (s : S) (event : Event) (t : S)
-    → r.cut s event names t → Rose (r.faults s) (r.faults t) → CutWithin r names s (event ∷ []) t
-cut_event r names s event t cut cause =
-    record { done = []; next = event; rest = []; split = refl; middle = s; kept = refl; cut = cut; cause = cause }
+    → r.cut s event names t → Rose (r.faults s) (r.faults t) → r.faults s ≤ r.faults t
+    → CutWithin r names s (event ∷ []) t
+cut_event r names s event t cut cause never_falls = record {
+  done = [];
+  next = event;
+  rest = [];
+  split = refl;
+  middle = s;
+  kept = refl;
+  cut = cut;
+  cause = cause;
+  never_falls = never_falls;
+}
 
 -- some events were noted, and then others
 pub notes_then : {S : Type 0} {r : Ghosts S} {names : List NameEntry} {s m t : S} {xs ys : List Event} (all : List Event)
@@ -56,6 +66,7 @@ cut_then {S} {r} {names} {s} {m} {t} {xs} {ys} all split p q = record {
   kept = folds_append (λ a e b. r.kept a e names b) s m q.middle xs q.done p.kept q.kept;
   cut = q.cut;
   cause = rose_later (r.faults s) (r.faults m) (r.faults t) p.never_falls q.cause;
+  never_falls = omega (arith, p.never_falls, q.never_falls);
 }
 
 -- it was cut within some events, so within them and others
@@ -70,6 +81,7 @@ cut_before {S} {r} {names} {s} {t} {xs} ys all split p = record {
   kept = p.kept;
   cut = p.cut;
   cause = p.cause;
+  never_falls = p.never_falls;
 }
 
 -- some events were noted, and then what was done over others decides
@@ -78,3 +90,9 @@ pub records_then : {S T E : Type 0} {r : Ghosts S} {names : List NameEntry} {s m
     → all ≡ xs ++ ys → Notes r names s xs m → Records r names m ys t result → Records r names s all t result
 records_then ys all t (Ok value) split p q = notes_then all split p q
 records_then ys all t (Err error) split p q = cut_then all split p q
+
+-- the count of faults did not fall
+pub records_never_falls : {S T E : Type 0} (r : Ghosts S) (names : List NameEntry) (s : S) (events : List Event) (t : S)
+    (result : Result T E) → Records r names s events t result → r.faults s ≤ r.faults t
+records_never_falls r names s events t (Ok value) p = p.never_falls
+records_never_falls r names s events t (Err error) p = p.never_falls

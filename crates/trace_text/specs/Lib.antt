@@ -2,3 +2,5 @@ pub mod Lines
 pub mod ListRecorder
 pub mod Noted
 pub mod Records
+pub mod SinkRecorder
+pub mod Stamp

@@ -28,6 +28,7 @@ pub record CutWithin {S : Type 0} (r : Ghosts S) (names : List NameEntry) (befor
   pub kept : KeptAll r names before done middle
   pub cut : r.cut middle next names after
   pub cause : Rose (r.faults before) (r.faults after)
+  pub never_falls : r.faults before ≤ r.faults after
 
 -- by an answer: it noted these events, or was cut within them
 abbrev pub Records : {S T E : Type 0} → Ghosts S → List NameEntry → S → List Event → S → Result T E → Type 0

@@ -1,12 +1,17 @@
 //! The text of a trace: the line of each event, and who notes events. Other printed lines are made of the same words.
 #![tactic(auto)]
 
+mod buffer_lines;
 mod discard;
 mod event_line;
 mod line;
+mod line_buffer;
 mod list_recorder;
 mod notes;
 mod recorder;
+mod sink_recorder;
+mod stamp;
+mod written;
 
 pub use discard::Discard;
 pub use event_line::line_of;
@@ -14,6 +19,8 @@ pub use line::Line;
 pub use list_recorder::ListRecorder;
 pub use notes::{note_all, note_one};
 pub use recorder::{Failed, Noted, Recorder};
+pub use sink_recorder::SinkRecorder;
+pub use written::write_events;
 
 #[cfg(test)]
 mod tests;

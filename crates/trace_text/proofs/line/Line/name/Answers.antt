@@ -1,15 +1,7 @@
-use Rattle.std.proofs.Common.{◌≡◌, ◌++◌, ◌∷◌, [], List, ℕ, Option, ap, sym, ◌∙◌}
+use Rattle.std.proofs.Common.{◌++◌, ◌∷◌, [], ap, sym, ◌∙◌}
 use Rattle.std.specs.Prelude.{unwrap_or}
-use Rattle.tt_base.specs.declared.names.NameEntry.{NameEntry}
-use Rattle.tt_base.specs.declared.names.Declared.{Declared}
-use Rattle.tt_base.specs.Names.{get_name, name_of}
+use Rattle.trace_text.proofs.NameTexts.{found}
 use Rattle.trace_text.proofs.line.Line.name.Goals as goal
-
--- the text of a thing's name, by what looking it up gives
-found : (names : List NameEntry) (which : Declared) (looked_up : Option (List ℕ)) → looked_up ≡ get_name names which
-    → unwrap_or looked_up [] ≡ name_of names which
-unfolding name_of
-found names which looked_up is = ap (λ o. unwrap_or o []) is
 
 pub returns-in-Some-clause-text : goal.returns-in-Some-clause-text
 returns-in-Some-clause-text c =

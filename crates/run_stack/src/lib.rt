@@ -1,0 +1,8 @@
+//! The preemption stack: the unfinished activations of tasks and interrupt service routines, of which the top one runs.
+#![tactic(auto)]
+
+mod stack;
+mod top;
+
+pub use stack::{ISRS, RunStack, StackFrame, TASKS};
+pub use top::Top;

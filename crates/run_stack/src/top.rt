@@ -1,0 +1,15 @@
+//! What is on top of a stack.
+
+use task_machine::Frame;
+use tt_base::Owner;
+
+/// The one that runs.
+#[derive(Clone, Copy, Debug, PartialEq, Eq)]
+pub struct Top {
+    /// Whose frame it is.
+    pub owner: Owner,
+    /// Where its body stands.
+    pub frame: Frame,
+    /// The ticks left of the `work` that its body has begun, 0 where it has begun none.
+    pub work_left: u64,
+}

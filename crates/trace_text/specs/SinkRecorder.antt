@@ -1,0 +1,40 @@
+-- What is seen of a recorder before a sink, and what its notes do.
+use Rattle.std.specs.Prelude.{◌≡◌, ℕ, Bool, false, not, Option, List, ◌++◌, Result, Ok, Err}
+use Rattle.std.specs.Borrow.{MutBor}
+use Rattle.tt_io.specs.Known.{AppendsPart}
+use Rattle.tt_io.specs.Passes.{Passes}
+use Rattle.trace_text.specs.declared.sink_recorder.SinkRecorder.{SinkRecorder}
+
+-- the sink that it borrows
+abbrev pub sink_of : {O : Type 0} → SinkRecorder O → MutBor O
+sink_of r = r.sink
+
+-- the bytes that wait for the sink
+abbrev pub waiting_in : {O : Type 0} → SinkRecorder O → List ℕ
+waiting_in r = r.waiting
+
+-- whether it takes an event: no note has failed
+abbrev pub takes : {O : Type 0} → SinkRecorder O → Bool
+takes r = not r.failed
+
+-- the recorder after the call borrows the same sink as before it
+abbrev pub SameSink : {O : Type 0} → SinkRecorder O → SinkRecorder O → Type 0
+SameSink before after = (sink_of after).ghost_name ≡ (sink_of before).ghost_name
+
+-- a text came to what waited: of both a front was appended to the sink, where it tells its bytes, and the others wait
+pub record Puts {O : Type 0} (written : O → Option (List ℕ)) (before : SinkRecorder O) (text : List ℕ) (after : SinkRecorder O)
+    : Type 0 where
+  pub passes : Passes (written (sink_of before).now) (written (sink_of after).now) (waiting_in before ++ text) (waiting_in after)
+  pub same_sink : SameSink before after
+
+-- a text came to what waited, and a proper prefix of both was appended to the sink, where it tells its bytes
+pub record Cuts {O : Type 0} (written : O → Option (List ℕ)) (before : SinkRecorder O) (text : List ℕ) (after : SinkRecorder O)
+    : Type 0 where
+  pub part : AppendsPart (written (sink_of before).now) (written (sink_of after).now) (waiting_in before ++ text)
+  pub same_sink : SameSink before after
+  pub over : takes after ≡ false
+
+-- by an answer: a text was put, or cut
+abbrev pub Writes : {O T E : Type 0} → (O → Option (List ℕ)) → SinkRecorder O → List ℕ → SinkRecorder O → Result T E → Type 0
+Writes written before text after (Ok value) = Puts written before text after
+Writes written before text after (Err error) = Cuts written before text after
