@@ -5,3 +5,7 @@ pub mod Searching
 pub mod Numbers
 pub mod Answering
 pub mod KeptValues
+pub mod Sums
+pub mod Largest
+pub mod Opened
+pub mod Sweeping

@@ -2,3 +2,5 @@ pub mod Least
 pub mod TablesOf
 pub mod Responses
 pub mod Kept
+pub mod Windows
+pub mod Measures

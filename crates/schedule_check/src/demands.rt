@@ -41,9 +41,7 @@ fn tasks_demand(parts: &ConfigParts, table: &Table, from: u64, to: u64) -> u128
 
 /// Whether a row enables a routine, at an offset at or after one and below another: 1 or 0.
 fn enable_within(row: Enable, isr: IsrNo, from: u64, to: u64) -> u64
-    ensures exact {
-        result ≡ cond ((row.isr.0 == isr.0) && is_within from to row.offset) 1 0
-    }
+    ensures exact { result ≡ cond ((row.isr.0 == isr.0) && is_within from to row.offset) 1 0 }
     ensures bounded { result ≤ 1 }
 {
     if row.isr.0 == isr.0 && from <= row.offset && row.offset < to {

@@ -8,8 +8,10 @@ mod answers;
 mod bounds;
 mod demands;
 mod responses;
+mod windows;
 
 pub use answers::{CheckAnswer, check};
 pub use bounds::kept;
 pub use demands::demand;
 pub use responses::response;
+pub use windows::{depth_bound, words_bound};

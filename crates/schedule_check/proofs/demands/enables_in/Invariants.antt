@@ -7,6 +7,6 @@ use Rattle.schedule_check.proofs.demands.enables_in.Given as goal
 abbrev pub invariant-loop-row : goal.invariant-loop-row
 invariant-loop-row l = record {
   count : l.count ≡ count_by
-  (λ (row : Enable). (row.isr.0 == l.isr.0) && is_within l.from l.to row.offset) (take l.row-index l.row-items);
+      (λ (row : Enable). (row.isr.0 == l.isr.0) && is_within l.from l.to row.offset) (take l.row-index l.row-items);
   bounded : l.count ≤ l.row-index;
 }
