@@ -7,7 +7,8 @@ use Rattle.tt_world.specs.declared.config.Activation.{Activation}
 use Rattle.tt_world.specs.declared.config.ModeDef.{ModeDef}
 use Rattle.tt_world.specs.declared.config.ConfigParts.{ConfigParts}
 use Rattle.tt_world.specs.Rows.{no_mode, mode_at, row_of}
-use Rattle.tt_world.specs.Demand.{demand, IsResponse, EachResponds}
+use Rattle.schedule_check.specs.Demand.{demand}
+use Rattle.schedule_check.specs.Responses.{IsResponse, EachResponds}
 use Rattle.round_table.specs.TableRows.{TableRows, no_table, table_at, table_of, tables_of}
 use Rattle.schedule_check.specs.declared.answers.CheckAnswer.TheVariants.{Yes, No}
 use Rattle.schedule_check.specs.TablesOf.{IsTableOf}

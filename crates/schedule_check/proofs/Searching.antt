@@ -4,7 +4,7 @@ use Rattle.std.proofs.lemmas.Bool.{cases_lt, le-leb, lt-leb}
 use Rattle.tt_world.specs.declared.config.Activation.{Activation}
 use Rattle.tt_world.specs.declared.config.ModeDef.{ModeDef}
 use Rattle.tt_world.specs.declared.config.ConfigParts.{ConfigParts}
-use Rattle.tt_world.specs.Demand.{demand}
+use Rattle.schedule_check.specs.Demand.{demand}
 use Rattle.schedule_check.specs.Responses.{demand_fits, response}
 use Rattle.schedule_check.proofs.Leasts.{least_is, least_none}
 use Rattle.schedule_check.proofs.Growing.{demand_more}

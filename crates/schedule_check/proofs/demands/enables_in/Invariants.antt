@@ -1,7 +1,7 @@
 use Rattle.std.proofs.Common.{◌≡◌, ◌≤◌, take}
 use Rattle.std.specs.Prelude.{◌==◌, ◌&&◌, count_by}
 use Rattle.tt_world.specs.declared.config.Enable.{Enable}
-use Rattle.tt_world.specs.Demand.{is_within}
+use Rattle.schedule_check.specs.Demand.{is_within}
 use Rattle.schedule_check.proofs.demands.enables_in.Given as goal
 
 abbrev pub invariant-loop-row : goal.invariant-loop-row

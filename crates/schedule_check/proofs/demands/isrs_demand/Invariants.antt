@@ -1,7 +1,7 @@
 use Rattle.std.proofs.Common.{◌≡◌, ◌-◌, ◌*◌, ◌≤◌, ◌^◌, ℕ}
 use Rattle.std.specs.Prelude.{sum_by}
 use Rattle.std.specs.List.{range_with_len}
-use Rattle.tt_world.specs.Demand.{enables_in, isr_demand, isr_of}
+use Rattle.schedule_check.specs.Demand.{enables_in, isr_demand, isr_of}
 use Rattle.schedule_check.proofs.demands.isrs_demand.Given as goal
 
 abbrev pub invariant-loop-number : goal.invariant-loop-number

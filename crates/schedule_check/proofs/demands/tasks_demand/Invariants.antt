@@ -1,7 +1,7 @@
 use Rattle.std.proofs.Common.{◌≡◌, ◌*◌, ◌≤◌, ◌^◌, take}
 use Rattle.std.specs.Prelude.{cond, sum_by}
 use Rattle.tt_world.specs.declared.config.Activation.{Activation}
-use Rattle.tt_world.specs.Demand.{is_within, task_budget}
+use Rattle.schedule_check.specs.Demand.{is_within, task_budget}
 use Rattle.schedule_check.proofs.demands.tasks_demand.Given as goal
 
 abbrev pub invariant-loop-row : goal.invariant-loop-row

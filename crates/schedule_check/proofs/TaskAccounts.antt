@@ -1,9 +1,9 @@
 -- The ticks since the offset of an unfinished activation, and who took them: kept by a tick.
-use Rattle.std.proofs.Common.{ℕ, zero, suc, ◌≡◌, ◌≢◌, ◌<◌, ◌≤◌, ◌+◌, ◌-◌, List, [], ◌∷◌, Bool, true, false, Option, None, Some, refl, ap, sym, ◌∙◌, subst, cond, arith, length, drop, ◌⊎◌, ⊎_elim, get_or, set}
-use Rattle.std.specs.Prelude.{sum_by, option_map, if◌then◌else◌}
+use Rattle.std.proofs.Common.{ℕ, suc, ◌≡◌, ◌≢◌, ◌<◌, ◌≤◌, ◌+◌, ◌-◌, List, [], Bool, false, refl, ap, sym, ◌∙◌, subst, arith, length, drop, ◌⊎◌, ⊎_elim, get_or, set}
+use Rattle.std.specs.Prelude.{sum_by, if◌then◌else◌}
 use Rattle.std.proofs.lemmas.List.{drop-set-add, get_or-drop, length-drop}
 use Rattle.std.proofs.lemmas.List.Sums.{sum_by-set}
-use Rattle.std.proofs.lemmas.Bool.{cond_both, cases_eq, false≢true}
+use Rattle.std.proofs.lemmas.Bool.{cases_eq, false≢true}
 use Rattle.tt_base.specs.declared.event.Event.{Event}
 use Rattle.task_lang.specs.declared.syntax.Stmt.{Stmt}
 use Rattle.task_lang.specs.Limits.{AreNumbersInRange}
@@ -19,93 +19,21 @@ use Rattle.tt_world.specs.declared.world.Runner.TheVariants as runner
 use Rattle.tt_world.specs.World.{World, Job}
 use Rattle.tt_world.specs.ConfigRules.{IsConfig}
 use Rattle.tt_world.specs.Rows.{mode_of, row_of}
-use Rattle.tt_world.specs.Runners.{is_done, no_job, job_at, with_left, last_unfinished, or_else, leaving, runner_of, first_runner}
+use Rattle.tt_world.specs.Runners.{is_done, no_job, job_at, with_left, leaving, runner_of}
 use Rattle.tt_world.specs.Step.{state_after, step}
 use Rattle.tt_world.specs.Schedule.{runner_at, ticks_of}
-use Rattle.tt_world.specs.Demand.{KeepsBounds, tasks_demand}
-use Rattle.tt_world.specs.RunLaws.{is_task, owed_from}
+use Rattle.schedule_check.specs.Demand.{tasks_demand}
+use Rattle.schedule_check.specs.Kept.{KeepsBounds}
+use Rattle.schedule_check.specs.DeadlineLaws.{is_task}
 use Rattle.tt_world.proofs.Keeps.{IsLeftAfter, IsOsek, StepKeeps, step_holds, Holds}
+use Rattle.tt_world.proofs.WhoRuns.{is_any_isr, Says, runner_says, last_found_at, none_found}
 use Rattle.tt_world.proofs.JobLists.{at_set, at_other, place_of_set, entry_of_set, undone_before}
 
--- ---- the last activation that is unfinished
-
-pub record IsLastUnfinished (n : ℕ) (xs : List Job) (q : ℕ) : Type 0 where
-  pub low : n ≤ q
-  pub within : q - n < length xs
-  pub undone : is_done (get_or xs (q - n) no_job).left ≡ false
-  pub after : (p : ℕ) → p < length xs → is_done (get_or xs p no_job).left ≡ false → n + p ≤ q
-
-NoneUnfinished : List Job → Type 0
-NoneUnfinished xs = (p : ℕ) → p < length xs → is_done (get_or xs p no_job).left ≡ false → ⊥
-
-Found : ℕ → List Job → Option ℕ → Type 0
-Found n xs None = NoneUnfinished xs
-Found n xs (Some q) = IsLastUnfinished n xs q
-
-found_here : (n : ℕ) (x : Job) (xs : List Job) (o : Option ℕ) → Found (n + 1) xs o
-    → Found n (x ∷ xs) (or_else o (cond (is_done x.left) None (Some n)))
-unfolding Found NoneUnfinished
-found_here n x xs (Some q) f =
-    let low = f.low in
-    let s : q - n ≡ suc (q - (n + 1)) = omega arith in
-    let w = f.within in
-    record { low = omega arith; within = omega arith; undone = rw s f.undone; after = later }
-  where
-    later : (p : ℕ) → p < length (x ∷ xs) → is_done (get_or (x ∷ xs) p no_job).left ≡ false → n + p ≤ q
-    later zero h u = let low = f.low in omega arith
-    later (suc p) h u = let r = f.after p (omega arith) u in omega arith
-found_here n x xs None f =
-    cond_both (is_done x.left) None (Some n) (λ (o : Option ℕ). Found n (x ∷ xs) o) none here
-  where
-    none : is_done x.left ≡ true → NoneUnfinished (x ∷ xs)
-    none d zero h u = false≢true (sym u ∙ d)
-    none d (suc p) h u = f p (omega arith) u
-
-    later : (p : ℕ) → p < length (x ∷ xs) → is_done (get_or (x ∷ xs) p no_job).left ≡ false → n + p ≤ n
-    later zero h u = omega arith
-    later (suc p) h u = absurd (f p (omega arith) u)
-
-    here : is_done x.left ≡ false → IsLastUnfinished n (x ∷ xs) n
-    here d =
-        let z : n - n ≡ 0 = omega arith in
-        record { low = omega arith; within = omega arith; undone = rw z d; after = later }
-
-last_found : (n : ℕ) (xs : List Job) → Found n xs (last_unfinished n xs)
-unfolding Found NoneUnfinished last_unfinished
-last_found n [] = λ p h u. absurd (omega arith)
-last_found n (x ∷ xs) = found_here n x xs (last_unfinished (n + 1) xs) (last_found (n + 1) xs)
-
-pub last_found_at : (xs : List Job) (q : ℕ) → last_unfinished 0 xs ≡ Some q → IsLastUnfinished 0 xs q
-unfolding Found
-last_found_at xs q e = subst (Found 0 xs) e (last_found 0 xs)
-
-pub none_found : (xs : List Job) → last_unfinished 0 xs ≡ None → (p : ℕ) → p < length xs
-    → is_done (get_or xs p no_job).left ≡ false → ⊥
-unfolding Found NoneUnfinished
-none_found xs e = subst (Found 0 xs) e (last_found 0 xs)
-
--- what the runner says of the activations: another runs only where none is unfinished
-abbrev pub Says : List Job → Runner → Type 0
-Says xs (runner.Isr isr) = Unit {0}
-Says xs (runner.Job q) = last_unfinished 0 xs ≡ Some q
-Says xs r = last_unfinished 0 xs ≡ None
-
-says : (xs : List Job) (i t o k : Option ℕ) → last_unfinished 0 xs ≡ t
-    → Says xs
-    (first_runner (option_map (λ (n : ℕ). runner.Isr (record { 0 = n })) i ∷ option_map
-    (λ (n : ℕ). runner.Job n) t ∷ option_map (λ (n : ℕ). runner.Oisr (record { 0 = n })) o ∷ option_map
-    (λ (n : ℕ). runner.Osek (record { 0 = n })) k ∷ []))
-says xs (Some n) t o k e = tt
-says xs None (Some q) o k e = e
-says xs None None (Some n) k e = e
-says xs None None None (Some n) e = e
-says xs None None None None e = e
-
-pub runner_says : (c : ConfigParts) (w : World) → Says w.jobs (runner_of c w)
-unfolding runner_of
-runner_says c w = says w.jobs _ (last_unfinished 0 w.jobs) _ _ refl
-
 -- ---- what is owed
+
+-- what the activation at a place and the later ones still owe
+abbrev pub owed_from : ConfigParts → World → ℕ → ℕ
+owed_from c w place = sum_by (λ (job : Job). worst_in c.demands job.left) (drop place w.jobs)
 
 -- what is left of one activation gets less: so does what it and those before it owe
 pub owed_less : (c : ConfigParts) (w : World) (p q : ℕ) (left : List Stmt) → p ≤ q → q < length w.jobs
@@ -126,11 +54,6 @@ owed_less c w p q left le within less =
     omega arith
 
 -- ---- the account
-
--- any time-triggered routine
-abbrev pub is_any_isr : Runner → Bool
-is_any_isr (runner.Isr isr) = true
-is_any_isr r = false
 
 -- the ticks before T since a tick
 abbrev pub taken : (Runner → Bool) → ConfigParts → ScriptParts → (from T : ℕ) → ℕ

@@ -24,12 +24,12 @@ use Rattle.tt_world.specs.Gates.{enable, enables, arrived, arrival, arrivals, is
 use Rattle.tt_world.specs.Opening.{checks, activated, activation, opening}
 use Rattle.tt_world.specs.Runners.{is_done, leaving, runner_of}
 use Rattle.tt_world.specs.Schedule.{world_at, runner_if, runner_at, ticks_of}
-use Rattle.tt_world.specs.RunLaws.{is_isr}
+use Rattle.schedule_check.specs.DeadlineLaws.{is_isr}
 use Rattle.tt_world.proofs.Parts.{OpeningKeeps, Alone, Anything, Leads, followed_leads, chain_each, GoesOnBefore, kept_at, instant_leads, opening_leads, led_on}
 use Rattle.tt_world.proofs.Keeps.{Holds, monitored_holds, StepKeeps, step_holds}
-use Rattle.tt_world.proofs.IsrAccounts.{isr_runs, highest_undone}
-use Rattle.tt_world.proofs.TaskAccounts.{is_any_isr}
-use Rattle.tt_world.proofs.TaskParts.{sum_by-le_at}
+use Rattle.tt_world.proofs.WhoRuns.{isr_runs, highest_undone}
+use Rattle.tt_world.proofs.WhoRuns.{is_any_isr}
+use Rattle.schedule_check.proofs.TaskParts.{sum_by-le_at}
 
 -- ---- what is left of each routine is kept in a list of one length
 

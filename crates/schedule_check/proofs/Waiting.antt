@@ -1,16 +1,14 @@
 -- An unfinished activation has not reached its response end, and so not its deadline.
-use Rattle.std.proofs.Common.{ℕ, zero, suc, ◌≡◌, ◌≢◌, ◌<◌, ◌≤◌, ◌+◌, ◌-◌, List, [], ◌∷◌, false, Option, None, Some, refl, ap, sym, ◌∙◌, subst, arith, length, ⊎_elim, get_or}
+use Rattle.std.proofs.Common.{ℕ, zero, suc, ◌≡◌, ◌≢◌, ◌<◌, ◌≤◌, ◌+◌, ◌-◌, [], false, refl, ap, sym, ◌∙◌, subst, arith, length, ⊎_elim, get_or}
 use Rattle.std.specs.Prelude.{sum_by, count_by}
 use Rattle.std.specs.List.{range_with_len}
 use Rattle.std.proofs.lemmas.List.{get_or_past}
-use Rattle.std.proofs.lemmas.List.Sums.{sum_by-cons}
 use Rattle.std.proofs.lemmas.List.FromFn.{length-range_with_len, get_or-range_with_len}
 use Rattle.std.proofs.lemmas.Bool.{cases_lt, false≢true}
 use Rattle.task_lang.specs.Limits.{AreNumbersInRange}
 use Rattle.task_lang.specs.Tick.{supply_of, state_of}
 use Rattle.task_lang.specs.TickLaws.{KeepsMost}
 use Rattle.task_lang.proofs.Ticking.{lowers_worst, keeps_most}
-use Rattle.tt_world.specs.declared.config.IsrDef.{IsrDef}
 use Rattle.tt_world.specs.declared.config.ModeDef.{ModeDef}
 use Rattle.tt_world.specs.declared.config.ConfigParts.{ConfigParts}
 use Rattle.tt_world.specs.declared.script.ScriptParts.{ScriptParts}
@@ -20,49 +18,33 @@ use Rattle.tt_world.specs.ScriptRules.{IsScript}
 use Rattle.tt_world.specs.Rows.{no_mode, mode_at, mode_of, row_of}
 use Rattle.tt_world.specs.Runners.{job_at, is_done}
 use Rattle.tt_world.specs.Schedule.{instant, instant_at, world_at, events_between, ticks_of, last_instant}
-use Rattle.tt_world.specs.Demand.{isr_of, enables_in, most_begins, isr_demand, isrs_demand, demand, EachResponds, KeepsBounds}
-use Rattle.tt_world.specs.RunLaws.{is_isr, is_enable, owed_from}
+use Rattle.schedule_check.specs.Demand.{isr_of, enables_in, isr_demand, isrs_demand, demand}
+use Rattle.schedule_check.specs.Kept.{KeepsBounds}
+use Rattle.schedule_check.specs.Responses.{EachResponds}
+use Rattle.schedule_check.specs.DeadlineLaws.{is_isr, is_enable}
+use Rattle.schedule_check.proofs.Growing.{routine_more}
+use Rattle.schedule_check.proofs.Sums.{sum_le_at}
+use Rattle.schedule_check.proofs.TaskAccounts.{owed_from}
 use Rattle.tt_world.proofs.Parts.{Alone, Anything, GoesOnBefore, led_on}
 use Rattle.tt_world.proofs.Ends.{are_bounded, last_is, goes_on_less}
-use Rattle.tt_world.proofs.IsrAccounts.{more_times}
-use Rattle.tt_world.proofs.IsrRuns.{isr_bounded}
-use Rattle.tt_world.proofs.TaskAccounts.{is_any_isr, taken, owed_less}
-use Rattle.tt_world.proofs.TaskRuns.{tasks_at}
+use Rattle.schedule_check.proofs.IsrRuns.{isr_bounded}
+use Rattle.tt_world.proofs.WhoRuns.{is_any_isr}
+use Rattle.schedule_check.proofs.TaskAccounts.{taken, owed_less}
+use Rattle.schedule_check.proofs.TaskRuns.{tasks_at}
 use Rattle.tt_world.proofs.TableRows.{mode_rows, deadline_after}
-use Rattle.tt_world.proofs.Unfinished.{OfEntry, Each, SaidOfNew, instant_each}
-use Rattle.tt_world.proofs.Enabling.{enables_at_instant}
-use Rattle.tt_world.proofs.IsrTicks.{ticks_by_number}
+use Rattle.schedule_check.proofs.Unfinished.{OfEntry, Each, SaidOfNew, instant_each}
+use Rattle.schedule_check.proofs.Enabling.{enables_at_instant}
+use Rattle.schedule_check.proofs.IsrTicks.{ticks_by_number}
 
 -- ---- sums over numbers
-
--- a sum of terms that are no larger at each place
-sums_at : (f g : ℕ → ℕ) (xs : List ℕ) → ((i : ℕ) → i < length xs → f (get_or xs i 0) ≤ g (get_or xs i 0))
-    → sum_by f xs ≤ sum_by g xs
-sums_at f g [] h = omega arith
-sums_at f g (x ∷ xs) h =
-    let a = sum_by-cons f x xs in
-    let b = sum_by-cons g x xs in
-    let r = sums_at f g xs (λ i l. h (suc i) (omega arith)) in
-    let here = h 0 (omega arith) in
-    omega arith
 
 sums_within : (f g : ℕ → ℕ) (n : ℕ) → ((x : ℕ) → x < n → f x ≤ g x)
     → sum_by f (range_with_len 0 n) ≤ sum_by g (range_with_len 0 n)
 sums_within f g n h =
     let m = length-range_with_len 0 n in
-    sums_at f g (range_with_len 0 n)
+    sum_le_at f g 0 (range_with_len 0 n)
     (λ i l. let z : 0 + i ≡ i = omega arith in let k : get_or (range_with_len 0 n) i 0 ≡ i =
     get_or-range_with_len 0 n i 0 (omega arith) ∙ z in rw k (h i (omega arith)))
-
--- ---- more enables
-
-begins_more : (distance : Option ℕ) (d e ticks : ℕ) → d ≤ e
-    → most_begins distance d ticks ≤ most_begins distance e ticks
-begins_more None d e ticks l = l
-begins_more (Some distance) d e ticks l = omega arith
-
-isr_more : (isr : IsrDef) (d e ticks : ℕ) → d ≤ e → isr_demand isr d ticks ≤ isr_demand isr e ticks
-isr_more isr d e ticks l = more_times isr.budget _ _ (begins_more isr.distance d e ticks l)
 
 -- ---- the join
 
@@ -119,8 +101,8 @@ module _ (c : ConfigParts) (s : ScriptParts) (rules : IsConfig c) (script : IsSc
       ((n - w.start) - from) = λ isr i.
       let b = isr_bounded c s rules script bounds isr (omega arith) m k (omega arith) in
       let e = (enables_at_instant c s isr n g).within from l in
-      let more = isr_more (isr_of c isr) (count_by (is_enable isr) (events_between c s m k))
-      (enables_in (mode_of c w) isr from (n - w.start)) k e in
+      let more = routine_more (isr_of c isr) (count_by (is_enable isr) (events_between c s m k))
+      (enables_in (mode_of c w) isr from (n - w.start)) k k e (omega arith) in
       rw y (omega arith) in
       let sum = sums_within (λ (isr : ℕ). ticks_of (is_isr isr) c s m k)
       (λ (isr : ℕ). isr_demand (isr_of c isr) (enables_in (mode_of c w) isr from (n - w.start))

@@ -1,12 +1,11 @@
 -- The ticks of one time-triggered routine in any consecutive instants.
-use Rattle.std.proofs.Common.{ℕ, ◌≡◌, ◌≢◌, ◌<◌, ◌≤◌, ◌+◌, ◌*◌, List, [], ◌∷◌, ◌++◌, Bool, true, false, Option, None, Some, refl, ap, sym, ◌∙◌, subst, cond, arith, length, ◌⊎◌, ⊎_elim, get_or, set, get_or-set_same, get_or-set_other}
-use Rattle.std.specs.Prelude.{◌==◌, ◌&&◌, not, filter, count_by, option_map, slice_index_or, nat_lt}
-use Rattle.std.specs.List.{list_all, range_with_len}
+use Rattle.std.proofs.Common.{ℕ, ◌≡◌, ◌≢◌, ◌<◌, ◌≤◌, ◌+◌, ◌*◌, List, [], ◌∷◌, ◌++◌, Bool, true, false, refl, ap, sym, ◌∙◌, subst, cond, arith, length, ◌⊎◌, ⊎_elim, get_or, set, get_or-set_same, get_or-set_other}
+use Rattle.std.specs.Prelude.{◌==◌, count_by}
 use Rattle.std.proofs.Math.Nat.{mul-add, mul-le-mul_left}
 use Rattle.std.proofs.lemmas.List.{length-set}
 use Rattle.std.proofs.lemmas.List.Sums.{sum_by-append}
 use Rattle.std.proofs.lemmas.List.Elements.{All-get_or}
-use Rattle.std.proofs.lemmas.Bool.{cond_both, false≢true, and_parts}
+use Rattle.std.proofs.lemmas.Bool.{false≢true}
 use Rattle.tt_base.specs.declared.event.Event.{Event}
 use Rattle.tt_base.specs.declared.event.Event.TheVariants.{Arrive}
 use Rattle.tt_base.specs.declared.number.IsrNo.{IsrNo}
@@ -19,80 +18,16 @@ use Rattle.task_lang.specs.Worst.{worst_in}
 use Rattle.task_lang.proofs.Ticking.{lowers_worst, keeps_numbers, keeps_most}
 use Rattle.tt_world.specs.declared.config.ConfigParts.{ConfigParts}
 use Rattle.tt_world.specs.declared.script.ScriptParts.{ScriptParts}
-use Rattle.tt_world.specs.declared.world.Runner.{Runner}
 use Rattle.tt_world.specs.declared.world.Runner.TheVariants as runner
 use Rattle.tt_world.specs.World.{World}
 use Rattle.tt_world.specs.ConfigRules.{IsConfig, IsIsr}
-use Rattle.tt_world.specs.Runners.{is_done, runner_of, highest, higher, unfinished, isr_levels, first_runner}
+use Rattle.tt_world.specs.Runners.{is_done}
 use Rattle.tt_world.specs.Rows.{no_isr}
 use Rattle.tt_world.specs.Step.{state_after}
-use Rattle.tt_world.specs.Demand.{isr_of, KeepsBounds}
-use Rattle.tt_world.specs.RunLaws.{is_enable}
+use Rattle.schedule_check.specs.Demand.{isr_of}
+use Rattle.schedule_check.specs.Kept.{KeepsBounds}
+use Rattle.schedule_check.specs.DeadlineLaws.{is_enable}
 use Rattle.tt_world.proofs.Keeps.{IsOsek, IsLeftAfter}
-
--- ---- the one who runs has statements left
-
-some_same : (a b : ℕ) → Some a ≡ Some b → a ≡ b
-some_same a b g = cc
-
-higher_passes : (levels : List ℕ) (test : ℕ → Bool) (x : ℕ) (o : Option ℕ) → test x ≡ true
-    → ((n : ℕ) → o ≡ Some n → test n ≡ true) → test (higher levels x o) ≡ true
-higher_passes levels test x None h k = h
-higher_passes levels test x (Some other) h k =
-    cond_both (nat_lt (slice_index_or levels x 0) (slice_index_or levels other 0)) other x (λ (y : ℕ). test y ≡ true)
-    (λ _. k other refl) (λ _. h)
-
--- the highest of some numbers that all pass a test passes it
-pub passes : (levels numbers : List ℕ) (test : ℕ → Bool) → list_all test numbers ≡ true → (number : ℕ)
-    → highest levels numbers ≡ Some number → test number ≡ true
-unfolding highest
-passes levels [] test h number e = cc
-passes levels (x ∷ xs) test h number e =
-    let both = and_parts (test x) (list_all test xs) h in
-    subst (λ (y : ℕ). test y ≡ true) (some_same _ number e)
-    (higher_passes levels test x (highest levels xs) both.0 (passes levels xs test both.1))
-
-filtered : (test : ℕ → Bool) (xs : List ℕ) → list_all test (filter test xs) ≡ true
-filtered test [] = refl
-filtered test (x ∷ xs) =
-    cond_both (test x) _ _ (λ (ys : List ℕ). list_all test ys ≡ true)
-    (λ e. let rest = filtered test xs in ap (λ b. b && list_all test (filter test xs)) e ∙ rest) (λ _. filtered test xs)
-
-undone : List (List Stmt) → ℕ → Bool
-undone lefts number = not (is_done (slice_index_or lefts number []))
-
-not_done : (b : Bool) → not b ≡ true → b ≡ false
-not_done true e = cc
-not_done false e = refl
-
--- the highest that is unfinished has statements left
-pub highest_undone : (levels : List ℕ) (lefts : List (List Stmt)) (number : ℕ)
-    → highest levels (unfinished lefts) ≡ Some number → is_done (slice_index_or lefts number []) ≡ false
-highest_undone levels lefts number e =
-    not_done _ (passes levels (unfinished lefts) (λ (n : ℕ). not (is_done (slice_index_or lefts n [])))
-    (filtered _ (range_with_len 0 (length lefts))) number e)
-
--- where a time-triggered routine runs, it is the unfinished one of the highest level
-isr_first : (o : Option ℕ) (others : List (Option Runner)) (isr : IsrNo)
-    → ((r : Runner) → first_runner others ≡ r → (j : IsrNo) → r ≡ runner.Isr j → ⊥)
-    → first_runner (option_map (λ (number : ℕ). runner.Isr (record { 0 = number })) o ∷ others) ≡ runner.Isr isr
-    → o ≡ Some isr.0
-isr_first None others isr none e = absurd (none _ e isr refl)
-isr_first (Some number) others isr none e = cc
-
-none_isr : (o p q : Option ℕ) (r : Runner)
-    → first_runner (option_map (λ (place : ℕ). runner.Job place) o ∷ option_map
-    (λ (number : ℕ). runner.Oisr (record { 0 = number })) p ∷ option_map
-    (λ (number : ℕ). runner.Osek (record { 0 = number })) q ∷ []) ≡ r → (j : IsrNo) → r ≡ runner.Isr j → ⊥
-none_isr (Some place) p q r e j f = cc
-none_isr None (Some n) q r e j f = cc
-none_isr None None (Some n) r e j f = cc
-none_isr None None None r e j f = cc
-
-pub isr_runs : (c : ConfigParts) (w : World) (isr : IsrNo) → runner_of c w ≡ runner.Isr isr
-    → highest (isr_levels c) (unfinished w.isrs) ≡ Some isr.0
-unfolding runner_of
-isr_runs c w isr e = isr_first _ _ isr (none_isr _ _ _) e
 
 -- ---- the account
 

@@ -10,15 +10,15 @@ use Rattle.tt_world.specs.Runners.{runner_of}
 use Rattle.tt_world.specs.Opening.{opening}
 use Rattle.tt_world.specs.Step.{step}
 use Rattle.tt_world.specs.Schedule.{runner_if, runner_at, instant, world_at}
-use Rattle.tt_world.specs.Demand.{KeepsBounds}
+use Rattle.schedule_check.specs.Kept.{KeepsBounds}
 use Rattle.tt_world.proofs.Parts.{Alone, Anything, LeadsTo, GoesOnBefore, leads_by, led_on, followed_at, kept_from}
 use Rattle.task_lang.specs.declared.syntax.Stmt.{Stmt}
 use Rattle.tt_world.specs.declared.world.Runner.{Runner}
 use Rattle.tt_world.specs.declared.world.Runner.TheVariants as runner
 use Rattle.tt_world.specs.Runners.{leaving}
 use Rattle.tt_world.proofs.Keeps.{Holds, StepKeeps, step_holds}
-use Rattle.tt_world.proofs.TaskAccounts.{Tasks, step_tasks}
-use Rattle.tt_world.proofs.TaskParts.{opening_tasks}
+use Rattle.schedule_check.proofs.TaskAccounts.{Tasks, step_tasks}
+use Rattle.schedule_check.proofs.TaskParts.{opening_tasks}
 
 -- before the opening of instant T
 abbrev pub TasksAt : ConfigParts → ScriptParts → ℕ → World → Type 0

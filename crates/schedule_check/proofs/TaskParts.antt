@@ -25,12 +25,12 @@ use Rattle.tt_world.specs.Monitoring.{monitored, is_at, is_at_end}
 use Rattle.tt_world.specs.Rounds.{head, latch, next_round, round_end}
 use Rattle.tt_world.specs.Opening.{checks, activated, activation, opening}
 use Rattle.tt_world.specs.Schedule.{ticks_of}
-use Rattle.tt_world.specs.Demand.{is_within, task_budget, tasks_demand}
-use Rattle.tt_world.specs.RunLaws.{owed_from}
+use Rattle.schedule_check.specs.Demand.{is_within, task_budget, tasks_demand}
+use Rattle.schedule_check.proofs.TaskAccounts.{owed_from}
 use Rattle.tt_world.proofs.Parts.{OfRun, Phase, Activated, OpeningKeeps, Alone, Anything, Leads, followed_leads, opening_leads}
 use Rattle.tt_world.proofs.Keeps.{Holds, monitored_holds, IgnoresGates, enables_hold, arrivals_hold, acceptances_hold}
 use Rattle.tt_world.proofs.TableRows.{row_found}
-use Rattle.tt_world.proofs.TaskAccounts.{Owed, Tasks}
+use Rattle.schedule_check.proofs.TaskAccounts.{Owed, Tasks}
 
 -- ---- the demand of tasks up to the next offset
 

@@ -24,11 +24,11 @@ use Rattle.tt_world.specs.Opening.{checks, activated, activation}
 use Rattle.tt_world.specs.Step.{step}
 use Rattle.tt_world.specs.Runners.{leaving, runner_of}
 use Rattle.tt_world.specs.Schedule.{instant, instant_at, world_at, events_between, ends_at}
-use Rattle.tt_world.specs.Demand.{is_within, enables_in}
-use Rattle.tt_world.specs.RunLaws.{is_enable}
+use Rattle.schedule_check.specs.Demand.{is_within, enables_in}
+use Rattle.schedule_check.specs.DeadlineLaws.{is_enable}
 use Rattle.tt_world.proofs.Parts.{OfRun, Phase, Before, Latched, Begun, Checked, OpeningKeeps, Alone, Anything, LeadsTo, Leads, leads_by, led_on, followed_leads, instant_leads, GoesOnBefore}
 use Rattle.tt_world.proofs.Keeps.{Holds, monitored_holds, IgnoresGates, enables_hold, arrivals_hold, acceptances_hold, StepKeeps, step_holds}
-use Rattle.tt_world.proofs.IsrAccounts.{enables_of, count_more}
+use Rattle.schedule_check.proofs.IsrAccounts.{enables_of, count_more}
 use Rattle.tt_world.proofs.Emits.{Of, OfHooks, latch_all, round_end_all, monitored_all, arrivals_all, acceptances_all, step_all}
 
 -- ---- no enable

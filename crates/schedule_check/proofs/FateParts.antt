@@ -28,16 +28,18 @@ use Rattle.tt_world.specs.Step.{step}
 use Rattle.tt_world.specs.Schedule.{IsBounded, instant}
 use Rattle.tt_world.specs.Status.{stamp_of}
 use Rattle.tt_world.specs.Readings.{RoundStart}
-use Rattle.tt_world.proofs.Parts.{OfRun, OfEnd, Phase, Before, Latched, Begun, OpeningKeeps, Alone, Anything, LeadsTo, Leads, leads_by, led_on, led_over, still_leads, followed_leads, chain_each, instant_leads}
+use Rattle.tt_world.proofs.Parts.{Never, OfRun, OfEnd, Phase, Before, Latched, Begun, OpeningKeeps, Alone, Anything, LeadsTo, Leads, leads_by, led_on, led_over, still_leads, followed_leads, chain_each, instant_leads}
 use Rattle.tt_world.proofs.Keeps.{Holds}
 use Rattle.tt_world.proofs.Time.{Timed}
 use Rattle.tt_world.proofs.TableRows.{mode_rows, row_found, list_all_get, both_left}
-use Rattle.tt_world.proofs.Unfinished.{Each}
+use Rattle.schedule_check.proofs.Unfinished.{Each}
 use Rattle.tt_world.proofs.Emits.{Of, OfHooks, latch_all, checked_all, enables_all, arrivals_all, acceptances_all, step_all}
 use Rattle.tt_world.proofs.Through.{Through, last_round, last_round_more, through_more, through_each}
-use Rattle.tt_world.proofs.Response.{IsEarly}
-use Rattle.tt_world.proofs.NoMissed.{after_leads, deadline_low, at_length, checks_met, end_met, early, timed}
-use Rattle.tt_world.proofs.Fates.{IsOpen, OfActivate, activate_each, no_activate, HasEnded, Fate, Settled, Told, round_in, IsQuiet, quiet_through, Forward, same_forward, fate_forward, told_forward, settled_over, has_end_more, EndsAt, ends_after, step_forward}
+use Rattle.schedule_check.proofs.Waiting.{IsEarly}
+use Rattle.tt_world.proofs.TableRows.{deadline_low}
+use Rattle.schedule_check.proofs.NoMissed.{after_leads, at_length, checks_met, end_met, early, timed}
+use Rattle.tt_world.proofs.Forward.{round_in, Forward, same_forward, EndsAt, ends_after, step_forward}
+use Rattle.schedule_check.proofs.Fates.{IsOpen, OfActivate, activate_each, no_activate, HasEnded, Fate, Settled, Told, IsQuiet, quiet_through, fate_forward, told_forward, settled_over, has_end_more}
 
 same_activate : (a b : ℕ) (task other : TaskNo) → Activate a task ≡ Activate b other → task ≡ other
 same_activate a b task other e = cc
@@ -47,9 +49,6 @@ some_undone [] l = absurd (omega arith)
 some_undone (x ∷ body) l = refl
 
 -- ---- parts that leave the round and its activations alone
-
-abbrev pub Never : OfEnd
-Never end w es = ⊥
 
 pub record Same (w v : World) : Type 0 where
   pub start : v.start ≡ w.start

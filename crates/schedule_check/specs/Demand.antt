@@ -1,15 +1,12 @@
--- The demand of an activation, the check of a configuration, and the bounds that a script keeps.
-use Rattle.std.specs.Prelude.{◌≡◌, ℕ, ◌<◌, ◌≤◌, ◌+◌, ◌-◌, ◌*◌, ◌/◌, min, ◌==◌, ◌&&◌, nat_le, nat_lt, Bool, true, List, [], ◌∷◌, Option, None, Some, length, sum_by, count_by, cond, slice_index_or}
+-- The demand of an activation: how many ticks it and all that can delay it ask for.
+use Rattle.std.specs.Prelude.{ℕ, ◌+◌, ◌-◌, ◌*◌, ◌/◌, min, ◌==◌, ◌&&◌, nat_le, nat_lt, Bool, Option, None, Some, length, sum_by, count_by, cond, slice_index_or}
 use Rattle.std.specs.List.{range_with_len}
-use Rattle.task_lang.specs.Tick.{supply_of}
-use Rattle.task_lang.specs.TickLaws.{AreValuesKept}
 use Rattle.tt_world.specs.declared.config.Activation.{Activation}
 use Rattle.tt_world.specs.declared.config.Enable.{Enable}
 use Rattle.tt_world.specs.declared.config.IsrDef.{IsrDef}
 use Rattle.tt_world.specs.declared.config.ModeDef.{ModeDef}
 use Rattle.tt_world.specs.declared.config.ConfigParts.{ConfigParts}
-use Rattle.tt_world.specs.declared.script.ScriptParts.{ScriptParts}
-use Rattle.tt_world.specs.Rows.{mode_at, row_of, no_task, no_isr}
+use Rattle.tt_world.specs.Rows.{no_task, no_isr}
 
 -- whether an offset is at or after one, and below another
 abbrev pub is_within : (from to offset : ℕ) → Bool
@@ -49,31 +46,3 @@ isrs_demand c mode from to =
 -- the demand from an offset up to a later one
 unfoldable pub demand : ConfigParts → ModeDef → (from to : ℕ) → ℕ
 demand c mode from to = tasks_demand c mode from to + isrs_demand c mode from to
-
--- a response end of an activation: at or before its deadline the demand fits
-pub record IsResponse (c : ConfigParts) (mode : ModeDef) (row : Activation) (t : ℕ) : Type 0 where
-  pub later : row.offset < t
-  pub in_time : t ≤ row.deadline
-  pub fits : demand c mode row.offset t ≤ t - row.offset
-
--- the check says yes: each activation of each mode has a response end
-abbrev pub EachResponds : ConfigParts → Type 0
-EachResponds c =
-    (mode entry : ℕ) → mode < length c.modes → entry < length (mode_at c mode).activations
-    → (t : ℕ) × IsResponse c (mode_at c mode) (row_of (mode_at c mode) entry) t
-
--- ---- kept bounds
-
--- consecutive ticks are at least this distance apart
-abbrev pub are_spaced : (distance least : ℕ) → List ℕ → Bool
-are_spaced distance least [] = true
-are_spaced distance least (tick ∷ rest) = nat_le least tick && are_spaced distance (tick + distance) rest
-
-abbrev pub keeps_distance : Option ℕ → List ℕ → Bool
-keeps_distance None arrivals = true
-keeps_distance (Some distance) arrivals = are_spaced distance 0 arrivals
-
-pub record KeepsBounds (c : ConfigParts) (s : ScriptParts) : Type 0 where
-  pub values : AreValuesKept (supply_of c.demands s.values)
-  pub distances : (isr : ℕ) → isr < length c.isrs
-      → keeps_distance (isr_of c isr).distance (slice_index_or s.arrivals.isrs isr []) ≡ true

@@ -17,13 +17,14 @@ use Rattle.tt_world.specs.Runners.{runner_of}
 use Rattle.tt_world.specs.Opening.{opening}
 use Rattle.tt_world.specs.Step.{step}
 use Rattle.tt_world.specs.Schedule.{runner_if, world_at, instant, instant_at, events_between, runner_at, ticks_of, last_instant}
-use Rattle.tt_world.specs.Demand.{isr_of, isr_demand, KeepsBounds}
-use Rattle.tt_world.specs.RunLaws.{is_isr, is_enable, IsrIsBounded}
+use Rattle.schedule_check.specs.Demand.{isr_of, isr_demand}
+use Rattle.schedule_check.specs.Kept.{KeepsBounds}
+use Rattle.schedule_check.specs.DeadlineLaws.{is_isr, is_enable, IsrIsBounded}
 use Rattle.tt_world.proofs.Parts.{OfRun, Anything, LeadsTo, GoesOnBefore, kept_from, leads_by, led_on, followed_on, followed_events}
 use Rattle.tt_world.proofs.Ends.{are_bounded, last_is, tick_at}
-use Rattle.tt_world.proofs.Spacing.{arrivals_in, are_few, by_times, count_later, count_found}
-use Rattle.tt_world.proofs.IsrAccounts.{Account, enables_of, count_more, cond_within, more_times}
-use Rattle.tt_world.proofs.IsrParts.{Acc, adds, adds_within, opening_acc, instant_acc}
+use Rattle.schedule_check.proofs.Spacing.{arrivals_in, are_few, by_times, count_later, count_found}
+use Rattle.schedule_check.proofs.IsrAccounts.{Account, enables_of, count_more, cond_within, more_times}
+use Rattle.schedule_check.proofs.IsrParts.{Acc, adds, adds_within, opening_acc, instant_acc}
 
 module _ (c : ConfigParts) (s : ScriptParts) (rules : IsConfig c) (script : IsScript c s) (bounds : KeepsBounds c s)
     (isr : ℕ) (within : isr < length c.isrs) where

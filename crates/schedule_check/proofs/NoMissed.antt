@@ -1,22 +1,19 @@
 -- Where the check says yes and the script keeps its bounds, no check is missed.
-use Rattle.std.proofs.Common.{ℕ, zero, suc, ◌≡◌, ◌<◌, ◌≤◌, ◌-◌, List, [], ◌∷◌, ◌++◌, Bool, true, false, Option, None, Some, refl, ap, arith, length, ⊎_elim}
-use Rattle.std.specs.Prelude.{◌&&◌, nat_le, nat_lt}
-use Rattle.std.proofs.lemmas.List.{get_or_past}
-use Rattle.std.proofs.lemmas.Bool.{cond_both, cases_Bool, cases_lt, eqb-true, leb-true}
+use Rattle.std.proofs.Common.{ℕ, zero, suc, ◌≡◌, ◌<◌, ◌≤◌, ◌-◌, List, [], ◌∷◌, ◌++◌, Bool, true, false, Option, None, Some, refl, arith, length, ⊎_elim}
+use Rattle.std.proofs.lemmas.Bool.{cond_both, cases_Bool, eqb-true}
 use Rattle.tt_base.specs.declared.number.TaskNo.{TaskNo}
 use Rattle.tt_base.specs.declared.event.Event.{Event}
 use Rattle.tt_base.specs.declared.event.Event.TheVariants.{Check, Shutdown}
-use Rattle.tt_world.specs.declared.config.Activation.{Activation}
 use Rattle.tt_world.specs.declared.config.ModeDef.{ModeDef}
 use Rattle.tt_world.specs.declared.config.ConfigParts.{ConfigParts}
 use Rattle.tt_world.specs.declared.script.ScriptParts.{ScriptParts}
 use Rattle.tt_world.specs.declared.world.Point.{Point}
 use Rattle.tt_world.specs.declared.world.Point.TheVariants as point
 use Rattle.tt_world.specs.World.{World, Job}
-use Rattle.tt_world.specs.ConfigRules.{IsConfig, is_activation}
+use Rattle.tt_world.specs.ConfigRules.{IsConfig}
 use Rattle.tt_world.specs.ScriptRules.{IsScript}
 use Rattle.tt_world.specs.Moved.{Moved, is_over}
-use Rattle.tt_world.specs.Rows.{offset_of, mode_of, row_of, entry_at, no_row}
+use Rattle.tt_world.specs.Rows.{offset_of, mode_of, row_of, entry_at}
 use Rattle.tt_world.specs.Runners.{job_at, is_done}
 use Rattle.tt_world.specs.Correction.{is_length}
 use Rattle.tt_world.specs.Monitoring.{Checked, check_then, check_if, checked, monitored, after_checks, is_at, is_at_end}
@@ -27,17 +24,18 @@ use Rattle.tt_world.specs.Opening.{checks, activation}
 use Rattle.tt_world.specs.Step.{step}
 use Rattle.tt_world.specs.Schedule.{IsBounded, instant, instant_at, world_at, events_before, last_instant, schedule}
 use Rattle.tt_world.specs.Status.{Missed, status_of}
-use Rattle.tt_world.specs.Demand.{EachResponds, KeepsBounds}
+use Rattle.schedule_check.specs.Kept.{KeepsBounds}
+use Rattle.schedule_check.specs.Responses.{EachResponds}
 use Rattle.tt_world.specs.RunLaws.{is_missed}
 use Rattle.tt_world.proofs.Parts.{OfRun, OfEnd, Phase, Before, Latched, Begun, Activated, OpeningKeeps, Alone, Anything, LeadsTo, Leads, leads_by, led_on, led_over, instant_leads, GoesOnBefore}
 use Rattle.tt_world.proofs.Keeps.{Holds}
 use Rattle.tt_world.proofs.Time.{Timed, Stands, timed_at, opening_keeps as timed_keeps, TimedAt}
 use Rattle.tt_world.proofs.Ends.{are_bounded, last_is}
 use Rattle.tt_world.proofs.Deadlines.{IsFrom, point_is_from}
-use Rattle.tt_world.proofs.TableRows.{AreRows, mode_rows, list_all_get, both_right}
-use Rattle.tt_world.proofs.Unfinished.{Each, opening_keeps as each_keeps}
+use Rattle.tt_world.proofs.TableRows.{deadline_low, mode_rows}
+use Rattle.schedule_check.proofs.Unfinished.{Each, opening_keeps as each_keeps}
 use Rattle.tt_world.proofs.Emits.{Of, all_more, followed_all, OfHooks, latch_all, next_round_all, enables_all, arrivals_all, acceptances_all, activated_all, step_all}
-use Rattle.tt_world.proofs.Response.{IsEarly, early_at, early_new}
+use Rattle.schedule_check.proofs.Waiting.{IsEarly, early_at, early_new}
 
 -- ---- no missed check
 
@@ -90,22 +88,6 @@ pub after_leads : (P : OfRun) (Q : OfEnd) (c : ConfigParts) (fs : List Event) (m
     (es : List Event) → missed ≡ None → P w (es ++ fs) → LeadsTo P Q es (after_checks c fs missed w)
 after_leads P Q c fs None w es e p = p
 after_leads P Q c fs (Some task) w es e p = cc
-
--- deadlines are not after the latch
-pub deadline_low : (c : ConfigParts) (mode : ModeDef) (entry : ℕ) → AreRows c mode
-    → (row_of mode entry).deadline ≤ c.round - c.adjust
-deadline_low c mode entry rows =
-    ⊎_elim
-    (λ (l : entry < length mode.activations).
-    let row = row_of mode entry in
-    let h = list_all_get (is_activation c) mode.activations entry no_row rows.activations l in
-    let later = both_right (nat_lt row.task.0 (length c.tasks))
-    (nat_lt row.offset row.deadline && nat_le row.deadline (c.round - c.adjust)) h in
-    leb-true row.deadline (c.round - c.adjust)
-    (both_right (nat_lt row.offset row.deadline) (nat_le row.deadline (c.round - c.adjust)) later))
-    (λ (g : length mode.activations ≤ entry). let z =
-    ap (λ (row : Activation). row.deadline) (get_or_past mode.activations entry no_row g) in omega arith)
-    (cases_lt entry (length mode.activations))
 
 at_offset : (deadline offset : ℕ) (p : Point) → IsFrom deadline p → is_at offset p ≡ true → deadline ≤ offset
 at_offset deadline offset (point.At place) f e = let z = eqb-true place offset e in omega arith

@@ -30,11 +30,13 @@ use Rattle.tt_world.specs.Gates.{enable, enables, arrived, arrival, arrivals, is
 use Rattle.tt_world.specs.Opening.{checks, activated, activation, opening}
 use Rattle.tt_world.specs.Step.{step}
 use Rattle.tt_world.specs.Schedule.{instant}
-use Rattle.tt_world.specs.Demand.{isr_of, KeepsBounds}
-use Rattle.tt_world.specs.RunLaws.{is_isr, is_enable}
+use Rattle.schedule_check.specs.Demand.{isr_of}
+use Rattle.schedule_check.specs.Kept.{KeepsBounds}
+use Rattle.schedule_check.specs.DeadlineLaws.{is_isr, is_enable}
 use Rattle.tt_world.proofs.Parts.{OfRun, Phase, Before, Latched, Begun, Checked, Enabled, OpeningKeeps, Alone, Anything, LeadsTo, Leads, leads_by, led_on, still_leads, followed_leads, followed_at, chain_each, opening_leads}
 use Rattle.tt_world.proofs.Keeps.{Holds, IsLeftAfter, StepKeeps, step_holds}
-use Rattle.tt_world.proofs.IsrAccounts.{Account, enables_of, count_more, account_more, account_enabled, account_enabled_other, account_arrived, account_held_other, account_accepted, account_left_other, account_tick, account_other, left_less, isr_runs, highest_undone, cond_within}
+use Rattle.tt_world.proofs.WhoRuns.{isr_runs, highest_undone}
+use Rattle.schedule_check.proofs.IsrAccounts.{Account, enables_of, count_more, account_more, account_enabled, account_enabled_other, account_arrived, account_held_other, account_accepted, account_left_other, account_tick, account_other, left_less, cond_within}
 
 -- checks that let the run go on leave the world, and add events
 checked_leads : (P : OfRun) (c : ConfigParts) (fs : List Event) (missed : Option TaskNo) (w : World) (es : List Event)
