@@ -1,16 +1,15 @@
 -- The answer of the check.
-use Rattle.std.proofs.Common.{ℕ, ◌≡◌, ◌<◌, ◌≤◌, ◌+◌, ◌-◌, List, Bool, true, false, Option, None, Some, refl, ap, sym, ◌∙◌, subst, arith, length, get_or}
+use Rattle.std.proofs.Common.{ℕ, ◌≡◌, ◌<◌, ◌≤◌, ◌+◌, ◌-◌, List, true, false, Option, None, Some, refl, ap, sym, ◌∙◌, arith, length, get_or}
 use Rattle.std.specs.Prelude.{is_some, is_none, unwrap_or}
 use Rattle.std.proofs.lemmas.List.{get_or-map}
-use Rattle.std.proofs.lemmas.Bool.{false≢true, leb-true}
-use Rattle.tt_base.specs.declared.number.ModeNo.{ModeNo}
+use Rattle.std.proofs.lemmas.Bool.{leb-true}
 use Rattle.tt_world.specs.declared.config.Activation.{Activation}
 use Rattle.tt_world.specs.declared.config.ModeDef.{ModeDef}
 use Rattle.tt_world.specs.declared.config.ConfigParts.{ConfigParts}
 use Rattle.tt_world.specs.Rows.{no_mode, mode_at, row_of}
-use Rattle.tt_world.specs.Demand.{demand, IsResponse, EachResponds}
+use Rattle.schedule_check.specs.Demand.{demand}
+use Rattle.schedule_check.specs.Responses.{IsResponse, EachResponds}
 use Rattle.round_table.specs.TableRows.{TableRows, no_table, table_at, table_of, tables_of}
-use Rattle.schedule_check.specs.declared.answers.CheckAnswer.{CheckAnswer}
 use Rattle.schedule_check.specs.declared.answers.CheckAnswer.TheVariants.{Yes, No}
 use Rattle.schedule_check.specs.TablesOf.{IsTableOf}
 use Rattle.schedule_check.specs.Responses.{demand_fits, response, late_entry, late_mode, answer_at, answer_of}

@@ -1,6 +1,6 @@
 -- The demand grows with the offset up to which it is counted.
-use Rattle.std.proofs.Common.{ℕ, zero, suc, ◌≡◌, ◌<◌, ◌≤◌, ◌+◌, ◌-◌, ◌*◌, ◌/◌, Bool, true, false, Option, None, Some, List, [], ◌∷◌, refl, ap, sym, ◌∙◌, arith, length, ⊎_elim}
-use Rattle.std.specs.Prelude.{◌&&◌, ◌==◌, nat_le, nat_lt, cond, min, sum_by, count_by}
+use Rattle.std.proofs.Common.{ℕ, zero, suc, ◌≡◌, ◌≤◌, ◌+◌, ◌-◌, ◌/◌, Bool, true, Option, None, Some, arith, length}
+use Rattle.std.specs.Prelude.{◌&&◌, ◌==◌, nat_le, nat_lt, cond}
 use Rattle.std.specs.List.{range_with_len}
 use Rattle.std.proofs.Math.Nat.{mul-le-mul_left, div-mul-le_self}
 use Rattle.std.proofs.lemmas.Nat.{le-div}
@@ -11,7 +11,7 @@ use Rattle.tt_world.specs.declared.config.Enable.{Enable}
 use Rattle.tt_world.specs.declared.config.IsrDef.{IsrDef}
 use Rattle.tt_world.specs.declared.config.ModeDef.{ModeDef}
 use Rattle.tt_world.specs.declared.config.ConfigParts.{ConfigParts}
-use Rattle.tt_world.specs.Demand.{is_within, isr_of, task_budget, tasks_demand, enables_in, most_begins, isr_demand, isrs_demand, demand}
+use Rattle.schedule_check.specs.Demand.{is_within, isr_of, task_budget, tasks_demand, enables_in, most_begins, isr_demand, demand}
 
 -- what counts where one test passes counts no more than where a weaker one does
 counts_more : (p q : Bool) (x : ℕ) → (p ≡ true → q ≡ true) → cond p x 0 ≤ cond q x 0
@@ -50,7 +50,8 @@ begins_more None d e t u l k = l
 begins_more (Some distance) d e t u l k =
     let more = div_more (t + (distance - 1)) (u + (distance - 1)) distance (omega arith) in omega arith
 
-routine_more : (isr : IsrDef) (d e t u : ℕ) → d ≤ e → t ≤ u → isr_demand isr d t ≤ isr_demand isr e u
+-- a routine asks for no less with more enables and ticks
+pub routine_more : (isr : IsrDef) (d e t u : ℕ) → d ≤ e → t ≤ u → isr_demand isr d t ≤ isr_demand isr e u
 routine_more isr d e t u l k =
     let more = begins_more isr.distance d e t u l k in
     let h : 2 + most_begins isr.distance d t ≤ 2 + most_begins isr.distance e u = omega arith in

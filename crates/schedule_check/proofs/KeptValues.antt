@@ -1,6 +1,6 @@
 -- The values of a script against the most of their demands.
-use Rattle.std.proofs.Common.{ℕ, ◌≡◌, ◌<◌, ◌≤◌, List, [], Bool, true, false, Some, refl, ap, sym, ◌∙◌, subst, arith, length, get_or, ⊎_elim}
-use Rattle.std.specs.Prelude.{nat_le, slice_get, IsTrue}
+use Rattle.std.proofs.Common.{ℕ, ◌≡◌, ◌<◌, ◌≤◌, List, [], Bool, true, ap, sym, ◌∙◌, arith, length, get_or, ⊎_elim}
+use Rattle.std.specs.Prelude.{nat_le, slice_get}
 use Rattle.std.specs.List.{list_all}
 use Rattle.std.proofs.lemmas.List.{get_or_default, get_or_past}
 use Rattle.std.proofs.lemmas.Option.{slice_get-get_or}

@@ -1,13 +1,12 @@
 -- The rows of a mode's table, and the rules that they meet.
-use Rattle.std.proofs.Common.{ℕ, ◌≡◌, ◌<◌, ◌≤◌, ◌-◌, ◌^◌, true, subst, sym, ap, arith, length, get_or}
+use Rattle.std.proofs.Common.{ℕ, ◌<◌, ◌≤◌, ◌-◌, ◌^◌, subst, sym, ap, arith, length, get_or}
 use Rattle.std.specs.Prelude.{◌&&◌, nat_le, nat_lt}
 use Rattle.std.proofs.lemmas.List.Elements.{All-get_or}
 use Rattle.std.proofs.lemmas.Bool.{and_parts, ltb-true, leb-true}
 use Rattle.tt_world.specs.declared.config.Activation.{Activation}
-use Rattle.tt_world.specs.declared.config.ModeDef.{ModeDef}
 use Rattle.tt_world.specs.declared.config.ConfigParts.{ConfigParts}
-use Rattle.tt_world.specs.ConfigRules.{IsConfig, IsMode, IsTask, IsIsr, is_activation}
-use Rattle.tt_world.specs.Rows.{no_mode, no_row, no_task, mode_at, row_of}
+use Rattle.tt_world.specs.ConfigRules.{IsConfig, IsMode, IsTask, is_activation}
+use Rattle.tt_world.specs.Rows.{no_mode, no_row, no_task, row_of}
 use Rattle.tt_world.proofs.TableRows.{list_all_get}
 use Rattle.round_table.specs.TableRows.{TableRows}
 use Rattle.schedule_check.specs.TablesOf.{IsTableOf}
@@ -28,16 +27,24 @@ module _ (c : ConfigParts) (rules : IsConfig c) where
         let h = list_all_get (is_activation c) table.mode.activations entry d mode_of_table.activations l in
         ltb-true row.task.0 (length c.tasks) (and_parts (nat_lt row.task.0 (length c.tasks)) _ h).0
 
-    -- a row's offset is before its deadline, and that within the round
-    pub row_bounds : (entry : ℕ) → entry < length table.mode.activations
+    -- a row's offset is before its deadline, and that within the shortest round
+    pub row_within : (entry : ℕ) → entry < length table.mode.activations
         → ((row_of table.mode entry).offset < (row_of table.mode entry).deadline)
-        × ((row_of table.mode entry).deadline ≤ 10000000)
-    row_bounds entry l =
+        × ((row_of table.mode entry).deadline ≤ c.round - c.adjust)
+    row_within entry l =
         let row = row_of table.mode entry in
         let h = list_all_get (is_activation c) table.mode.activations entry no_row mode_of_table.activations l in
         let times = (and_parts (nat_lt row.task.0 (length c.tasks))
         (nat_lt row.offset row.deadline && nat_le row.deadline (c.round - c.adjust)) h).1 in
         let both = and_parts (nat_lt row.offset row.deadline) (nat_le row.deadline (c.round - c.adjust)) times in
+        (ltb-true row.offset row.deadline both.0, leb-true row.deadline (c.round - c.adjust) both.1)
+
+    -- a row's offset is before its deadline, and that within the round
+    pub row_bounds : (entry : ℕ) → entry < length table.mode.activations
+        → ((row_of table.mode entry).offset < (row_of table.mode entry).deadline)
+        × ((row_of table.mode entry).deadline ≤ 10000000)
+    row_bounds entry l =
+        let both = row_within entry l in
         let short = rules.round_short in
-        let end = leb-true row.deadline (c.round - c.adjust) both.1 in
-        (ltb-true row.offset row.deadline both.0, omega arith)
+        let end = both.1 in
+        (both.0, omega arith)

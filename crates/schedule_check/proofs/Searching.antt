@@ -1,12 +1,10 @@
 -- The search for a response end, from one demand to the next.
-use Rattle.std.proofs.Common.{ℕ, ◌≡◌, ◌<◌, ◌≤◌, ◌+◌, ◌-◌, ◌^◌, true, false, None, Some, refl, ap, sym, ◌∙◌, arith, length, ⊎_elim}
-use Rattle.std.specs.Prelude.{nat_le}
-use Rattle.std.proofs.lemmas.List.Elements.{All-get_or}
-use Rattle.std.proofs.lemmas.Bool.{cases_lt, leb-true, le-leb, lt-leb}
+use Rattle.std.proofs.Common.{ℕ, ◌≡◌, ◌<◌, ◌≤◌, ◌+◌, ◌-◌, false, None, Some, sym, arith, ⊎_elim}
+use Rattle.std.proofs.lemmas.Bool.{cases_lt, le-leb, lt-leb}
 use Rattle.tt_world.specs.declared.config.Activation.{Activation}
 use Rattle.tt_world.specs.declared.config.ModeDef.{ModeDef}
 use Rattle.tt_world.specs.declared.config.ConfigParts.{ConfigParts}
-use Rattle.tt_world.specs.Demand.{demand}
+use Rattle.schedule_check.specs.Demand.{demand}
 use Rattle.schedule_check.specs.Responses.{demand_fits, response}
 use Rattle.schedule_check.proofs.Leasts.{least_is, least_none}
 use Rattle.schedule_check.proofs.Growing.{demand_more}

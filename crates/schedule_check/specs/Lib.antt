@@ -1,4 +1,8 @@
 pub mod Least
 pub mod TablesOf
-pub mod Responses
+pub mod Demand
 pub mod Kept
+pub mod Responses
+pub mod Windows
+pub mod Measures
+pub mod DeadlineLaws

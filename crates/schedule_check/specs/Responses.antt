@@ -1,10 +1,10 @@
 -- The response ends of activations, and the answer of the check.
-use Rattle.std.specs.Prelude.{ℕ, ◌+◌, ◌-◌, nat_le, Bool, Option, None, Some, is_none, is_some, length, unwrap_or}
+use Rattle.std.specs.Prelude.{ℕ, ◌+◌, ◌-◌, ◌<◌, ◌≤◌, nat_le, Bool, Option, None, Some, is_none, is_some, length, unwrap_or}
 use Rattle.tt_world.specs.declared.config.Activation.{Activation}
 use Rattle.tt_world.specs.declared.config.ModeDef.{ModeDef}
 use Rattle.tt_world.specs.declared.config.ConfigParts.{ConfigParts}
 use Rattle.tt_world.specs.Rows.{mode_at, row_of}
-use Rattle.tt_world.specs.Demand.{demand}
+use Rattle.schedule_check.specs.Demand.{demand}
 use Rattle.schedule_check.specs.declared.answers.CheckAnswer.{CheckAnswer}
 use Rattle.schedule_check.specs.declared.answers.CheckAnswer.TheVariants.{Yes, No}
 use Rattle.schedule_check.specs.Least.{least}
@@ -33,3 +33,17 @@ answer_at c (Some mode) = No (record { 0 = mode }) (unwrap_or (late_entry c (mod
 -- with one that has none, and in it the first
 abbrev pub answer_of : ConfigParts → CheckAnswer
 answer_of c = answer_at c (late_mode c)
+
+-- ---- what a yes means
+
+-- a response end of an activation: at or before its deadline the demand fits
+pub record IsResponse (c : ConfigParts) (mode : ModeDef) (row : Activation) (t : ℕ) : Type 0 where
+  pub later : row.offset < t
+  pub in_time : t ≤ row.deadline
+  pub fits : demand c mode row.offset t ≤ t - row.offset
+
+-- each activation of each mode has a response end
+abbrev pub EachResponds : ConfigParts → Type 0
+EachResponds c =
+    (mode entry : ℕ) → mode < length c.modes → entry < length (mode_at c mode).activations
+    → (t : ℕ) × IsResponse c (mode_at c mode) (row_of (mode_at c mode) entry) t

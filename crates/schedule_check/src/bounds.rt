@@ -4,7 +4,7 @@ ghost use Rattle.std.specs.Prelude.{◌≡◌, ◌↔◌, IsTrue, nat_le};
 ghost use Rattle.std.specs.List.{list_all};
 ghost use Rattle.task_lang.specs.Tick.{supply_of};
 ghost use Rattle.task_lang.specs.TickLaws.{AreValuesKept};
-ghost use Rattle.tt_world.specs.Demand.{KeepsBounds, are_spaced, keeps_distance};
+ghost use Rattle.schedule_check.specs.Kept.{KeepsBounds, are_spaced, keeps_distance};
 ghost use Rattle.tt_world.specs.ScriptRules.{IsScript};
 ghost use Rattle.schedule_check.specs.Kept.{AreDistancesKept};
 

@@ -2,7 +2,7 @@
 
 ghost use Rattle.std.specs.Prelude.{◌≡◌, ◌==◌, ◌&&◌, ◌<◌, ◌≤◌, ◌^◌, cond, length};
 ghost use Rattle.std.specs.Option.{ForSome};
-ghost use Rattle.tt_world.specs.Demand.{demand, enables_in, isr_demand, is_within, isrs_demand, most_begins, task_budget, tasks_demand};
+ghost use Rattle.schedule_check.specs.Demand.{demand, enables_in, isr_demand, is_within, isrs_demand, most_begins, task_budget, tasks_demand};
 ghost use Rattle.tt_world.specs.ConfigRules.{IsConfig};
 ghost use Rattle.tt_world.specs.Rows.{row_of};
 ghost use Rattle.schedule_check.specs.TablesOf.{IsTableOf};
@@ -41,9 +41,7 @@ fn tasks_demand(parts: &ConfigParts, table: &Table, from: u64, to: u64) -> u128
 
 /// Whether a row enables a routine, at an offset at or after one and below another: 1 or 0.
 fn enable_within(row: Enable, isr: IsrNo, from: u64, to: u64) -> u64
-    ensures exact {
-        result ≡ cond ((row.isr.0 == isr.0) && is_within from to row.offset) 1 0
-    }
+    ensures exact { result ≡ cond ((row.isr.0 == isr.0) && is_within from to row.offset) 1 0 }
     ensures bounded { result ≤ 1 }
 {
     if row.isr.0 == isr.0 && from <= row.offset && row.offset < to {
@@ -104,7 +102,7 @@ fn isrs_demand(parts: &ConfigParts, table: &Table, from: u64, to: u64) -> u128
 }
 
 /// What activations and routines ask for from an offset up to a later one.
-#[tactic(auto, unfolding(tt_world::specs::Demand::demand))]
+#[tactic(auto, unfolding(crate::specs::Demand::demand))]
 pub(crate) fn demand_between(parts: &ConfigParts, table: &Table, from: u64, to: u64) -> u128
     requires rules { IsConfig parts.now }
     requires table { IsTableOf parts.now table.now }

@@ -7,9 +7,13 @@
 mod answers;
 mod bounds;
 mod demands;
+mod laws;
 mod responses;
+mod windows;
 
 pub use answers::{CheckAnswer, check};
 pub use bounds::kept;
 pub use demands::demand;
+pub use laws::{isr_is_bounded, no_miss};
 pub use responses::response;
+pub use windows::{depth_bound, words_bound};

@@ -11,3 +11,4 @@ pub mod Playing
 pub mod Served
 pub mod Serving
 pub mod Ticks
+pub mod Meeting

@@ -19,12 +19,12 @@ use Rattle.tt_world.specs.World.{World}
 use Rattle.tt_world.specs.Moved.{Moved, Outcome, Gives, preceded, followed, is_over}
 use Rattle.tt_world.specs.Runners.{is_done, left_of, leaving, first_runner, runner_of, owner_of}
 use Rattle.tt_world.specs.Step.{state_after, effected, runner_tick, is_somebody, run_line, tick_over, step}
-use Rattle.tt_world.proofs.Fates.{effected_mid}
-use Rattle.tt_world.proofs.IsrAccounts.{highest_undone}
+use Rattle.tt_world.proofs.Forward.{effected_mid}
+use Rattle.tt_world.proofs.WhoRuns.{highest_undone}
 use Rattle.tt_world.proofs.Modes.{EffectsNamed, effects_named}
 use Rattle.tt_world.proofs.Moves.{gives_next, gives_stop}
 use Rattle.tt_world.proofs.Still.{owner_ends}
-use Rattle.tt_world.proofs.TaskAccounts.{last_found_at}
+use Rattle.tt_world.proofs.WhoRuns.{last_found_at}
 use Rattle.stack_dispatch.specs.Serving.{IsCalling}
 use Rattle.stack_dispatch.specs.Ticking.{IsReady, TicksLeft, IsTick, Calls}
 use Rattle.stack_dispatch.proofs.Leaving.{left_then}

@@ -1,12 +1,17 @@
 //! The plain runner: a run tick by tick, which keeps all events.
 
-ghost use Rattle.std.specs.Prelude.{◌≡◌, IfOk};
+ghost use Rattle.std.specs.Prelude.{◌≡◌, ◌≢◌, IfOk};
 ghost use Rattle.tt_world.specs.ConfigRules.{IsConfig};
 ghost use Rattle.tt_world.specs.ScriptRules.{IsScript};
 ghost use Rattle.tt_world.specs.EventLaws.{ActivatesRows, ChecksMonitor, InterruptsWait, OwnersRun};
 ghost use Rattle.tt_world.specs.Schedule.{schedule};
 ghost use Rattle.tt_world.specs.Status.{last_stamp, status_by, status_of};
+ghost use Rattle.tt_base.specs.declared.number.TaskNo.{TaskNo};
 ghost use Rattle.round_table.specs.TableRows.{tables_of};
+ghost use Rattle.schedule_check.specs.declared.answers.CheckAnswer.TheVariants.{Yes};
+ghost use Rattle.schedule_check.specs.DeadlineLaws.{NoneMissed};
+ghost use Rattle.schedule_check.specs.Kept.{KeepsBounds};
+ghost use Rattle.schedule_check.specs.Responses.{answer_of};
 ghost use Rattle.stack_dispatch.specs.First.{first_state};
 
 use crate::dispatcher::Ahead;
@@ -45,6 +50,10 @@ pub fn run_plain<L: Ledger>(
     ensures owners { IfOk result (λ run. OwnersRun config.now run.events) }
     ensures checks { IfOk result (λ run. ChecksMonitor config.now run.events) }
     ensures interrupts { IfOk result (λ run. InterruptsWait config.now run.events) }
+
+    // Where the check of the configuration says yes and the script keeps its bounds, no deadline is missed.
+    ensures no_miss { IfOk result (λ run. answer_of config.now ≡ Yes → KeepsBounds config.now script → NoneMissed config.now run.events) }
+    ensures not_missed { IfOk result (λ run. answer_of config.now ≡ Yes → KeepsBounds config.now script → (task : TaskNo) → run.end ≢ RunEnd.Missed task) }
 {
     let tables = Tables::build(alloc, config)?;
     let state = State::new(alloc, config, script.parts())?;

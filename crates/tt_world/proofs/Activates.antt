@@ -22,7 +22,7 @@ use Rattle.tt_world.proofs.TableRows.{mode_rows, row_found}
 use Rattle.tt_world.proofs.Ends.{are_bounded, last_is}
 use Rattle.tt_world.proofs.Emits.{Of, checked_all}
 use Rattle.tt_world.proofs.Through.{each_more}
-use Rattle.tt_world.proofs.Fates.{round_in, last_stamp_at}
+use Rattle.tt_world.proofs.Forward.{round_in, last_stamp_at}
 use Rattle.tt_world.proofs.RoundActs.{has_acts, acts_same, acts_row, acts_none}
 use Rattle.tt_world.proofs.RoundFolds.{ByLast, OfLast, OfRound, each_has, last_start, none_such}
 use Rattle.tt_world.proofs.RoundRuns.{OfPresent, Ended, IsOfRows, RoundParts, ended_at}

@@ -33,7 +33,7 @@ use Rattle.tt_world.proofs.Parts.{OfRun, OfEnd, OpeningKeeps, Leads, leads_by, l
 use Rattle.tt_world.proofs.Ends.{are_bounded, last_is, tick_at}
 use Rattle.tt_world.proofs.Emits.{Of, all_more, event_if_all, latch_all, round_end_all, monitored_all, enables_all, arrivals_all, acceptances_all, activated_all}
 use Rattle.tt_world.proofs.TableRows.{mode_rows, deadline_after}
-use Rattle.tt_world.proofs.NoMissed.{deadline_low}
+use Rattle.tt_world.proofs.TableRows.{deadline_low}
 use Rattle.tt_world.proofs.Places.{Placed, placed_at}
 use Rattle.tt_world.proofs.CheckRows.{checks_are_rows, row_due, row_not_due, no_rows, check_of, EndsAreSeen}
 use Rattle.tt_world.proofs.EndsSeen.{NoEnd, is_end, ended_same}

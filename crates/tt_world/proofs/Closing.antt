@@ -1,9 +1,9 @@
 -- Each run ends in time, and with the event that says how it has ended.
-use Rattle.std.proofs.Common.{ℕ, zero, suc, ◌≡◌, ◌<◌, ◌≤◌, ◌+◌, List, [], ◌∷◌, ◌++◌, Bool, true, false, None, Some, refl, ap, sym, ◌∙◌, subst, arith, append_assoc, ⊎_elim}
-use Rattle.std.specs.Prelude.{◌&&◌, All}
+use Rattle.std.proofs.Common.{ℕ, zero, suc, ◌≡◌, ◌≤◌, ◌+◌, List, [], ◌∷◌, ◌++◌, true, false, None, Some, refl, ap, sym, ◌∙◌, subst, arith, ⊎_elim}
+use Rattle.std.specs.Prelude.{◌&&◌}
 use Rattle.std.proofs.lemmas.Bool.{cond_both, cases_Bool, false≢true}
 use Rattle.tt_base.specs.declared.event.Event.{Event}
-use Rattle.tt_base.specs.declared.event.Event.TheVariants.{Called, End, Shutdown}
+use Rattle.tt_base.specs.declared.event.Event.TheVariants.{Called, Shutdown}
 use Rattle.tt_base.specs.declared.event.Owner.{Owner}
 use Rattle.task_lang.specs.declared.syntax.Stmt.{Stmt}
 use Rattle.task_lang.specs.declared.tick.Effect.{Effect}
@@ -13,18 +13,16 @@ use Rattle.tt_world.specs.declared.script.ScriptParts.{ScriptParts}
 use Rattle.tt_world.specs.declared.world.Runner.{Runner}
 use Rattle.tt_world.specs.declared.world.RunEnd.{RunEnd}
 use Rattle.tt_world.specs.declared.world.RunEnd.TheVariants as ending
-use Rattle.tt_world.specs.ConfigRules.{IsConfig}
-use Rattle.tt_world.specs.ScriptRules.{IsScript}
 use Rattle.tt_world.specs.World.{World}
-use Rattle.tt_world.specs.Moved.{Moved, Outcome, is_over, preceded, followed}
+use Rattle.tt_world.specs.Moved.{Moved, Outcome, is_over, preceded}
 use Rattle.tt_world.specs.Hooks.{shuts_down}
 use Rattle.tt_world.specs.Runners.{left_of, leaving, runner_of, owner_of}
 use Rattle.tt_world.specs.Services.{service, is_shutdown}
 use Rattle.tt_world.specs.Opening.{opening}
 use Rattle.tt_world.specs.Step.{effected, state_after, runner_tick, step, run_line, tick_over, is_somebody}
-use Rattle.tt_world.specs.Schedule.{instant, instant_at, world_at, events_before, ends_at, last_instant, most_ticks, schedule, IsBounded}
-use Rattle.tt_world.specs.Status.{stamp_of, stamp_after, last_stamp, Status, Done, Missed, Shut, status_of, status_by, last_event, IsLastEvent, EndsBy}
-use Rattle.tt_world.specs.RunLaws.{EndsInTime, ScheduleEnds}
+use Rattle.tt_world.specs.Schedule.{instant, instant_at, world_at, events_before, ends_at, last_instant, most_ticks, schedule}
+use Rattle.tt_world.specs.Status.{stamp_of, stamp_after, last_stamp, Status, status_of, status_by, last_event, IsLastEvent, EndsBy}
+use Rattle.tt_world.specs.RunLaws.{ScheduleEnds}
 use Rattle.tt_world.proofs.Parts.{GoesOnBefore, led_on, led_over}
 use Rattle.tt_world.proofs.Keeps.{service_answers}
 use Rattle.tt_world.proofs.Emits.{Of, of_all, all_more}

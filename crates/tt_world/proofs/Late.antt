@@ -1,5 +1,5 @@
 -- The length of a round is latched after the offset L - A alone.
-use Rattle.std.proofs.Common.{ℕ, ◌≡◌, ◌<◌, ◌≤◌, ◌+◌, ◌-◌, List, Option, None, Some, refl, eqb, arith}
+use Rattle.std.proofs.Common.{ℕ, ◌≡◌, ◌<◌, ◌≤◌, ◌+◌, ◌-◌, List, Option, None, Some, eqb, arith}
 use Rattle.std.proofs.lemmas.Bool.{cond_both, eqb-true}
 use Rattle.tt_base.specs.declared.event.Event.{Event}
 use Rattle.task_lang.specs.declared.syntax.Stmt.{Stmt}
@@ -10,13 +10,13 @@ use Rattle.tt_world.specs.declared.world.Runner.TheVariants as runner
 use Rattle.tt_world.specs.World.{World}
 use Rattle.tt_world.specs.Correction.{is_length}
 use Rattle.tt_world.specs.Monitoring.{is_at, is_at_end, monitored}
-use Rattle.tt_world.specs.Opening.{checks, activated, activation, opening}
+use Rattle.tt_world.specs.Opening.{checks, activated, activation}
 use Rattle.tt_world.specs.Rounds.{head, latch, next_round, round_end}
 use Rattle.tt_world.specs.Rows.{offset_of, mode_of, entry_at}
 use Rattle.tt_world.specs.Runners.{leaving, runner_of}
 use Rattle.tt_world.specs.Schedule.{instant, world_at}
 use Rattle.tt_world.proofs.Keeps.{Holds, monitored_holds, IgnoresGates, enables_hold, arrivals_hold, acceptances_hold, StepKeeps, step_holds}
-use Rattle.tt_world.proofs.Parts.{OfRun, Phase, Before, OpeningKeeps, Alone, Anything, Leads, followed_leads, GoesOnBefore, kept_at, instant_leads, opening_leads}
+use Rattle.tt_world.proofs.Parts.{OfRun, Phase, Before, OpeningKeeps, Alone, Anything, Leads, followed_leads, GoesOnBefore, kept_at, instant_leads}
 
 -- k is 0 before the opening of an instant, and 1 after it
 pub record Late (k : ℕ) (c : ConfigParts) (w : World) : Type 0 where

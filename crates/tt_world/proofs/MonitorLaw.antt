@@ -16,7 +16,7 @@ use Rattle.tt_world.specs.RunLaws.{ChecksLaw}
 use Rattle.tt_world.proofs.Parts.{GoesOnBefore}
 use Rattle.tt_world.proofs.Ends.{are_bounded, last_is}
 use Rattle.tt_world.proofs.Through.{each_more}
-use Rattle.tt_world.proofs.Fates.{last_stamp_at}
+use Rattle.tt_world.proofs.Forward.{last_stamp_at}
 use Rattle.tt_world.proofs.Violations.{violations, error_hooks}
 use Rattle.tt_world.proofs.RoundFolds.{ByLast, OfLast, OfRound, each_has, last_start}
 use Rattle.tt_world.proofs.RoundChecks.{rows_of, Monitored, Has, Finally, checks_ended}

@@ -38,8 +38,8 @@ use Rattle.tt_world.proofs.Points.{Ahead}
 use Rattle.tt_world.proofs.Emits.{Of, all_more, event_if_all}
 use Rattle.tt_world.proofs.SourceEvents.{SourceLists, lists_of, lists_left}
 use Rattle.tt_world.proofs.JobLists.{entry_of_set}
-use Rattle.tt_world.proofs.TaskAccounts.{Says, runner_says, last_found_at}
-use Rattle.tt_world.proofs.IsrAccounts.{isr_runs, highest_undone}
+use Rattle.tt_world.proofs.WhoRuns.{Says, runner_says, last_found_at}
+use Rattle.tt_world.proofs.WhoRuns.{isr_runs, highest_undone}
 use Rattle.tt_world.proofs.Stamps.{each_of, is_still, StillAt, served_still}
 use Rattle.tt_world.proofs.OpenLists.{tasks_of, isrs_of, is_plain, tasks_end, isrs_end}
 use Rattle.tt_world.proofs.Unended.{has, open_task, open_tasks, Facts, FactsOf, PlainAt, facts_plains}

@@ -1,5 +1,5 @@
 -- The opening of an instant at which nothing is due: only acceptances can change anything there.
-use Rattle.std.proofs.Common.{ℕ, zero, suc, ◌≡◌, ◌<◌, ◌-◌, List, [], ◌∷◌, ◌++◌, Bool, true, false, Option, None, Some, refl, ap, sym, ◌∙◌, eqb, arith, length, append-nil}
+use Rattle.std.proofs.Common.{ℕ, suc, ◌≡◌, ◌<◌, ◌-◌, List, [], ◌∷◌, ◌++◌, Bool, true, false, Option, None, Some, refl, ap, ◌∙◌, arith, length, append-nil}
 use Rattle.std.specs.Prelude.{map}
 use Rattle.std.proofs.lemmas.Bool.{cond-false, false_from_ne_true, eqb-true}
 use Rattle.tt_base.specs.declared.event.Event.TheVariants.{Activate}
@@ -13,13 +13,13 @@ use Rattle.tt_world.specs.Correction.{is_length}
 use Rattle.tt_world.specs.Gates.{enable, enables, arrivals, acceptances}
 use Rattle.tt_world.specs.Monitoring.{Checked, is_at, checked, check_if, check_then, after_checks, monitored}
 use Rattle.tt_world.specs.Moved.{Moved, goes_on, preceded, is_over, continued, followed, chain}
-use Rattle.tt_world.specs.Opening.{checks, activated, activation, due, first_parts, later_parts, opening}
+use Rattle.tt_world.specs.Opening.{checks, activated, activation, due, opening}
 use Rattle.tt_world.specs.Points.{point_of}
 use Rattle.tt_world.specs.Rounds.{latch, round_end}
 use Rattle.tt_world.specs.Rows.{offset_of, mode_of, row_of, entry_at, enables_at, body_of}
 use Rattle.tt_world.specs.Runners.{job_at, is_done}
 use Rattle.tt_world.proofs.Moves.{going_from}
-use Rattle.tt_world.proofs.Parts.{by_end, Alone, Anything}
+use Rattle.tt_world.proofs.Parts.{by_end}
 use Rattle.tt_world.proofs.Keeps.{Holds, monitored_holds, IgnoresGates, enables_hold, arrivals_hold, acceptances_hold}
 
 -- ---- what is due at an instant, by the offset and the mode that it begins with

@@ -225,6 +225,10 @@ Alone P w es = P w
 abbrev pub Anything : OfEnd
 Anything end w es = Unit {0}
 
+-- the run does not end
+abbrev pub Never : OfEnd
+Never end w es = ⊥
+
 -- what each instant keeps holds at each instant of a run
 module _ (c : ConfigParts) (s : ScriptParts) (P : World → Type 0) (first : P (world_at c s 0))
     (each : (w : World) (es : List Event) → P w → LeadsTo (Alone P) Anything es (instant c s w)) where

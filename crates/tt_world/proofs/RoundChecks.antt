@@ -24,7 +24,7 @@ use Rattle.tt_world.proofs.Parts.{Phase, Before, Latched, Begun, Alone, Anything
 use Rattle.tt_world.proofs.Time.{Timed, Stands, latch_timed, timed_at}
 use Rattle.tt_world.proofs.Ends.{tick_at}
 use Rattle.tt_world.proofs.Emits.{Of, checked_all}
-use Rattle.tt_world.proofs.Fates.{round_in}
+use Rattle.tt_world.proofs.Forward.{round_in}
 use Rattle.tt_world.proofs.CheckRows.{checks_at_offset}
 use Rattle.tt_world.proofs.SeenRuns.{checks_at}
 use Rattle.tt_world.proofs.Stamps.{IsAt, checked_at}

@@ -1,16 +1,13 @@
 -- The rule for laws of rounds: what the present round has had so far, part after part and instant after instant.
 use Rattle.std.proofs.Common.{ℕ, zero, suc, ◌≡◌, ◌≤◌, ◌+◌, List, [], ◌∷◌, ◌++◌, Bool, true, false, Option, None, Some, refl, ap, sym, ◌∙◌, subst, eqb, arith, append-nil}
-use Rattle.std.specs.Prelude.{ℤ, filter}
+use Rattle.std.specs.Prelude.{filter}
 use Rattle.std.proofs.lemmas.Bool.{cond_both, eqb-false}
 use Rattle.std.proofs.lemmas.List.Elements.{filter-append}
-use Rattle.tt_base.specs.declared.number.IsrNo.{IsrNo}
 use Rattle.tt_base.specs.declared.number.ModeNo.{ModeNo}
 use Rattle.tt_base.specs.declared.number.TaskNo.{TaskNo}
-use Rattle.tt_base.specs.declared.event.Call.{Call}
-use Rattle.tt_base.specs.declared.event.Owner.{Owner}
 use Rattle.tt_base.specs.declared.event.Owner.TheVariants as owner
 use Rattle.tt_base.specs.declared.event.Event.{Event}
-use Rattle.tt_base.specs.declared.event.Event.TheVariants.{OsStart, Round, Correct, Check, Enable, Arrive, Merge, Accept, Activate, Run, End, Out, Called, ErrorHook, ShutdownHook, Shutdown, Stop}
+use Rattle.tt_base.specs.declared.event.Event.TheVariants.{Round, Correct, Check, Enable, Arrive, Merge, Accept, Activate, Run, End, Out, Called, ErrorHook, ShutdownHook, Shutdown, Stop}
 use Rattle.tt_world.specs.declared.config.ConfigParts.{ConfigParts}
 use Rattle.tt_world.specs.declared.script.ScriptParts.{ScriptParts}
 use Rattle.tt_world.specs.declared.world.Point.{Point}
@@ -29,8 +26,8 @@ use Rattle.tt_world.specs.Status.{Status, Done, Missed, Shut, status_of}
 use Rattle.tt_world.specs.Readings.{RoundStart}
 use Rattle.tt_world.proofs.Parts.{OfRun, OfEnd, Phase, Before, Latched, Begun, Checked, Accepted, Activated, OpeningKeeps, Alone, Anything, LeadsTo, Leads, leads_by, led_on, led_over, still_leads, followed_leads, due_leads, instant_leads, GoesOnBefore}
 use Rattle.tt_world.proofs.Emits.{Of, all_more, OfHooks, checked_all, after_all, latch_all, enables_all, arrivals_all, acceptances_all, step_all}
-use Rattle.tt_world.proofs.Fates.{round_in, EndsAt, ends_after, shut_at, Forward, step_forward}
-use Rattle.tt_world.proofs.FateParts.{Never}
+use Rattle.tt_world.proofs.Forward.{round_in, EndsAt, ends_after, shut_at, Forward, step_forward}
+use Rattle.tt_world.proofs.Parts.{Never}
 use Rattle.tt_world.proofs.SameRounds.{SameRound, latch_same, enables_same, arrivals_same, acceptances_same, OneLater, step_later}
 use Rattle.tt_world.proofs.Stamps.{each_of}
 use Rattle.tt_world.proofs.Calm.{IsCalm, calm_status, ChecksTell, checked_tell, step_tells}

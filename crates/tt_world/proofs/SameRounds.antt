@@ -18,7 +18,7 @@ use Rattle.tt_world.specs.Gates.{enable, enables, arrived, arrival, arrivals, is
 use Rattle.tt_world.specs.Step.{step}
 use Rattle.tt_world.proofs.Parts.{OfRun, Alone, Anything, LeadsTo, Leads, still_leads, chain_each}
 use Rattle.tt_world.proofs.Keeps.{StepKeeps, step_holds}
-use Rattle.tt_world.proofs.FateParts.{Never}
+use Rattle.tt_world.proofs.Parts.{Never}
 
 -- the same clock and round
 pub record SameRound (w v : World) : Type 0 where

@@ -31,7 +31,7 @@ use Rattle.tt_world.proofs.TableRows.{mode_rows, row_found, list_all_get, both_l
 use Rattle.tt_world.proofs.JobLists.{IsOldPlace, IsNewPlace, place_of_more}
 use Rattle.tt_world.proofs.Points.{Ahead, opening_ahead, ahead_at}
 use Rattle.tt_world.proofs.Emits.{Of, all_more, event_if_all, enables_all, arrivals_all, acceptances_all, monitored_all}
-use Rattle.tt_world.proofs.Fates.{effected_mid}
+use Rattle.tt_world.proofs.Forward.{effected_mid}
 use Rattle.tt_world.proofs.Places.{Placed, placed_at, opening_placed, single}
 use Rattle.tt_world.proofs.EndsSeen.{NoEnd, ended_more, ended_same, early_end}
 use Rattle.tt_world.proofs.SeenTicks.{Seen, seen_same, seen_more, no_end_hooks, effected_no_end, step_seen}

@@ -24,9 +24,9 @@ use Rattle.tt_world.specs.Readings.{has_ended}
 use Rattle.tt_world.specs.RunLaws.{AreTasksSingle}
 use Rattle.tt_world.proofs.Parts.{Anything, LeadsTo, followed_at}
 use Rattle.tt_world.proofs.JobLists.{at_set, at_other}
-use Rattle.tt_world.proofs.TaskAccounts.{Says, runner_says, last_found_at}
+use Rattle.tt_world.proofs.WhoRuns.{Says, runner_says, last_found_at}
 use Rattle.tt_world.proofs.Emits.{Of, OfHooks, all_more, event_if_all, effected_all}
-use Rattle.tt_world.proofs.Fates.{Mid, effected_mid}
+use Rattle.tt_world.proofs.Forward.{Mid, effected_mid}
 use Rattle.tt_world.proofs.Places.{Placed}
 use Rattle.tt_world.proofs.EndsSeen.{NoEnd, ended_more, ended_same, other_end, own_end, ActTick, act_tick}
 

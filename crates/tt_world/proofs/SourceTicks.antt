@@ -21,7 +21,7 @@ use Rattle.tt_world.specs.EventLaws.{nothing_seen}
 use Rattle.tt_world.proofs.Parts.{Leads, followed_at}
 use Rattle.tt_world.proofs.Keeps.{IsOsek}
 use Rattle.tt_world.proofs.Emits.{Of, all_more, event_if_all, effected_all}
-use Rattle.tt_world.proofs.IsrAccounts.{isr_runs, highest_undone}
+use Rattle.tt_world.proofs.WhoRuns.{isr_runs, highest_undone}
 use Rattle.tt_world.proofs.OpenTicks.{Ended, Left, effected_left}
 use Rattle.tt_world.proofs.SourceEvents.{SaysNothing, SourceFacts, SourceLists, lists_of, lists_left, seen_of, own_owner, source_same, other_left, own_ended, own_left, admits_more, admits_silent, facts_silent, facts_one}
 use Rattle.tt_world.proofs.SourceParts.{Known, EachAdmitted, silent_hooks}

@@ -6,7 +6,7 @@ use Rattle.std.proofs.lemmas.Bool.{cond_both, cases_Bool, false≢true, le-leb, 
 use Rattle.std.proofs.lemmas.List.Elements.{filter-append}
 use Rattle.tt_base.specs.declared.number.TaskNo.{TaskNo}
 use Rattle.tt_base.specs.declared.event.Event.{Event}
-use Rattle.tt_base.specs.declared.event.Event.TheVariants.{Round, Check, Accept, Activate, Run, End, Called, ErrorHook, ShutdownHook, Shutdown, Stop}
+use Rattle.tt_base.specs.declared.event.Event.TheVariants.{Round, Check, Accept, Activate, Run, End, ErrorHook, ShutdownHook, Shutdown, Stop}
 use Rattle.tt_base.specs.declared.event.Owner.{Owner}
 use Rattle.tt_base.specs.declared.event.Owner.TheVariants as owner
 use Rattle.task_lang.specs.declared.syntax.Stmt.{Stmt, out-Stmt}

@@ -1,8 +1,7 @@
 -- What a tick leaves as it was: the round, the gates, and, unless its owner has ended, which interrupts can be accepted.
-use Rattle.std.proofs.Common.{ℕ, ◌≡◌, ◌+◌, List, [], ◌∷◌, Bool, true, false, Option, None, Some, refl, ap, sym, ◌∙◌, subst, ⊎_elim}
+use Rattle.std.proofs.Common.{ℕ, ◌≡◌, ◌+◌, List, [], ◌∷◌, Bool, true, false, refl, ap, sym, ◌∙◌, ⊎_elim}
 use Rattle.std.specs.Prelude.{ℤ, ◌&&◌, ◌||◌}
 use Rattle.std.proofs.lemmas.Bool.{cond_both, and_parts, cases_Bool, true≢false}
-use Rattle.tt_base.specs.declared.event.Event.{Event}
 use Rattle.tt_base.specs.declared.event.Owner.{Owner}
 use Rattle.tt_base.specs.declared.number.ModeNo.{ModeNo}
 use Rattle.task_lang.specs.declared.syntax.Stmt.{Stmt}
@@ -18,9 +17,9 @@ use Rattle.tt_world.specs.Moved.{Moved, preceded, is_over, continued, followed}
 use Rattle.tt_world.specs.Runners.{is_done, left_of, leaving, runner_of, owner_of}
 use Rattle.tt_world.specs.Services.{service, is_shutdown}
 use Rattle.tt_world.specs.Step.{effected, state_after, runner_tick, is_somebody, run_line, tick_over, step}
-use Rattle.tt_world.proofs.Keeps.{AfterService, service_answers, StepKeeps, step_holds}
+use Rattle.tt_world.proofs.Keeps.{service_answers, StepKeeps, step_holds}
 use Rattle.tt_world.proofs.Modes.{leaving_cases}
-use Rattle.tt_world.proofs.Parts.{Alone, Anything, LeadsTo, led_on, followed_on}
+use Rattle.tt_world.proofs.Parts.{Alone, Anything, led_on, followed_on}
 
 -- ---- the round and the gates
 

@@ -22,8 +22,8 @@ use Rattle.tt_world.specs.Runners.{job_at, is_done, unfinished, higher, highest,
 use Rattle.tt_world.specs.Readings.{last_of}
 use Rattle.tt_world.specs.EventLaws.{IsOwner}
 use Rattle.tt_world.proofs.TableRows.{both_left, both_right}
-use Rattle.tt_world.proofs.TaskAccounts.{Says, runner_says, last_found_at, none_found, is_any_isr}
-use Rattle.tt_world.proofs.IsrAccounts.{isr_runs}
+use Rattle.tt_world.proofs.WhoRuns.{Says, runner_says, last_found_at, none_found, is_any_isr}
+use Rattle.tt_world.proofs.WhoRuns.{isr_runs}
 use Rattle.tt_world.proofs.OpenLists.{tasks_of, isrs_of}
 use Rattle.tt_world.proofs.Unended.{has, open_task, open_tasks, FactsOf}
 

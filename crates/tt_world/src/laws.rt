@@ -1,6 +1,6 @@
 //! Laws of every run. Each is the contract of a function with an empty body.
 
-ghost use Rattle.tt_world.specs.RunLaws.{ScheduleEnds, PointsAreAhead, IsrIsBounded, NoMiss, ActivationsLaw, TasksAreSingle, OwnersLaw, ChecksLaw, InterruptsLaw};
+ghost use Rattle.tt_world.specs.RunLaws.{ScheduleEnds, PointsAreAhead, ActivationsLaw, TasksAreSingle, OwnersLaw, ChecksLaw, InterruptsLaw};
 
 /// Every run ends: there is exactly one last instant, it and all stamps are within the most ticks
 /// that the rounds can take, and the last event is the one that the status asks for.
@@ -11,17 +11,6 @@ pub fn schedule_ends()
 /// An activation with statements left has not reached its monitoring point.
 pub fn points_are_ahead()
     ensures { PointsAreAhead }
-{}
-
-/// In any consecutive instants of a run a time-triggered routine takes at most that many ticks.
-pub fn isr_is_bounded()
-    ensures { IsrIsBounded }
-{}
-
-/// Where the check says yes and the script keeps its bounds, no check is missed, and each
-/// activation whose deadline the run reaches has ended by its deadline.
-pub fn no_miss()
-    ensures { NoMiss }
 {}
 
 /// Each round has exactly the activations of its mode with offsets below its end, each at its

@@ -11,8 +11,8 @@ pub use config::{
     Activation, Config, ConfigParts, Enable, IsrDef, ModeDef, OisrDef, OsekDef, TaskDef,
 };
 pub use laws::{
-    checks_monitor, interrupts_wait, isr_is_bounded, no_miss, owners_are_right, points_are_ahead,
-    rounds_activate, schedule_ends, tasks_are_single,
+    checks_monitor, interrupts_wait, owners_are_right, points_are_ahead, rounds_activate,
+    schedule_ends, tasks_are_single,
 };
 pub use script::{Arrivals, Script, ScriptParts};
 pub use world::{Point, RunEnd, Runner};

@@ -1,7 +1,6 @@
-use Rattle.std.proofs.Common.{◌≡◌, ◌<◌, ◌≤◌, ℕ, List, length, Some, None, sym, ap, ◌∙◌, subst, arith, below_more}
+use Rattle.std.proofs.Common.{◌<◌, length, sym, ap, ◌∙◌, arith, below_more}
 use Rattle.std.specs.Prelude.{is_some}
 use Rattle.tt_world.specs.declared.config.ConfigParts.{ConfigParts}
-use Rattle.tt_world.specs.Rows.{mode_at}
 use Rattle.schedule_check.specs.Responses.{late_entry}
 use Rattle.schedule_check.proofs.Answering.{table_is, is_table, answer_no, answer_yes}
 use Rattle.schedule_check.proofs.answers.check.Goals as goal

@@ -1,4 +1,4 @@
-use Rattle.std.proofs.Common.{◌≡◌, ◌<◌, ◌≤◌, ◌+◌, ℕ, Bool, true, false, Option, None, Some, sym, ap, ◌∙◌, refl, arith}
+use Rattle.std.proofs.Common.{◌≡◌, ℕ, Bool, true, false, Option, None, Some, sym, ap, arith}
 use Rattle.std.specs.Prelude.{is_none, is_some, not}
 use Rattle.tt_world.specs.Rows.{row_of}
 use Rattle.schedule_check.specs.Responses.{response, late_entry}

@@ -1,5 +1,5 @@
 use Rattle.std.proofs.Common.{◌≡◌, drop}
-use Rattle.tt_world.specs.Demand.{are_spaced}
+use Rattle.schedule_check.specs.Kept.{are_spaced}
 use Rattle.schedule_check.proofs.bounds.is_spaced.Given as goal
 
 abbrev pub invariant-loop-tick : goal.invariant-loop-tick

@@ -1,5 +1,6 @@
 use Rattle.std.proofs.Common.{◌≡◌, ◌<◌, ℕ, [], true, get_or}
-use Rattle.tt_world.specs.Demand.{isr_of, keeps_distance}
+use Rattle.schedule_check.specs.Demand.{isr_of}
+use Rattle.schedule_check.specs.Kept.{keeps_distance}
 use Rattle.schedule_check.proofs.bounds.keeps_distances.Given as goal
 
 abbrev pub invariant-loop-number : goal.invariant-loop-number

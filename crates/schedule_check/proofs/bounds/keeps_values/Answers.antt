@@ -1,11 +1,10 @@
-use Rattle.std.proofs.Common.{◌≡◌, ◌<◌, ◌≤◌, ℕ, List, true, false, length, get_or, sym, ap, ◌∙◌, subst, arith, below_more, refl}
+use Rattle.std.proofs.Common.{◌<◌, ◌≤◌, ℕ, List, length, get_or, sym, ap, ◌∙◌, subst, arith, below_more, refl}
 use Rattle.std.proofs.lemmas.Bool.{false≢true}
 use Rattle.task_lang.specs.declared.demand.Demand.{Demand}
 use Rattle.tt_world.specs.declared.config.ConfigParts.{ConfigParts}
 use Rattle.tt_world.specs.declared.script.ScriptParts.{ScriptParts}
-use Rattle.schedule_check.proofs.KeptValues.{is_kept, kept_here, kept_all}
+use Rattle.schedule_check.proofs.KeptValues.{kept_here, kept_all}
 use Rattle.schedule_check.proofs.bounds.keeps_values.Goals as goal
-
 
 pub returns-then-not-are_at_most : goal.returns-then-not-are_at_most
 returns-then-not-are_at_most c =

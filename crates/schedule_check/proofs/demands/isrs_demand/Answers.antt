@@ -2,7 +2,7 @@ use Rattle.std.proofs.Common.{◌≡◌, ◌+◌, ◌-◌, ℕ, List, get_or, ap
 use Rattle.std.proofs.lemmas.List.{get_or_default}
 use Rattle.tt_world.specs.declared.config.IsrDef.{IsrDef}
 use Rattle.tt_world.specs.Rows.{no_isr}
-use Rattle.tt_world.specs.Demand.{enables_in, isr_demand, isr_of}
+use Rattle.schedule_check.specs.Demand.{enables_in, isr_demand, isr_of}
 use Rattle.schedule_check.proofs.Numbers.{sum_push}
 use Rattle.schedule_check.proofs.demands.isrs_demand.Goals as goal
 

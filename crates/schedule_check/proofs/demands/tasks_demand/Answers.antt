@@ -1,6 +1,5 @@
 use Rattle.std.proofs.Common.{◌<◌, List, length, get_or, sym, subst}
 use Rattle.tt_world.specs.declared.config.Activation.{Activation}
-use Rattle.tt_world.specs.Rows.{no_row}
 use Rattle.schedule_check.proofs.Rows.{task_there}
 use Rattle.schedule_check.proofs.demands.tasks_demand.Goals as goal
 

@@ -1,10 +1,10 @@
-use Rattle.std.proofs.Common.{◌≡◌, ◌<◌, ◌≤◌, ◌+◌, Some, None, ℕ, sym, ap, ◌∙◌, subst, arith}
+use Rattle.std.proofs.Common.{◌+◌, ap, ◌∙◌, arith}
 use Rattle.tt_world.specs.declared.config.Activation.{Activation}
 use Rattle.tt_world.specs.declared.config.ConfigParts.{ConfigParts}
-use Rattle.tt_world.specs.Demand.{demand}
+use Rattle.schedule_check.specs.Demand.{demand}
 use Rattle.schedule_check.specs.Responses.{response}
 use Rattle.schedule_check.proofs.Rows.{row_bounds}
-use Rattle.schedule_check.proofs.Searching.{none_first, none_later, found, nothing}
+use Rattle.schedule_check.proofs.Searching.{none_later, found, nothing}
 use Rattle.schedule_check.proofs.responses.response.Goals as goal
 
 pub overflow_add-end : goal.overflow_add-end
