@@ -5,3 +5,4 @@ pub mod Searching
 pub mod Numbers
 pub mod Answering
 pub mod KeptValues
+pub mod KeepsBounds

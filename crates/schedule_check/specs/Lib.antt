@@ -2,3 +2,4 @@ pub mod Least
 pub mod TablesOf
 pub mod Responses
 pub mod Kept
+pub mod KeepsBounds
