@@ -22,7 +22,7 @@ unfolding texts_below
 texts_none text before = sym (append-nil before)
 
 -- one text more
-texts_more : (text : ℕ → List ℕ) (n : ℕ) → texts_below text (n + 1) ≡ texts_below text n ++ text n
+pub texts_more : (text : ℕ → List ℕ) (n : ℕ) → texts_below text (n + 1) ≡ texts_below text n ++ text n
 unfolding texts_below
 texts_more text n = ap (texts_below text) (add-one n)
 

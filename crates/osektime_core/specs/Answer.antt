@@ -17,10 +17,14 @@ use Rattle.tt_config.specs.declared.broken.Broken.{Broken}
 use Rattle.tt_config.specs.Broken.{broken_rule}
 use Rattle.tt_config.specs.Parts.{config_of, script_of}
 use Rattle.osektime_core.specs.declared.words.Command.{Command}
-use Rattle.osektime_core.specs.declared.words.Command.TheVariants.{Trace, Show, Table}
+use Rattle.osektime_core.specs.declared.words.Command.TheVariants.{Trace, Show, Table, Check}
 use Rattle.osektime_core.specs.declared.status.Status.{Status}
-use Rattle.osektime_core.specs.declared.status.Status.TheVariants.{Done, Memory, Usage, ReadFault, WriteFault, TooLong, Form, Rule, Missed, Shut}
+use Rattle.osektime_core.specs.declared.status.Status.TheVariants.{Done, Memory, Usage, ReadFault, WriteFault, TooLong, Form, Rule, CheckNo, Missed, Shut}
 use Rattle.osektime_core.specs.Words.{command_of}
+use Rattle.schedule_check.specs.Responses.{answer_of as check_of}
+use Rattle.schedule_check.specs.declared.answers.CheckAnswer.{CheckAnswer}
+use Rattle.schedule_check.specs.declared.answers.CheckAnswer.TheVariants.{Yes, No}
+use Rattle.osektime_core.specs.CheckText.{check_text}
 use Rattle.osektime_core.specs.TableText.{table_text}
 
 pub record Answer : Type 0 where
@@ -69,10 +73,25 @@ abbrev pub table_answer : Option Broken → List NumberedRow → Answer
 table_answer (Some broken) rows = rule_answer broken.number broken.line
 table_answer None rows = record { text = table_text (config_of rows); status = Done }
 
+-- the status of the schedule check by its answer
+abbrev pub check_status : CheckAnswer → Status
+check_status Yes = Done
+check_status (No mode entry) = CheckNo mode entry
+
+-- the check of a configuration, and whether the script keeps its bounds
+abbrev pub checked_answer : ConfigParts → ScriptParts → Answer
+checked_answer c s = record { text = check_text c s; status = check_status (check_of c) }
+
+-- the schedule check of rows, or the rule that they break
+abbrev pub check_answer : Option Broken → List NumberedRow → Answer
+check_answer (Some broken) rows = rule_answer broken.number broken.line
+check_answer None rows = checked_answer (config_of rows) (script_of rows)
+
 -- the answer to a command for the rows of a document; to show them, no rule is applied
 abbrev pub rows_answer : Command → List NumberedRow → Answer
 rows_answer Trace rows = trace_answer (broken_rule rows) rows
 rows_answer Table rows = table_answer (broken_rule rows) rows
+rows_answer Check rows = check_answer (broken_rule rows) rows
 rows_answer Show rows = record { text = canonical_text rows; status = Done }
 
 abbrev pub document_answer : Command → Document → Answer
@@ -103,6 +122,7 @@ OnAnswered WriteFault P = ⊤
 OnAnswered TooLong P = ⊤
 OnAnswered (Form line kind) P = P
 OnAnswered (Rule number line) P = P
+OnAnswered (CheckNo mode entry) P = P
 OnAnswered (Missed task tick) P = P
 OnAnswered (Shut tick) P = P
 

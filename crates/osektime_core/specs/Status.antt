@@ -1,7 +1,7 @@
 -- The exit status of a command.
 use Rattle.std.specs.Prelude.{ℕ}
 use Rattle.osektime_core.specs.declared.status.Status.{Status}
-use Rattle.osektime_core.specs.declared.status.Status.TheVariants.{Done, Memory, Usage, ReadFault, WriteFault, TooLong, Form, Rule, Missed, Shut}
+use Rattle.osektime_core.specs.declared.status.Status.TheVariants.{Done, Memory, Usage, ReadFault, WriteFault, TooLong, Form, Rule, CheckNo, Missed, Shut}
 
 abbrev pub code_of : Status → ℕ
 code_of Done = 0
@@ -12,5 +12,6 @@ code_of WriteFault = 4
 code_of TooLong = 5
 code_of (Form line kind) = 6
 code_of (Rule number line) = 7
+code_of (CheckNo mode entry) = 8
 code_of (Missed task tick) = 9
 code_of (Shut tick) = 10

@@ -3,7 +3,7 @@ use Rattle.std.specs.Prelude.{ℕ, List, [], ◌∷◌, map, codes, Option, Some
 use Rattle.std.specs.Global.{Vec}
 use Rattle.std.specs.Str.{bytes_eq}
 use Rattle.osektime_core.specs.declared.words.Command.{Command}
-use Rattle.osektime_core.specs.declared.words.Command.TheVariants.{Trace, Show, Table}
+use Rattle.osektime_core.specs.declared.words.Command.TheVariants.{Trace, Show, Table, Check}
 
 -- the bytes of each word
 abbrev pub bytes_of_each : List (Vec ℕ) → List (List ℕ)
@@ -16,4 +16,5 @@ command_of (word ∷ (next ∷ rest)) = None
 command_of (word ∷ []) =
     if bytes_eq word (codes "trace") then Some Trace
     else (if bytes_eq word (codes "show") then Some Show
-    else (if bytes_eq word (codes "table") then Some Table else None))
+    else (if bytes_eq word (codes "table") then Some Table
+    else (if bytes_eq word (codes "check") then Some Check else None)))

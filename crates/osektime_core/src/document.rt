@@ -7,18 +7,23 @@ ghost use Rattle.tt_io.specs.Known.{AppendsPart};
 ghost use Rattle.tt_rows.specs.Sound.{AreSound};
 ghost use Rattle.tt_read.specs.Document.{document_of, canonical_text};
 ghost use Rattle.tt_config.specs.Broken.{broken_rule};
-ghost use Rattle.osektime_core.specs.Answer.{Responds, document_answer, rows_answer, rule_answer, table_answer, trace_answer};
+ghost use Rattle.tt_world.specs.ScriptRules.{IsScript};
+ghost use Rattle.osektime_core.specs.Answer.{Responds, check_answer, check_status, checked_answer, document_answer, rows_answer, rule_answer, table_answer, trace_answer};
 
+use crate::check::check_text;
 use crate::refusal::{form_line, rule_line};
 use crate::table::table_text;
 use crate::trace::run;
 use crate::{Command, Status};
+use round_table::Tables;
+use schedule_check::CheckAnswer;
 use std::alloc::Global;
 use tt_base::{Ledger, Memory, Steps};
 use tt_config::{AcceptFault, Accepted, accept};
 use tt_io::{Sink, WriteFault, put_all};
 use tt_read::{FormFault, read, show};
 use tt_rows::Rows;
+use tt_world::{Config, Script};
 
 /// The status of a text that was to be written.
 fn status_after(written: Result<(), WriteFault>, status: Status) -> Status
@@ -86,6 +91,45 @@ fn table<O: Sink>(alloc: Global, rows: Rows, output: &mut O) -> Status
     }
 }
 
+/// The status of the schedule check by its answer.
+fn check_status(answer: CheckAnswer) -> Status
+    ensures { result ≡ check_status answer }
+{
+    match answer {
+        CheckAnswer::Yes => Status::Done,
+        CheckAnswer::No { mode, entry } => Status::CheckNo { mode, entry },
+    }
+}
+
+/// Checks the schedule of a configuration, and writes the text of the check.
+fn write_check<O: Sink>(alloc: Global, config: &Config, script: &Script, output: &mut O) -> Status
+    requires { IsScript config.now script.now }
+    ensures { Responds (checked_answer config.now script.now) result (output.new ≡ output.old)
+        (O.written output.old) (O.written output.new) (O.faults output.old) (O.faults output.new) }
+{
+    let Ok(tables) = Tables::build(alloc, config) else {
+        return Status::Memory;
+    };
+    let answer = schedule_check::check(config, &tables);
+    match check_text(alloc, config, script, &tables, answer) {
+        Ok(text) => put_text(&text, check_status(answer), output),
+        Err(_) => Status::Memory,
+    }
+}
+
+/// Writes the schedule check of rows that meet the rules. Else says which rule they break.
+fn check<O: Sink>(alloc: Global, rows: Rows, output: &mut O) -> Status
+    requires { AreSound rows }
+    ensures { Responds (check_answer (broken_rule rows) rows) result (output.new ≡ output.old)
+        (O.written output.old) (O.written output.new) (O.faults output.old) (O.faults output.new) }
+{
+    match accept(alloc, rows) {
+        Ok(accepted) => write_check(alloc, &accepted.config, &accepted.script, output),
+        Err(AcceptFault::Memory) => Status::Memory,
+        Err(AcceptFault::Rule { number, line }) => put_rule(alloc, number, line, output),
+    }
+}
+
 /// Writes the canonical text of rows.
 fn shown<O: Sink>(rows: &Rows, output: &mut O) -> Status
     ensures { Responds (record { text = canonical_text rows.now; status = Status.Done }) result
@@ -114,6 +158,7 @@ fn respond_to_rows<O: Sink, L: Ledger>(
         Command::Trace => trace(alloc, rows, output, steps),
         Command::Show => shown(&rows, output),
         Command::Table => table(alloc, rows, output),
+        Command::Check => check(alloc, rows, output),
     }
 }
 

@@ -1,6 +1,7 @@
 //! The commands of the bench: what is written for the words of a command line and a document, and the status.
 #![tactic(auto)]
 
+mod check;
 mod command;
 mod document;
 mod refusal;

@@ -11,14 +11,21 @@ use trace_text::Line;
 use tt_base::{Memory, ModeNo, Names};
 use tt_world::{Config, Point};
 
+/// Appends bytes.
+pub(crate) fn put_bytes(text: &mut Vec<u8>, bytes: &[u8]) -> Result<(), Memory>
+    ensures { OnOk result (text.new.items ≡ text.old.items ++ bytes.now) }
+{
+    match text.extend_from_slice(bytes) {
+        Ok(()) => Ok(()),
+        Err(_) => Err(Memory),
+    }
+}
+
 /// Appends a line.
 fn put(text: &mut Vec<u8>, line: &Line) -> Result<(), Memory>
     ensures { OnOk result (text.new.items ≡ text.old.items ++ line.now) }
 {
-    match text.extend_from_slice(line.as_bytes()) {
-        Ok(()) => Ok(()),
-        Err(_) => Err(Memory),
-    }
+    put_bytes(text, line.as_bytes())
 }
 
 /// Appends the checks at the places from one up to below another, which have this monitoring point.

@@ -16,6 +16,8 @@ pub enum Command {
     Show,
     /// `table`: the dispatcher tables of all modes.
     Table,
+    /// `check`: the schedule check, with the response end of each activation.
+    Check,
 }
 
 /// The words of a command line, without the program's name. Contracts see them as a list of byte lists.
@@ -81,6 +83,9 @@ fn command_named(word: &[u8]) -> Option<Command>
     }
     if word == b"table".as_slice() {
         return Some(Command::Table);
+    }
+    if word == b"check".as_slice() {
+        return Some(Command::Check);
     }
     None
 }

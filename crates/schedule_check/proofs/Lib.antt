@@ -24,3 +24,4 @@ pub mod NoMissed
 pub mod Fates
 pub mod FateParts
 pub mod NoMiss
+pub mod KeepsBounds

@@ -6,3 +6,4 @@ pub mod Responses
 pub mod Windows
 pub mod Measures
 pub mod DeadlineLaws
+pub mod KeepsBounds
