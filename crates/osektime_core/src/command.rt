@@ -5,6 +5,7 @@ ghost use Rattle.tt_io.specs.Count.{Rose, counted};
 ghost use Rattle.tt_io.specs.Known.{AppendsPart, HadMore};
 ghost use Rattle.osektime_core.specs.Words.{command_of};
 ghost use Rattle.osektime_core.specs.Answer.{answer_of, OnAnswered, IsAnswered};
+ghost use Rattle.osektime_core.specs.NoMiss.{IsSchedulable, NoneIsMissed};
 
 use crate::document::respond;
 use crate::{Status, Words};
@@ -16,8 +17,8 @@ use tt_io::{Sink, Source, TakeFault, take_all};
 pub const MOST_BYTES: usize = 1 << 20;
 
 /// Answers a command: reads its input to the end, and writes the text of the answer. The order of refusals is: words that
-/// are no command; want of memory; a failed read, or a byte too many, as reading meets them; the first faulty line; for `trace` and
-/// `table` the least rule that is broken; for `trace` then rows that do not run yet. Want of memory may stand in place of any answer
+/// are no command; out of memory; a failed read, or a byte too many, as reading meets them; the first faulty line; for `trace`,
+/// `table` and `check` the least rule that is broken. Out of memory may stand in place of any answer
 /// before the first byte is written, and a failed write in place of the answer whose text was being written. A run that has ended with
 /// a missed deadline is no refusal: its whole text is written. The steps are those of the run, and no clause speaks of them. Commands
 /// and statuses are the bench's own.
@@ -47,6 +48,9 @@ pub fn serve<I: Source, O: Sink, L: Ledger>(
     ensures not_too_long { result ≢ Status.TooLong → I.given input.new ≤ I.given input.old + 2 ^ 20 }
     ensures write_fault { result ≡ Status.WriteFault → Rose (O.faults output.old) (O.faults output.new)
         × IfSome (I.left input.old) (λ bytes. AppendsPart (O.written output.old) (O.written output.new) (answer_of words.now bytes).text) }
+
+    // The deadlines of a document that meets the rules, whose check says yes and whose script keeps its declared bounds are met.
+    ensures no_miss { IfSome (I.left input.old) (λ bytes. IsSchedulable bytes → NoneIsMissed result) }
 
     ensures never_falls { (I.faults input.old ≤ I.faults input.new) × (O.faults output.old ≤ O.faults output.new) }
 {

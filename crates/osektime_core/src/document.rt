@@ -9,6 +9,7 @@ ghost use Rattle.tt_read.specs.Document.{document_of, canonical_text};
 ghost use Rattle.tt_config.specs.Broken.{broken_rule};
 ghost use Rattle.tt_world.specs.ScriptRules.{IsScript};
 ghost use Rattle.osektime_core.specs.Answer.{Responds, check_answer, check_status, checked_answer, document_answer, rows_answer, rule_answer, table_answer, trace_answer};
+ghost use Rattle.osektime_core.specs.NoMiss.{AreSchedulable, IsSchedulable, NoneIsMissed};
 
 use crate::check::check_text;
 use crate::refusal::{form_line, rule_line};
@@ -65,8 +66,9 @@ fn trace<O: Sink, L: Ledger>(
     steps: &mut Steps<L>,
 ) -> Status
     requires { AreSound rows }
-    ensures { Responds (trace_answer (broken_rule rows) rows) result (output.new ≡ output.old)
+    ensures responds { Responds (trace_answer (broken_rule rows) rows) result (output.new ≡ output.old)
         (O.written output.old) (O.written output.new) (O.faults output.old) (O.faults output.new) }
+    ensures no_miss { AreSchedulable rows → NoneIsMissed result }
 {
     match accept(alloc, rows) {
         Ok(Accepted { config, script }) => run(alloc, &config, script, output, steps),
@@ -151,8 +153,9 @@ fn respond_to_rows<O: Sink, L: Ledger>(
     steps: &mut Steps<L>,
 ) -> Status
     requires { AreSound rows }
-    ensures { Responds (rows_answer command rows) result (output.new ≡ output.old)
+    ensures responds { Responds (rows_answer command rows) result (output.new ≡ output.old)
         (O.written output.old) (O.written output.new) (O.faults output.old) (O.faults output.new) }
+    ensures no_miss { AreSchedulable rows → NoneIsMissed result }
 {
     match command {
         Command::Trace => trace(alloc, rows, output, steps),
@@ -171,8 +174,9 @@ pub(crate) fn respond<O: Sink, L: Ledger>(
     steps: &mut Steps<L>,
 ) -> Status
     requires { length bytes.now ≤ 2 ^ 20 }
-    ensures { Responds (document_answer command (document_of bytes.now)) result (output.new ≡ output.old)
+    ensures responds { Responds (document_answer command (document_of bytes.now)) result (output.new ≡ output.old)
         (O.written output.old) (O.written output.new) (O.faults output.old) (O.faults output.new) }
+    ensures no_miss { IsSchedulable bytes.now → NoneIsMissed result }
 {
     match read(alloc, bytes) {
         Ok(rows) => respond_to_rows(alloc, command, rows, output, steps),

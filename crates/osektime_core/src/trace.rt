@@ -7,7 +7,12 @@ ghost use Rattle.tt_io.specs.Known.{AppendsPart};
 ghost use Rattle.trace_text.specs.Lines.{text_of};
 ghost use Rattle.tt_world.specs.ScriptRules.{IsScript};
 ghost use Rattle.tt_world.specs.Status.{status_by};
+ghost use Rattle.tt_base.specs.declared.number.TaskNo.{TaskNo};
+ghost use Rattle.schedule_check.specs.Kept.{KeepsBounds};
+ghost use Rattle.schedule_check.specs.Responses.{answer_of};
+ghost use Rattle.schedule_check.specs.declared.answers.CheckAnswer.TheVariants.{Yes};
 ghost use Rattle.osektime_core.specs.Answer.{Responds, run_answer, run_status};
+ghost use Rattle.osektime_core.specs.NoMiss.{NoneIsMissed};
 
 use crate::Status;
 use stack_dispatch::run_plain;
@@ -45,7 +50,8 @@ pub(crate) fn put_events<O: Sink>(
 
 /// The status of a run that has ended at a tick.
 fn run_status(end: RunEnd, tick: Tick) -> Status
-    ensures { result ≡ run_status (status_by end tick) }
+    ensures value { result ≡ run_status (status_by end tick) }
+    ensures only { ((task : TaskNo) → end ≢ RunEnd.Missed task) → NoneIsMissed result }
 {
     match end {
         RunEnd::LastRound => Status::Done,
@@ -63,8 +69,10 @@ pub(crate) fn run<O: Sink, L: Ledger>(
     steps: &mut Steps<L>,
 ) -> Status
     requires { IsScript config.now script }
-    ensures { Responds (run_answer config.now script) result (output.new ≡ output.old)
+    ensures responds { Responds (run_answer config.now script) result (output.new ≡ output.old)
         (O.written output.old) (O.written output.new) (O.faults output.old) (O.faults output.new) }
+    ensures no_miss { answer_of config.now ≡ Yes → KeepsBounds config.now script
+        → NoneIsMissed result }
 {
     let Ok(run) = run_plain(alloc, config, script, steps) else {
         return Status::Memory;
