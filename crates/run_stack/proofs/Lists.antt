@@ -1,5 +1,5 @@
 -- The lists of a stack.
-use Rattle.std.proofs.Common.{◌≡◌, ◌≢◌, ℕ, zero, suc, ◌+◌, ◌-◌, ◌*◌, ◌^◌, ◌<◌, ◌≤◌, Bool, true, false, cond, nat_lt, List, [], ◌∷◌, ◌++◌, length, take, drop, get_or, refl, sym, ap, ◌∙◌, subst, arith, length-append, append-nil}
+use Rattle.std.proofs.Common.{◌≡◌, ◌≢◌, ℕ, zero, suc, ◌+◌, ◌-◌, ◌*◌, ◌^◌, ◌<◌, ◌≤◌, Bool, true, false, cond, nat_lt, List, [], ◌∷◌, ◌++◌, length, take, drop, get_or, refl, sym, ap, ◌∙◌, subst, arith, length-append}
 use Rattle.std.proofs.Math.Numerals.{one-add}
 use Rattle.std.proofs.Math.ListN.{get_or-append, set}
 use Rattle.std.proofs.Math.Seq.{get_or-append_seam, take-append_seam, take-length, set-append_seam}
@@ -8,7 +8,7 @@ use Rattle.std.proofs.lemmas.List.Kept.{AllPairs-cons}
 use Rattle.std.proofs.lemmas.List.Quantifiers.{all_pairs_push}
 use Rattle.std.proofs.lemmas.List.Elements.{All-append}
 use Rattle.std.proofs.lemmas.List.Sums.{sum_by-cons, sum_by_push, sum_by-le}
-use Rattle.std.specs.Prelude.{All, AllPairs, Option, Some, None, option_map, option_to_list, slice_get}
+use Rattle.std.specs.Prelude.{All, AllPairs, Some, option_map, option_to_list, slice_get}
 use Rattle.std.proofs.lemmas.List.{take-append-le}
 use Rattle.std.specs.List.{insert, prefix_len, refill}
 use Rattle.task_machine.specs.declared.frame.Frame.{Frame}

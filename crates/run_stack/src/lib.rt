@@ -6,3 +6,6 @@ mod top;
 
 pub use stack::{ISRS, RunStack, StackFrame, TASKS};
 pub use top::Top;
+
+#[cfg(test)]
+mod tests;
