@@ -1,0 +1,6 @@
+pub mod Changes
+pub mod Growing
+pub mod Highest
+pub mod Parts
+pub mod Picking
+pub mod Starting
