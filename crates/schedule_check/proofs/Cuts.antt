@@ -1,6 +1,6 @@
 -- Sums over the part of an ascending list between two cuts.
-use Rattle.std.proofs.Common.{ℕ, zero, suc, ◌≡◌, ◌<◌, ◌≤◌, ◌+◌, List, [], ◌∷◌, Bool, true, false, refl, ap, sym, ◌∙◌, arith, length, get_or, take, ⊎_elim}
-use Rattle.std.specs.Prelude.{sum_by, cond, nat_le, nat_lt, ◌&&◌}
+use Rattle.std.proofs.Common.{ℕ, zero, suc, ◌≡◌, ◌<◌, ◌≤◌, ◌+◌, List, [], ◌∷◌, Bool, refl, ap, sym, ◌∙◌, arith, get_or, take, ⊎_elim}
+use Rattle.std.specs.Prelude.{sum_by, cond, nat_le, nat_lt}
 use Rattle.std.proofs.lemmas.List.Sums.{sum_by-cons}
 use Rattle.std.proofs.lemmas.Bool.{cases_lt, cond-true, cond-false, and_left, and_right, and_from, lt-ltb, le-ltb, le-leb, lt-leb, ltb-true, ltb-false}
 use Rattle.round_table.specs.Cuts.{IsCut}

@@ -1,5 +1,5 @@
-use Rattle.std.proofs.Common.{ℕ, ◌≡◌, ◌+◌, Bool, true, false, refl, ap, sym, ◌∙◌, take, cond, arith}
-use Rattle.std.specs.Prelude.{◌==◌, ◌&&◌, count_by, sum_by}
+use Rattle.std.proofs.Common.{ℕ, ◌≡◌, Bool, true, false, refl, ap, take, cond, arith}
+use Rattle.std.specs.Prelude.{◌==◌, ◌&&◌, sum_by}
 use Rattle.tt_world.specs.declared.config.Enable.{Enable}
 use Rattle.schedule_check.specs.Demand.{is_within}
 use Rattle.schedule_check.proofs.Cuts.{between_cuts, cuts_rise}
