@@ -1,10 +1,11 @@
 //! The dispatcher table of a mode.
 
-ghost use Rattle.std.specs.Prelude.{◌≡◌, ◌++◌, ◌≤◌, ◌<◌, ℕ, suc, length, slice_get, slice_range, IfOk, IfSome};
+ghost use Rattle.std.specs.Prelude.{◌≡◌, ◌++◌, ◌≤◌, ◌<◌, ℕ, nat_lt, suc, length, slice_get, slice_range, IfOk, IfSome};
 ghost use Rattle.tt_world.specs.Monitoring.{is_at, is_at_end};
 ghost use Rattle.tt_world.specs.Points.{point_of};
 ghost use Rattle.tt_world.specs.Rows.{enables_at, entry_at, mode_at, row_of};
 ghost use Rattle.round_table.specs.CheckLists.{entries_in};
+ghost use Rattle.round_table.specs.Cuts.{IsCut};
 ghost use Rattle.round_table.specs.DueRows.{checks_below, checks_of, due_at, enables_of, entries_due, isrs_of, none_due};
 ghost use Rattle.round_table.specs.ExpiryPoints.{IsCursor, IsDue, IsFree, IsNextPoint, expiry_points, next_after};
 ghost use Rattle.round_table.specs.Inside.{IsWithin};
@@ -129,6 +130,20 @@ impl Table {
         ensures { result.now ≡ self.now.mode.activations }
     {
         &self.activations
+    }
+
+    /// How many activations have offsets below this one, found by binary search: they stand in front of the others.
+    pub fn activations_before(&self, offset: u64) -> usize
+        ensures { IsCut (λ row. nat_lt row.offset offset) self.now.mode.activations result }
+    {
+        before(&self.activations, offset)
+    }
+
+    /// How many enables have offsets below this one, found by binary search: they stand in front of the others.
+    pub fn enables_before(&self, offset: u64) -> usize
+        ensures { IsCut (λ row. nat_lt row.offset offset) self.now.mode.enables result }
+    {
+        before(&self.enables, offset)
     }
 
     /// The rows that enable, in ascending order of offset, and then of the routine's number.

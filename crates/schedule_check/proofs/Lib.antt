@@ -6,6 +6,7 @@ pub mod Numbers
 pub mod Answering
 pub mod KeptValues
 pub mod Sums
+pub mod Cuts
 pub mod Largest
 pub mod Opened
 pub mod Sweeping

@@ -1,63 +1,43 @@
 //! How many ticks an activation and all that can delay it ask for.
 
-ghost use Rattle.std.specs.Prelude.{◌≡◌, ◌==◌, ◌&&◌, ◌<◌, ◌≤◌, ◌^◌, cond, length};
+ghost use Rattle.std.specs.Prelude.{◌≡◌, ◌<◌, ◌≤◌, ◌^◌, length};
 ghost use Rattle.std.specs.Option.{ForSome};
-ghost use Rattle.schedule_check.specs.Demand.{demand, enables_in, isr_demand, is_within, isrs_demand, most_begins, task_budget, tasks_demand};
+ghost use Rattle.schedule_check.specs.Demand.{demand, enables_in, isr_demand, isrs_demand, most_begins, tasks_demand};
 ghost use Rattle.tt_world.specs.ConfigRules.{IsConfig};
 ghost use Rattle.tt_world.specs.Rows.{row_of};
 ghost use Rattle.schedule_check.specs.TablesOf.{IsTableOf};
 
 use round_table::Table;
 use tt_base::IsrNo;
-use tt_world::{Activation, Config, ConfigParts, Enable, IsrDef};
-
-/// The budget of an activation where its offset is at or after one and below another, else 0.
-fn budget_within(parts: &ConfigParts, row: Activation, from: u64, to: u64) -> u64
-    requires rules { IsConfig parts.now }
-    requires task { row.task.0 < length parts.now.tasks }
-    ensures exact { result ≡ cond (is_within from to row.offset) (task_budget parts.now row) 0 }
-    ensures bounded { result ≤ 10 ^ 12 }
-{
-    if from <= row.offset && row.offset < to {
-        parts.tasks.as_slice()[usize::from(row.task.0)].budget
-    } else {
-        0
-    }
-}
+use tt_world::{Config, ConfigParts, IsrDef};
 
 /// The budgets of the activations with offsets from one up to below another.
 fn tasks_demand(parts: &ConfigParts, table: &Table, from: u64, to: u64) -> u128
     requires rules { IsConfig parts.now }
     requires table { IsTableOf parts.now table.now }
+    requires later { from ≤ to }
     ensures exact { result ≡ tasks_demand parts.now table.now.mode from to }
     ensures bounded { result < 2 ^ 104 }
 {
+    let tasks = parts.tasks.as_slice();
+    let first = table.activations_before(from);
     let mut sum = 0;
-    for row in table.activations() {
-        sum += u128::from(budget_within(parts, *row, from, to));
+    for entry in first..table.activations_before(to) {
+        sum += u128::from(tasks[usize::from(table.activation(entry).task.0)].budget);
     }
     sum
 }
 
-/// Whether a row enables a routine, at an offset at or after one and below another: 1 or 0.
-fn enable_within(row: Enable, isr: IsrNo, from: u64, to: u64) -> u64
-    ensures exact { result ≡ cond ((row.isr.0 == isr.0) && is_within from to row.offset) 1 0 }
-    ensures bounded { result ≤ 1 }
-{
-    if row.isr.0 == isr.0 && from <= row.offset && row.offset < to {
-        1
-    } else {
-        0
-    }
-}
-
 /// How many enables of a routine have offsets from one up to below another.
 fn enables_in(table: &Table, isr: IsrNo, from: u64, to: u64) -> u64
+    requires { from ≤ to }
     ensures { result ≡ enables_in table.now.mode isr.0 from to }
 {
+    let enables = table.enables();
+    let first = table.enables_before(from);
     let mut count = 0;
-    for row in table.enables() {
-        count += enable_within(*row, isr, from, to);
+    for place in first..table.enables_before(to) {
+        count += u64::from(enables[place].isr.0 == isr.0);
     }
     count
 }

@@ -1,13 +1,38 @@
-use Rattle.std.proofs.Common.{◌<◌, List, length, get_or, sym, subst}
+use Rattle.std.proofs.Common.{ℕ, ◌≡◌, ap, take, arith}
+use Rattle.std.specs.Prelude.{sum_by}
 use Rattle.tt_world.specs.declared.config.Activation.{Activation}
-use Rattle.schedule_check.proofs.Rows.{task_there}
+use Rattle.tt_world.specs.Rows.{no_row}
+use Rattle.schedule_check.specs.Demand.{task_budget}
+use Rattle.schedule_check.proofs.Cuts.{between_cuts, cuts_rise}
 use Rattle.schedule_check.proofs.demands.tasks_demand.Goals as goal
 
-pub budget_within-requires-clause-task : goal.budget_within-requires-clause-task
-budget_within-requires-clause-task c =
-    let entry = c.loop-row.row-index in
-    let there = subst (λ (rows : List Activation). entry < length rows) c.activations-row-items.ensures
-    c.loop-row-test.true in
-    subst (λ (rows : List Activation). (get_or rows entry _).task.0 < length c.args.parts.now.tasks)
-    (sym c.activations-row-items.ensures)
-    (task_there c.args.parts.now c.requires.rules c.args.table.now c.requires.table entry _ there)
+pub returns-clause-exact : goal.returns-clause-exact
+returns-clause-exact c =
+    let rows = c.args.table.now.mode.activations in
+    let first = c.activations_before-first.result in
+    let end = c.activations_before-entry-end.result in
+    let key : Activation → ℕ = λ row. row.offset in
+    let b = task_budget c.args.parts.now in
+    let rise = cuts_rise key b no_row c.args.from c.args.to c.requires.later rows first end c.activations_before-first.ensures
+    c.activations_before-entry-end.ensures in
+    let all = between_cuts key b no_row c.args.from c.args.to c.requires.later rows first end
+    c.activations_before-first.ensures c.activations_before-entry-end.ensures in
+    let past = c.loop-entry-test.false in
+    let within = c.loop-entry.auto.entry-end in
+    let last : c.loop-entry.entry ≡ end = omega arith in
+    let same = ap (λ n. sum_by b (take n rows)) last in
+    let so_far = c.loop-entry.invariant.sum in
+    omega arith
+
+pub returns-clause-bounded : goal.returns-clause-bounded
+returns-clause-bounded c =
+    let rows = c.args.table.now.mode.activations in
+    let first = c.activations_before-first.result in
+    let end = c.activations_before-entry-end.result in
+    let key : Activation → ℕ = λ row. row.offset in
+    let rise = cuts_rise key (task_budget c.args.parts.now) no_row c.args.from c.args.to c.requires.later rows first end
+    c.activations_before-first.ensures c.activations_before-entry-end.ensures in
+    let within = c.loop-entry.auto.entry-end in
+    let few = c.activations_before-entry-end.type_inv in
+    let bounded = c.loop-entry.invariant.bounded in
+    omega arith

@@ -1,13 +1,11 @@
-use Rattle.std.proofs.Common.{◌≡◌, ◌*◌, ◌≤◌, ◌^◌, take}
-use Rattle.std.specs.Prelude.{cond, sum_by}
-use Rattle.tt_world.specs.declared.config.Activation.{Activation}
-use Rattle.schedule_check.specs.Demand.{is_within, task_budget}
+use Rattle.std.proofs.Common.{◌≡◌, ◌+◌, ◌*◌, ◌≤◌, ◌^◌, take}
+use Rattle.std.specs.Prelude.{sum_by}
+use Rattle.schedule_check.specs.Demand.{task_budget}
 use Rattle.schedule_check.proofs.demands.tasks_demand.Given as goal
 
-abbrev pub invariant-loop-row : goal.invariant-loop-row
-invariant-loop-row l = record {
-  sum : l.sum ≡ sum_by
-      (λ (row : Activation). cond (is_within l.from l.to row.offset) (task_budget l.parts row) 0)
-      (take l.row-index l.row-items);
-  bounded : l.sum ≤ l.row-index * 10 ^ 12;
+abbrev pub invariant-loop-entry : goal.invariant-loop-entry
+invariant-loop-entry l = record {
+  sum : l.sum + sum_by (task_budget l.parts) (take l.first l.table.mode.activations)
+      ≡ sum_by (task_budget l.parts) (take l.entry l.table.mode.activations);
+  bounded : l.sum ≤ l.entry * 10 ^ 12;
 }
