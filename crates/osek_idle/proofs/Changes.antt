@@ -1,5 +1,5 @@
 -- What a change of one frame makes of the subsystem.
-use Rattle.std.proofs.Common.{◌≡◌, ℕ, zero, suc, ◌+◌, ◌≤◌, ◌<◌, Bool, true, false, List, [], ◌∷◌, ◌++◌, length, take, drop, Option, None, Some, refl, sym, ap, subst, ◌∙◌, arith}
+use Rattle.std.proofs.Common.{◌≡◌, ℕ, Bool, true, false, List, [], ◌∷◌, ◌++◌, length, take, drop, Option, None, Some, refl, sym, ap, ◌∙◌}
 use Rattle.std.specs.Prelude.{slice_index_or, slice_set, ◌==◌, if◌then◌else◌}
 use Rattle.std.specs.List.{refill}
 use Rattle.std.specs.Option.{option_map}
@@ -7,7 +7,7 @@ use Rattle.std.proofs.lemmas.Bool.{ne_eqb}
 use Rattle.task_lang.specs.declared.syntax.Stmt.{Stmt}
 use Rattle.task_machine.specs.declared.frame.Frame.{Frame}
 use Rattle.task_machine.specs.Standing.{left_of}
-use Rattle.osek_idle.specs.Subsystem.{Subsystem, result_of, is_ready, readied, activated}
+use Rattle.osek_idle.specs.Subsystem.{Subsystem, result_of}
 use Rattle.osek_idle.specs.Standing.{frames, states, slot_left}
 use Rattle.osek_idle.specs.declared.slot.Slot.{Slot}
 use Rattle.osek_idle.proofs.Parts.{states_set, set_here, left_is}

@@ -1,5 +1,5 @@
 -- More codes after the present ones change nothing.
-use Rattle.std.proofs.Common.{◌≡◌, ℕ, zero, suc, ◌+◌, ◌≤◌, ◌<◌, List, [], ◌∷◌, ◌++◌, length, map, Option, None, Some, IfSome, refl, sym, ap, subst, ◌∙◌, arith, length-append}
+use Rattle.std.proofs.Common.{◌≡◌, suc, List, [], ◌∷◌, ◌++◌, Option, None, Some, IfSome, refl, ap, ◌∙◌, arith, length-append}
 use Rattle.std.specs.Prelude.{slice_index_or}
 use Rattle.std.specs.Option.{option_map}
 use Rattle.task_lang.specs.declared.syntax.Stmt.{Stmt}
@@ -7,8 +7,7 @@ use Rattle.task_machine.specs.declared.frame.Frame.{Frame}
 use Rattle.task_machine.specs.Standing.{left_of, IsSound as IsSoundFrame, StandsFor}
 use Rattle.task_machine.proofs.Standings.{codes_grow}
 use Rattle.osek_idle.specs.Laws.{CodesMayGrow}
-use Rattle.osek_idle.specs.Standing.{frames, states, AreSound, IsSound, subsystem_of}
-use Rattle.osek_idle.specs.declared.subsystem.Osek.{Osek}
+use Rattle.osek_idle.specs.Standing.{frames, states, AreSound}
 
 module _ (codes more : List (List Stmt)) where
   stands : (f : Frame) → IsSoundFrame codes f → StandsFor (codes ++ more) f (left_of codes f)

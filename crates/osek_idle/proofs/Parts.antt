@@ -1,15 +1,15 @@
 -- The frames of the subsystem one by one.
-use Rattle.std.proofs.Common.{◌≡◌, ◌≢◌, ℕ, zero, suc, ◌+◌, ◌≤◌, ◌<◌, Bool, true, false, List, [], ◌∷◌, ◌++◌, length, map, Option, None, Some, IfSome, refl, sym, ap, subst, ◌∙◌, arith, length-append}
+use Rattle.std.proofs.Common.{◌≡◌, ℕ, zero, suc, ◌≤◌, ◌<◌, List, [], ◌∷◌, length, Option, None, Some, IfSome, refl, ap, subst, ◌∙◌, arith}
 use Rattle.std.specs.Prelude.{filter, slice_index_or, slice_set}
-use Rattle.std.specs.List.{All, range_with_len}
+use Rattle.std.specs.List.{range_with_len}
 use Rattle.std.specs.Option.{is_some, option_map}
 use Rattle.std.proofs.lemmas.List.{length-map, map-set}
 use Rattle.std.proofs.Math.Seq.{map-set_same}
 use Rattle.std.proofs.lemmas.List.Elements.{All-set, filter_agree}
 use Rattle.task_lang.specs.declared.syntax.Stmt.{Stmt}
 use Rattle.task_machine.specs.declared.frame.Frame.{Frame}
-use Rattle.task_machine.specs.Standing.{left_of, IsSound as IsSoundFrame, StandsFor}
-use Rattle.osek_idle.specs.Subsystem.{is_ready, ready_numbers, left_in, Subsystem, Setup, picked, routine_first}
+use Rattle.task_machine.specs.Standing.{left_of, IsSound as IsSoundFrame}
+use Rattle.osek_idle.specs.Subsystem.{is_ready, ready_numbers, left_in, picked, routine_first}
 use Rattle.tt_world.specs.Runners.{highest}
 use Rattle.osek_idle.specs.Standing.{priorities, frames, states, AreSound, slot_left, subsystem_of, setup_of}
 use Rattle.osek_idle.specs.declared.slot.Slot.{Slot}

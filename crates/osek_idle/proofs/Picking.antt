@@ -1,18 +1,15 @@
 -- The one that is picked between two ticks.
-use Rattle.std.proofs.Common.{◌≡◌, ◌≢◌, ℕ, zero, suc, ◌+◌, ◌≤◌, ◌<◌, Bool, true, false, List, [], ◌∷◌, length, map, Option, None, Some, IfSome, refl, sym, ap, subst, ◌∙◌, arith}
+use Rattle.std.proofs.Common.{◌≡◌, ◌≢◌, ℕ, zero, suc, List, [], ◌∷◌, length, Option, None, Some, IfSome, refl, sym, ap, ◌∙◌, arith}
 use Rattle.std.specs.Prelude.{filter, not, slice_index_or}
 use Rattle.std.specs.List.{All, range_with_len}
 use Rattle.std.specs.Option.{is_some, option_map}
 use Rattle.std.proofs.lemmas.List.{length-map}
 use Rattle.std.proofs.lemmas.List.Elements.{filter_agree}
 use Rattle.task_lang.specs.declared.syntax.Stmt.{Stmt}
-use Rattle.tt_world.specs.declared.config.ConfigParts.{ConfigParts}
-use Rattle.tt_world.specs.declared.world.Runner.{Runner}
 use Rattle.tt_world.specs.declared.world.Runner.TheVariants.{Oisr, Osek}
-use Rattle.tt_world.specs.World.{World}
 use Rattle.tt_world.specs.Runners.{is_done, unfinished, highest, oisr_priorities, osek_priorities, first_runner}
-use Rattle.osek_idle.specs.Laws.{IsOf, runner_in, PicksAreTheRunners}
-use Rattle.osek_idle.specs.Subsystem.{Subsystem, Setup, left_in, lefts, is_ready, ready_numbers, routine_first, picked}
+use Rattle.osek_idle.specs.Laws.{runner_in, PicksAreTheRunners}
+use Rattle.osek_idle.specs.Subsystem.{left_in, lefts, is_ready, ready_numbers, routine_first}
 
 abbrev AreSettled : List (Option (List Stmt)) → Type 0
 AreSettled states = All (λ (state : Option (List Stmt)). IfSome state (λ left. left ≢ [])) states

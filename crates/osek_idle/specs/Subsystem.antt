@@ -1,6 +1,6 @@
 -- The tasks and routines of the OSEK subsystem: what is left of each, and what a service makes of them. The OSEK/VDX standard: the operating
 -- system's conformance class BCC1. That the routines stand above the tasks is the bench's own.
-use Rattle.std.specs.Prelude.{◌≡◌, ◌≢◌, ℕ, ◌+◌, ◌==◌, Bool, List, [], ◌∷◌, length, map, filter, Option, None, Some, if◌then◌else◌, IfSome, slice_index_or, slice_set}
+use Rattle.std.specs.Prelude.{◌≢◌, ℕ, ◌==◌, Bool, List, [], length, map, filter, Option, None, Some, if◌then◌else◌, IfSome, slice_index_or, slice_set}
 use Rattle.std.specs.List.{All, range_with_len}
 use Rattle.std.specs.Option.{is_some}
 use Rattle.tt_base.specs.declared.event.Owner.{Owner}

@@ -1,6 +1,5 @@
-use Rattle.std.proofs.Common.{None, ap, ◌∙◌, refl, sym}
+use Rattle.std.proofs.Common.{ap, ◌∙◌, refl}
 use Rattle.std.specs.Prelude.{slice_set}
-use Rattle.osek_idle.specs.declared.slot.Slot.{Slot}
 use Rattle.osek_idle.specs.Standing.{frames}
 use Rattle.osek_idle.proofs.Parts.{no_slot, slots_set, frames_set}
 use Rattle.osek_idle.proofs.slot.write_frame.Goals as goal

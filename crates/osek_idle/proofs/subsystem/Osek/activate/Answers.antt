@@ -1,6 +1,6 @@
-use Rattle.std.proofs.Common.{ap, ◌∙◌}
-use Rattle.osek_idle.specs.Subsystem.{is_ready, readied}
-use Rattle.osek_idle.specs.Standing.{frames, states, subsystem_of, setup_of, task_body}
+use Rattle.std.proofs.Common.{◌∙◌}
+use Rattle.osek_idle.specs.Subsystem.{readied}
+use Rattle.osek_idle.specs.Standing.{subsystem_of, setup_of, task_body}
 use Rattle.osek_idle.proofs.Changes.{limit, ok, chosen_first, chosen_second}
 use Rattle.osek_idle.proofs.subsystem.Osek.activate.Goals as goal
 

@@ -1,4 +1,4 @@
-use Rattle.std.proofs.Common.{None, Some, ap, sym, ◌∙◌}
+use Rattle.std.proofs.Common.{None, ap, sym, ◌∙◌}
 use Rattle.tt_world.specs.Runners.{highest}
 use Rattle.osek_idle.specs.Subsystem.{ready_numbers, routine_first}
 use Rattle.osek_idle.specs.Standing.{priorities, frames}
