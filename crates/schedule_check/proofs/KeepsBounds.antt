@@ -40,16 +40,17 @@ module _ (c : ConfigParts) (s : ScriptParts) where
   -- the test passes exactly where the script keeps its bounds
   pub bounds_are_decided : IsTrue (keeps_bounds c s) ↔ KeepsBounds c s
   unfolding keeps_bounds
-  bounds_are_decided =
-      (λ kept. record {
-        values = λ demand.
-            ⊎_elim (λ (l : demand < length s.values). below_passes (keeps_value c s) (length s.values)
-            (and_parts values arrivals kept).0 demand l)
-            (λ (g : length s.values ≤ demand).
-            ap (list_all (λ value. nat_le value (most_of (slice_get c.demands demand)))) (get_or_past s.values demand [] g))
-            (cases_lt demand (length s.values));
-        distances = below_passes (keeps_arrivals c s) (length c.isrs) (and_parts values arrivals kept).1;
-      },
-      λ bounds. both values arrivals
-      (passes_below (keeps_value c s) (length s.values) (λ k l. bounds.values k))
-      (passes_below (keeps_arrivals c s) (length c.isrs) bounds.distances))
+  bounds_are_decided = (
+    λ kept. record {
+      values = λ demand.
+          ⊎_elim (λ (l : demand < length s.values). below_passes (keeps_value c s) (length s.values)
+          (and_parts values arrivals kept).0 demand l)
+          (λ (g : length s.values ≤ demand).
+          ap (list_all (λ value. nat_le value (most_of (slice_get c.demands demand)))) (get_or_past s.values demand [] g))
+          (cases_lt demand (length s.values));
+      distances = below_passes (keeps_arrivals c s) (length c.isrs) (and_parts values arrivals kept).1;
+    },
+    λ bounds. both values arrivals
+        (passes_below (keeps_value c s) (length s.values) (λ k l. bounds.values k))
+        (passes_below (keeps_arrivals c s) (length c.isrs) bounds.distances),
+  )

@@ -16,7 +16,7 @@ pub use allowed::OwnerKind;
 pub use demand::{Cursors, Demand, Demands, Values};
 pub use laws::{tick_keeps_each, tick_keeps_numbers, tick_lowers_worst, ticks_end};
 pub use syntax::{Body, Expr, Op, Stmt};
-pub use tick::{take, Effect, Left};
+pub use tick::{Effect, Left, take};
 pub use vars::Vars;
 
 #[cfg(test)]

@@ -4,8 +4,8 @@ ghost use Rattle.std.specs.Prelude.{◌≡◌, ◌<◌, ◌≤◌, [], ◌∷◌
 ghost use Rattle.task_lang.specs.Limits.{IsNestedInLimit, AreNumbersInRange};
 ghost use Rattle.task_machine.specs.Standing.{IsSound};
 
-use crate::{advance, compile, Codes, Env, Frame};
 use crate::instr::Instr;
+use crate::{Codes, Env, Frame, advance, compile};
 use sqlite_items::{Boxed, Items};
 use std::alloc::{AllocError, Global};
 use std::marker::Brand;
