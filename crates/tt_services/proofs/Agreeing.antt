@@ -1,9 +1,8 @@
 -- Each service in the parts of a world that it changes.
-use Rattle.std.proofs.Common.{◌≡◌, ℕ, zero, suc, ◌+◌, ◌-◌, Bool, true, false, List, [], ◌∷◌, length, map, Option, None, Some, refl, sym, ap, subst, ◌∙◌, arith}
-use Rattle.std.specs.Prelude.{not, ◌==◌, slice_get, slice_set, slice_index_or, if◌then◌else◌}
+use Rattle.std.proofs.Common.{◌≡◌, ℕ, zero, suc, ◌+◌, ◌-◌, Bool, true, false, List, [], ◌∷◌, Option, None, Some, refl, sym, ap, subst, ◌∙◌}
+use Rattle.std.specs.Prelude.{not, ◌==◌, slice_get, slice_set, if◌then◌else◌}
 use Rattle.std.proofs.lemmas.List.{map-set}
 use Rattle.std.proofs.lemmas.Bool.{eqb-true}
-use Rattle.tt_base.specs.declared.event.Call.{Call}
 use Rattle.tt_base.specs.declared.event.Call.TheVariants as call
 use Rattle.tt_base.specs.declared.event.Owner.{Owner}
 use Rattle.tt_base.specs.declared.event.Owner.TheVariants as owner
@@ -21,9 +20,9 @@ use Rattle.tt_world.specs.Runners.{leaving}
 use Rattle.tt_world.specs.Services.{Answer, answers, ends_with, service, synced, is_suspended, ready}
 use Rattle.round_end.specs.Round.{Round, next_time, sync_result}
 use Rattle.round_end.specs.Round as round
-use Rattle.osek_idle.specs.Subsystem.{Subsystem, Setup, is_ready, lefts, left_in, result_of, readied, suspended}
+use Rattle.osek_idle.specs.Subsystem.{Subsystem, is_ready, lefts, left_in, result_of, readied, suspended}
 use Rattle.tt_services.specs.Agreement.{RunsAs, IsCall, Agrees, ServicesAgree}
-use Rattle.tt_services.specs.Performed.{Performed, performed, IsOsek, MayCall}
+use Rattle.tt_services.specs.Performed.{Performed, performed, IsOsek}
 
 set_twice : {X : Type 0} (xs : List X) (i : ℕ) (a b : X) → slice_set (slice_set xs i a) i b ≡ slice_set xs i b
 set_twice [] i a b = refl

@@ -1,5 +1,5 @@
 -- The services are those of a run, read in the parts of a world that they change.
-use Rattle.std.specs.Prelude.{◌≡◌, ℕ, Bool, true, not, List, Option}
+use Rattle.std.specs.Prelude.{◌≡◌, ℕ, true, not, List}
 use Rattle.tt_base.specs.declared.event.Call.{Call}
 use Rattle.tt_base.specs.declared.event.Owner.{Owner}
 use Rattle.tt_base.specs.declared.event.Owner.TheVariants as owner

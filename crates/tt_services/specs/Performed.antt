@@ -1,5 +1,5 @@
 -- What a service makes of the round and of the OSEK subsystem. The table is that of the services of a run, read in the parts that change.
-use Rattle.std.specs.Prelude.{◌≡◌, ℕ, ◌<◌, ◌≤◌, ◌==◌, Bool, true, false, List, length}
+use Rattle.std.specs.Prelude.{ℕ, ◌<◌, ◌≤◌, ◌==◌, Bool, true, false, List, length}
 use Rattle.tt_base.specs.declared.event.Call.{Call}
 use Rattle.tt_base.specs.declared.event.Call.TheVariants as call
 use Rattle.tt_base.specs.declared.event.Owner.{Owner}
