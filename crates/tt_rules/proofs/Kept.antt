@@ -1,12 +1,12 @@
 -- No line breaks a rule exactly where the parts keep it.
-use Rattle.std.proofs.Common.{◌≡◌, ℕ, zero, suc, Bool, true, false, List, [], ◌∷◌, ◌++◌, length, drop, refl, ap, sym, ◌∙◌, arith}
+use Rattle.std.proofs.Common.{◌≡◌, ℕ, zero, suc, Bool, true, false, List, [], ◌∷◌, ◌++◌, length, drop, refl, ap, sym, ◌∙◌, arith, cond, filter}
 use Rattle.std.specs.Prelude.{nat_le, ◌&&◌}
 use Rattle.std.specs.List.{list_all}
 use Rattle.std.proofs.lemmas.Bool.{le-leb, lt-leb}
 use Rattle.std.proofs.lemmas.Bool.Decides.{nat_tests}
 use Rattle.tt_parts.specs.declared.located.At.{At}
 use Rattle.tt_rules.specs.Lines.{line_unless}
-use Rattle.tt_rules.specs.Shapes.{Shape, Present, AtMost, Every, Differ, Clear, parts, lines, failing, is_new, repeating, is_clear, breaking, breaking_one, differ_from, keeps, keeps_each}
+use Rattle.tt_rules.specs.Shapes.{Shape, Present, AtMost, Every, Differ, Clear, parts, lines, failing, is_new, repeating, is_clear, breaking, breaking_one, differ_from, filter_at, keeps, keeps_each}
 
 -- whether there is no line
 abbrev pub is_none : List ℕ → Bool
@@ -75,3 +75,12 @@ none_left (line ∷ lines) others is = cc
 pub none_right : (lines others : List ℕ) → lines ++ others ≡ [] → others ≡ []
 none_right [] others is = is
 none_right (line ∷ lines) others is = cc
+
+-- the parts of those that pass a test
+pub filter_at-parts : {A : Type 0} (test : A → Bool) (xs : List (At A)) → parts (filter_at test xs) ≡ filter test (parts xs)
+filter_at-parts test [] = refl
+filter_at-parts test (x ∷ xs) = by (test x.part) (filter_at-parts test xs) where
+  by : (b : Bool) → parts (filter_at test xs) ≡ filter test (parts xs)
+      → parts (cond b (x ∷ filter_at test xs) (filter_at test xs)) ≡ cond b (x.part ∷ filter test (parts xs)) (filter test (parts xs))
+  by true rest = ap (λ ys. x.part ∷ ys) rest
+  by false rest = rest

@@ -6,3 +6,6 @@ pub mod Sorting
 pub mod ActivationLemmas
 pub mod ArrivalLemmas
 pub mod Table
+pub mod SoundDeclarations
+pub mod SoundTables
+pub mod SoundBodies

@@ -11,4 +11,6 @@ pub mod TableRules
 pub mod ActivationKeys
 pub mod InputRules
 pub mod Latest
+pub mod Tables
+pub mod Laws
 pub mod Table
