@@ -175,7 +175,8 @@ pub fn bodies_broken(
     bodies: &[At<BodyPart>],
 ) -> Option<Broken>
     requires { AreTellable demands.now bodies.now }
-    ensures { (d : Document) → d.rows ≡ rows.now → names_of d ≡ names.now → parts d.said.demands ≡ demands.now → d.bodies ≡ bodies.now
+    ensures { (d : Document) → d.rows ≡ rows.now → names_of d ≡ names.now
+        → parts d.said.demands ≡ demands.now → d.bodies ≡ bodies.now
         → result ≡ first_broken 14 body_rules d }
 {
     first_some(

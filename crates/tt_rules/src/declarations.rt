@@ -121,7 +121,8 @@ pub fn declarations_broken(
     rows: &[NumberedRow],
     bodies: &[At<BodyPart>],
 ) -> Result<Option<Broken>, Memory>
-    ensures { IfOk result (λ broken. (d : Document) → d.rows ≡ rows.now → d.bodies ≡ bodies.now → broken ≡ first_broken 9 declaration_rules d) }
+    ensures { IfOk result (λ broken. (d : Document) → d.rows ≡ rows.now
+        → d.bodies ≡ bodies.now → broken ≡ first_broken 9 declaration_rules d) }
 {
     let levels = rule_10(alloc, bodies)?;
     let priorities = rule_11(alloc, bodies)?;

@@ -56,7 +56,8 @@ fn is_after(tick: u64, latest: Option<u64>) -> bool
 /// Notes an arrival as the latest of its source, and answers whether it is after the one before. One that is not
 /// is not noted.
 fn note(latest: &mut HashMap<(usize, u16), u64>, arrival: &Arrival) -> Result<bool, Memory>
-    ensures after { IfOk result (λ after. after ≡ is_after arrival.now.tick (latest_at (get same_pair latest.old) arrival.now.source)) }
+    ensures after { IfOk result (λ after. after
+        ≡ is_after arrival.now.tick (latest_at (get same_pair latest.old) arrival.now.source)) }
     ensures latest { OnOk result ((q : _) → get same_pair latest.new q
         ≡ latest_then (is_thing q arrival.now.source) arrival.now.tick (get same_pair latest.old q)) }
 {
@@ -95,7 +96,8 @@ fn rule_28(values: &[At<Value>]) -> Option<u32>
 
 /// The first of rules 25 to 28 that is broken. The first line is that of the first row.
 pub fn inputs_broken(alloc: Global, first: u32, said: &Said) -> Result<Option<Broken>, Memory>
-    ensures { IfOk result (λ broken. (d : Document) → d.declared.first ≡ first → d.said ≡ said.now → broken ≡ first_broken 25 input_rules d) }
+    ensures { IfOk result (λ broken. (d : Document) → d.declared.first ≡ first
+        → d.said ≡ said.now → broken ≡ first_broken 25 input_rules d) }
 {
     let arrivals = rule_27(alloc, said.arrivals.as_slice())?;
     Ok(first_some(

@@ -79,7 +79,8 @@ fn rule_8(declared: &Declarations) -> Option<u32>
 
 /// The first of rules 7 and 8 that is broken.
 pub fn names_broken(alloc: Global, declared: &Declarations) -> Result<Option<Broken>, Memory>
-    ensures { IfOk result (λ broken. (d : Document) → d.declared ≡ declared.now → broken ≡ first_broken 7 name_rules d) }
+    ensures { IfOk result (λ broken. (d : Document) → d.declared ≡ declared.now
+        → broken ≡ first_broken 7 name_rules d) }
 {
     let first = rule_7(alloc, declared)?;
     Ok(first_some(7, &[first, rule_8(declared)]))

@@ -101,7 +101,8 @@ fn opens_block(row: &Row) -> bool
 /// How many things are open after a row, where this many are before it.
 fn height_after(height: usize, standing: Standing) -> usize
     requires { height < usize.MAX }
-    ensures height { (stack : List Open) → height ≡ length stack → result ≡ length (stack_then stack standing) }
+    ensures height { (stack : List Open) → height ≡ length stack
+        → result ≡ length (stack_then stack standing) }
     ensures bound { result ≤ height + 1 }
 {
     match standing {
@@ -128,7 +129,8 @@ fn rule_3(rows: &[NumberedRow]) -> Option<u32>
 
 /// The first of rules 1 to 3 that is broken.
 pub fn structure_broken(alloc: Global, rows: &[NumberedRow]) -> Result<Option<Broken>, Memory>
-    ensures { IfOk result (λ broken. (d : Document) → d.rows ≡ rows.now → broken ≡ first_broken 1 structure_rules d) }
+    ensures { IfOk result (λ broken. (d : Document) → d.rows ≡ rows.now
+        → broken ≡ first_broken 1 structure_rules d) }
 {
     let second = rule_2(alloc, rows)?;
     Ok(first_some(1, &[rule_1(rows), second, rule_3(rows)]))

@@ -138,7 +138,8 @@ pub fn tables_broken(
     modes: u16,
     entries: &[At<Entry>],
 ) -> Result<Option<Broken>, Memory>
-    ensures { IfOk result (λ broken. (d : Document) → limit_of d.declared ≡ limit → count_of Kind.Mode (names_of d) ≡ modes → d.said.entries ≡ entries.now
+    ensures { IfOk result (λ broken. (d : Document) → limit_of d.declared ≡ limit
+        → count_of Kind.Mode (names_of d) ≡ modes → d.said.entries ≡ entries.now
         → broken ≡ first_broken 18 table_rules d) }
 {
     let places = rule_21(alloc, entries)?;
