@@ -1,0 +1,4 @@
+pub mod Terms
+pub mod EachAt
+pub mod Reading
+pub mod Named

@@ -1,0 +1,9 @@
+use Rattle.std.proofs.Common.{◌≡◌, Bool, drop}
+use Rattle.tt_rules.specs.Lines.{least_line, lesser_of}
+use Rattle.tt_rules.specs.Shapes.{Answers, failing}
+use Rattle.tt_rules.proofs.shapes.failing.Given as goal
+
+abbrev pub invariant-loop-at : goal.invariant-loop-at
+invariant-loop-at g l =
+    (passes : g.row.T.Denot → Bool) → Answers g.F.Fn l.test passes
+    → lesser_of l.least (least_line (failing passes (drop l.at-index l.parts))) ≡ least_line (failing passes l.parts)

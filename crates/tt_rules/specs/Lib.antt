@@ -1,0 +1,16 @@
+pub mod Lines
+pub mod Shapes
+pub mod Order
+pub mod Document
+pub mod StructureRules
+pub mod RoundRules
+pub mod NameRules
+pub mod DeclarationRules
+pub mod BodyRules
+pub mod TableRules
+pub mod ActivationKeys
+pub mod InputRules
+pub mod Latest
+pub mod Tables
+pub mod Laws
+pub mod Table
