@@ -3,4 +3,3 @@ pub mod EventLines
 pub mod TablePlaces
 pub mod TableTexts
 pub mod CheckTexts
-pub mod Misses
