@@ -1,11 +1,10 @@
-ghost use Rattle.std.specs.Prelude.{◌≡◌, [], ◌∷◌, IfOk};
+ghost use Rattle.std.specs.Prelude.{◌≡◌, ◌≤◌, ◌<◌, ◌+◌, [], ◌∷◌, IfOk};
+ghost use Rattle.task_lang.specs.Limits.{terms_of};
 
 use crate::allowed::allowed;
 use crate::value::value;
 use crate::worst::worst;
-use crate::{
-    Body, Cursors, Demand, Demands, Effect, Expr, Left, Op, OwnerKind, Stmt, Values, Vars,
-};
+use crate::{Body, Cursors, Demand, Demands, Expr, Left, Op, OwnerKind, Stmt, Values, Vars};
 use sqlite_items::{Boxed, Items};
 use std::alloc::{AllocError, Global};
 use std::test::Fail;
@@ -15,7 +14,10 @@ const X: VarNo = VarNo(0);
 
 const D: DemandNo = DemandNo(0);
 
-fn pair(alloc: Global, op: Op, left: Expr, right: Expr) -> Result<Expr, AllocError> {
+fn pair(alloc: Global, op: Op, left: Expr, right: Expr) -> Result<Expr, AllocError>
+    requires { terms_of left + terms_of right < 100 }
+    ensures { IfOk result (λ expr. terms_of expr ≤ 100) }
+{
     Ok(Expr::Bin(op, Boxed::new(alloc, left)?, Boxed::new(alloc, right)?))
 }
 
@@ -164,110 +166,18 @@ fn each_statement_has_a_worst_case(rt: HostRuntime) -> Result<(), Fail> {
     Ok(())
 }
 
-/// Takes so many ticks of a body, and answers what it put out.
-fn run(
-    alloc: Global,
-    left: &mut Left,
-    vars: &mut Vars,
-    cursors: &mut Cursors,
-    demands: &Demands,
-    values: &Values,
-    ticks: u64,
-) -> Result<Vec<(u64, Effect)>, Fail> {
-    let mut effects = Vec::new(alloc);
-    for tick in 0..ticks {
-        if let Some(effect) = left.tick(alloc, vars, cursors, demands, values)? {
-            effects.push((tick, effect))?;
-        }
-    }
-    Ok(effects)
-}
-
 #[test]
-fn a_body_runs_to_its_end(rt: HostRuntime) -> Result<(), Fail> {
+fn nothing_left_has_no_ticks(rt: HostRuntime) -> Result<(), Fail> {
     let alloc = rt.alloc();
     let mut vars = Vars::new(alloc);
-    vars.push(5)?;
-    let mut demands = Series::new(alloc);
-    demands.push(Demand { most: 0, usual: 0 })?;
-    let mut values = Series::new(alloc);
-    values.push(Series::new(alloc))?;
-    let mut cursors = Cursors::new(alloc, 1)?;
-
-    let less = pair(alloc, Op::Sub, Expr::Var(X), Expr::Const(3))?;
-    let negative = pair(alloc, Op::Less, Expr::Var(X), Expr::Const(0))?;
-    let far = pair(alloc, Op::Sub, Expr::Var(X), Expr::Const(2147483647))?;
-    let past = pair(alloc, Op::Sub, far, Expr::Const(1))?;
-    let mut body = Items::new(alloc);
-    body.push(Stmt::Repeat(2, only(alloc, Stmt::Set(X, less))?))?;
-    let first = only(alloc, Stmt::Out(past))?;
-    body.push(Stmt::If(negative, first, only(alloc, Stmt::Out(Expr::Const(1)))?))?;
-    body.push(Stmt::Take(D))?;
-
-    let mut left = Left::begin(alloc, &body)?;
-    let effects = run(
-        alloc,
-        &mut left,
-        &mut vars,
-        &mut cursors,
-        &demands,
-        &values,
-        6,
-    )?;
-    assert!(rt; !left.is_empty());
+    let mut cursors = Cursors::new(alloc, 0)?;
+    let demands: Demands = Series::new(alloc);
+    let values: Values = Series::new(alloc);
+    let mut left = Left::new(alloc);
     assert_eq!(rt;
-        effects.as_slice(),
-        [(5, Effect::Out(2147483647))].as_slice()
+        left.tick(alloc, &mut vars, &mut cursors, &demands, &values)?,
+        None
     );
-    let effects = run(
-        alloc,
-        &mut left,
-        &mut vars,
-        &mut cursors,
-        &demands,
-        &values,
-        1,
-    )?;
     assert!(rt; left.is_empty());
-    assert!(rt; effects.is_empty());
-    assert_eq!(rt; vars.as_slice(), [-1].as_slice());
-    Ok(())
-}
-
-#[test]
-fn a_demand_takes_the_values_and_then_the_usual(rt: HostRuntime) -> Result<(), Fail> {
-    let alloc = rt.alloc();
-    let mut vars = Vars::new(alloc);
-    let mut demands = Series::new(alloc);
-    demands.push(Demand { most: 9, usual: 1 })?;
-    let mut given = Series::new(alloc);
-    given.push(2)?;
-    given.push(0)?;
-    let mut values = Series::new(alloc);
-    values.push(given)?;
-    let mut cursors = Cursors::new(alloc, 1)?;
-    let mut body = Items::new(alloc);
-    for _turn in 0..3 {
-        body.push(Stmt::Take(D))?;
-    }
-    body.push(Stmt::Service(Call::Terminate))?;
-
-    let mut left = Left::begin(alloc, &body)?;
-    let effects = run(
-        alloc,
-        &mut left,
-        &mut vars,
-        &mut cursors,
-        &demands,
-        &values,
-        7,
-    )?;
-    assert!(rt; left.is_empty());
-    assert_eq!(rt;
-        effects.as_slice(),
-        [(6, Effect::Service(Call::Terminate))].as_slice()
-    );
-    assert_eq!(rt; cursors.as_slice(), [2].as_slice());
-    assert!(rt; Left::new(alloc).is_empty());
     Ok(())
 }
