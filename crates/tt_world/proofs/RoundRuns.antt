@@ -85,10 +85,10 @@ module _ (c : ConfigParts) (s : ScriptParts) (test : Event → Bool) (Has : Roun
       rounds_more test Has None es fs p (none_over test Has (present_after test None es) fs q)
 
   -- the run goes on
-  goes : (T T2 : ℕ) (D D2 : OfPresent) (w v : World) (es fs : List Event) → v.tick ≡ T2 → w.start ≤ T2
+  goes : (T later : ℕ) (D Next : OfPresent) (w v : World) (es fs : List Event) → v.tick ≡ later → w.start ≤ later
       → v.start ≡ w.start → v.mode ≡ w.mode → Of NoRound fs → Of IsCalm fs → (p : Going T D w es)
-      → D2 (round_in w) (p.kept ++ filter test fs) → Going T2 D2 v (es ++ fs)
-  goes T T2 D D2 w v es fs t l a b q k p d =
+      → Next (round_in w) (p.kept ++ filter test fs) → Going later Next v (es ++ fs)
+  goes T later D Next w v es fs t l a b q k p d =
       let same : round_in w ≡ round_in v =
       sym (ap (λ x. record { start = x; mode = v.mode }) a ∙ ap (λ m. record { start = w.start; mode = m }) b) in
       let all = p.kept ++ filter test fs in
@@ -99,7 +99,7 @@ module _ (c : ConfigParts) (s : ScriptParts) (test : Event → Bool) (Has : Roun
         now = more_now (record { round = round_in w; kept = p.kept }) es fs p.now q
             ∙ ap (λ (r : RoundStart). Some (record { round = r; kept = all })) same;
         over = more_over es fs p.over q;
-        due = subst (λ (r : RoundStart). D2 r all) same d;
+        due = subst (λ (r : RoundStart). Next r all) same d;
         calm = all_more IsCalm es fs p.calm k;
       }
 
