@@ -13,6 +13,3 @@ mod queues;
 pub use busy::Busy;
 pub use gates::{Arrived, Gates};
 pub use laws::next_is_least;
-
-#[cfg(test)]
-mod tests;

@@ -14,6 +14,3 @@ mod words;
 pub use command::{MOST_BYTES, serve};
 pub use status::Status;
 pub use words::{Command, Words};
-
-#[cfg(test)]
-mod tests;

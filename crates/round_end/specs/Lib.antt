@@ -1,4 +1,3 @@
 pub mod Round
 pub mod Step
 pub mod State
-pub mod Example

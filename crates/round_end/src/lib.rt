@@ -6,6 +6,3 @@ mod correction;
 mod state;
 
 pub use state::{RoundState, RoundStep};
-
-#[cfg(test)]
-mod tests;

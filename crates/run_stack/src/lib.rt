@@ -6,6 +6,3 @@ mod top;
 
 pub use stack::{ISRS, RunStack, StackFrame, TASKS};
 pub use top::Top;
-
-#[cfg(test)]
-mod tests;

@@ -18,6 +18,3 @@ pub use laws::{tick_keeps_each, tick_keeps_numbers, tick_lowers_worst, ticks_end
 pub use syntax::{Body, Expr, Op, Stmt};
 pub use tick::{Effect, Left, take};
 pub use vars::Vars;
-
-#[cfg(test)]
-mod tests;

@@ -17,6 +17,3 @@ pub use env::Env;
 pub use frame::Frame;
 pub use laws::codes_may_grow;
 pub use ticks::{Progress, advance};
-
-#[cfg(test)]
-mod tests;

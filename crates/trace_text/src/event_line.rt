@@ -156,6 +156,3 @@ fn called(at: Tick, names: &Names, owner: Owner, call: Call, answer: u8) -> Line
     line.end();
     line
 }
-
-#[cfg(test)]
-mod tests;

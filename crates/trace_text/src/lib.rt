@@ -21,6 +21,3 @@ pub use notes::{note_all, note_one};
 pub use recorder::{Failed, Noted, Recorder};
 pub use sink_recorder::SinkRecorder;
 pub use written::write_events;
-
-#[cfg(test)]
-mod tests;

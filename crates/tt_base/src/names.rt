@@ -231,37 +231,3 @@ fn keep_first(
     index.insert(name, which)?;
     Ok(())
 }
-
-#[cfg(test)]
-mod tests {
-    use super::*;
-    use std::test::Fail;
-
-    #[test]
-    fn lists_kinds_at_their_places(rt: HostRuntime) {
-        for (place, kind) in NameKind::ALL.iter().enumerate() {
-            assert_eq!(rt; kind.index(), place);
-        }
-    }
-
-    #[test]
-    fn finds_and_gives_back_names(rt: HostRuntime) -> Result<(), Fail> {
-        let plan = Name::new(b"Plan").ok_or("no name")?;
-        let wheel = Name::new(b"Wheel").ok_or("no name")?;
-        let mut names = Names::new(rt.alloc());
-        assert_eq!(rt;
-            names.add(NameKind::Mode, wheel)?,
-            Declared::Mode(ModeNo(0))
-        );
-        assert_eq!(rt; names.add(NameKind::Task, plan)?, Declared::Task(TaskNo(0)));
-        assert_eq!(rt;
-            names.add(NameKind::Task, wheel)?,
-            Declared::Task(TaskNo(1))
-        );
-        assert_eq!(rt; names.find(plan), Some(Declared::Task(TaskNo(0))));
-        assert_eq!(rt; names.find(wheel), Some(Declared::Mode(ModeNo(0))));
-        assert_eq!(rt; names.get(Declared::Task(TaskNo(1))), Some(wheel));
-        assert_eq!(rt; names.get(Declared::Isr(IsrNo(0))), None);
-        Ok(())
-    }
-}

@@ -128,27 +128,3 @@ impl<T: Drop> Series<T> {
         self.items.clear();
     }
 }
-
-#[cfg(test)]
-mod tests {
-    use super::*;
-    use std::test::Fail;
-
-    #[test]
-    fn changes_in_place(rt: HostRuntime) -> Result<(), Fail> {
-        let mut marks = Series::filled(rt.alloc(), 3, false)?;
-        marks.set(1, true);
-        marks.set(3, true);
-        *marks.get_mut(2) = true;
-        marks.push(false)?;
-        assert_eq!(rt; marks.as_slice(), [false, true, true, false].as_slice());
-        assert_eq!(rt; marks.get(1), Some(&true));
-        assert_eq!(rt; marks.get(4), None);
-        assert_eq!(rt; marks.len(), 4);
-        marks.clear();
-        assert!(rt; marks.is_empty());
-        let pair = Series::from_vec([1, 2].to_vec(rt.alloc())?);
-        assert_eq!(rt; pair.into_vec().as_slice(), [1, 2].as_slice());
-        Ok(())
-    }
-}

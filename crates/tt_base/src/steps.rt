@@ -43,15 +43,3 @@ impl<L: Ledger> Steps<L> {
         self.book.add(&mut self.share, 1);
     }
 }
-
-#[cfg(test)]
-mod tests {
-    use super::*;
-    use std::marker::Brand;
-    use std::mem::size_of;
-
-    #[test]
-    fn has_no_bytes(rt: HostRuntime) {
-        assert_eq!(rt; size_of::<Steps<Brand>>(), 0);
-    }
-}

@@ -11,6 +11,3 @@ pub use line_words::words;
 pub use lines::{LineKind, LineStep, Span, next_line};
 pub use next_word::LineWords;
 pub use numbers::{integer, number};
-
-#[cfg(test)]
-mod tests;

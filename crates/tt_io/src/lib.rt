@@ -14,6 +14,3 @@ pub use mem::{MemSink, MemSource, NullSink, SureSource};
 pub use standard::{StdSink, StdSource};
 pub use traits::{ReadStep, Sink, Source, WriteStep};
 pub use whole::{TakeFault, WriteFault, put_all, take_all};
-
-#[cfg(test)]
-mod tests;

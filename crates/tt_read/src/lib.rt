@@ -9,8 +9,6 @@ mod form;
 mod keyword;
 pub mod laws;
 mod showing;
-#[cfg(test)]
-mod tests;
 
 pub use document::read;
 pub use form::{FormFault, FormKind};

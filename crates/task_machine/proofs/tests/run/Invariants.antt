@@ -1,6 +1,0 @@
-use Rattle.task_machine.specs.Standing.{IsSound}
-use Rattle.task_machine.proofs.tests.run.Given as goal
-
--- the frame stays one of these codes
-abbrev pub invariant-loop-tick : goal.invariant-loop-tick
-invariant-loop-tick g l = IsSound l.codes l.frame
