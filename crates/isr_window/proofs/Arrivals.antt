@@ -1,10 +1,10 @@
 -- The arrivals of an instant, taken one by one.
-use Rattle.std.proofs.Common.{ℕ, zero, suc, ◌≡◌, ◌≢◌, ◌<◌, ◌≤◌, ◌+◌, ◌-◌, ◌⊎◌, inl, inr, Bool, true, false, List, [], ◌∷◌, ◌++◌, length, take, drop, get_or, refl, sym, ap, ◌∙◌, subst, arith, replicate}
+use Rattle.std.proofs.Common.{ℕ, zero, suc, ◌≡◌, ◌≢◌, ◌<◌, ◌≤◌, ◌+◌, ◌-◌, ◌⊎◌, inl, inr, Bool, true, false, List, [], ◌∷◌, length, take, drop, get_or, refl, sym, ap, ◌∙◌, subst, arith}
 use Rattle.std.specs.Prelude.{Option, None, Some, ◌==◌, find, map, option_map, slice_get, if◌then◌else◌}
 use Rattle.std.specs.List.{list_all, list_any}
 use Rattle.std.specs.Option.{ForSome}
 use Rattle.std.proofs.lemmas.Bool.{and_parts, cases_lt}
-use Rattle.std.proofs.lemmas.List.{length-replicate, get_or_default}
+use Rattle.std.proofs.lemmas.List.{get_or_default}
 use Rattle.std.proofs.Common.{length-set}
 use Rattle.tt_base.specs.declared.event.Event.{Event}
 use Rattle.tt_base.specs.declared.event.Event.TheVariants.{Arrive, Merge}
@@ -12,8 +12,7 @@ use Rattle.tt_world.specs.declared.config.ConfigParts.{ConfigParts}
 use Rattle.tt_world.specs.declared.script.ScriptParts.{ScriptParts}
 use Rattle.tt_world.specs.World.{World, Source, IsrSource, OisrSource}
 use Rattle.tt_world.specs.ScriptRules.{IsScript, ticks_ascend}
-use Rattle.tt_world.specs.Schedule.{first_world}
-use Rattle.tt_world.specs.Moved.{Gives, goes_on, chain}
+use Rattle.tt_world.specs.Moved.{Gives, IsTelling, goes_on, chain}
 use Rattle.tt_world.specs.Gates.{sources, source_owner, arrivals_of, is_held, arrived, arrival, arrivals}
 use Rattle.tt_world.proofs.Moves.{gives_begin, gives_more, gives_all}
 use Rattle.isr_window.specs.declared.gates.Arrived.{Arrived}
@@ -132,54 +131,6 @@ later_is_not now ticks =
     is_not_at now (slice_get (ticks_from (now + 1) ticks) 0)
     (is_from (now + 1) (slice_get (ticks_from (now + 1) ticks) 0) (λ first e. first_from (now + 1) ticks first e))
 
--- at its start the arrivals from this tick on are to come
-pub arriving_begin : (c : ConfigParts) (s : ScriptParts) (a : List Event) (w : World) (g : Window) → with_window w g ≡ w
-    → AreSourcesOf c g → AreLeftFrom c s w.tick g → Arriving c s a a w w g
-arriving_begin c s a w g seen are left = record {
-  place = 0;
-  within = omega arith;
-  gives = gives_begin (arrival s) (sources c) a w;
-  seen = seen;
-  are = are;
-  taken = λ before below. absurd (omega arith);
-  left = λ after from below. left.left after below;
-}
-
--- no arrival before this tick is to come
-pub arriving_from : (c : ConfigParts) (s : ScriptParts) (a b : List Event) (u w : World) (g : Window)
-    → Arriving c s a b u w g → ForSome (next_tick g) (λ tick. w.tick ≤ tick)
-arriving_from c s a b u w g at =
-    for_some w.tick (next_tick g) (next_from c w.tick g at.are (λ k below. by_order k below (cases_lt k at.place)))
-  where
-    by_order : (k : ℕ) → k < length (sources c) → (k < at.place) ⊎ (at.place ≤ k)
-        → IsFrom w.tick (slice_get (left_at g (source_at c k)) 0)
-    by_order k below (inl before) =
-        is_from w.tick (slice_get (left_at g (source_at c k)) 0)
-        (λ tick e. let later = first_from (w.tick + 1) (arrivals_of s (source_at c k)) tick
-        (sym (ap (λ ts. slice_get ts 0) (at.taken k before)) ∙ e) in omega arith)
-    by_order k below (inr after) =
-        is_from w.tick (slice_get (left_at g (source_at c k)) 0)
-        (λ tick e. first_from w.tick (arrivals_of s (source_at c k)) tick
-        (sym (ap (λ ts. slice_get ts 0) (at.left k after below)) ∙ e))
-
--- a source that was passed has no arrival now
-taken_not_due : (c : ConfigParts) (s : ScriptParts) (a b : List Event) (u w : World) (g : Window)
-    (at : Arriving c s a b u w g) (k : ℕ) → k < at.place → is_due w.tick g (source_at c k) ≡ false
-taken_not_due c s a b u w g at k before =
-    ap (is_next w.tick) (at.taken k before) ∙ later_is_not (w.tick) (arrivals_of s (source_at c k))
-
--- the sources before the first with an arrival have none
-pub first_after : (c : ConfigParts) (s : ScriptParts) (a b : List Event) (u w : World) (g : Window) (x : Source)
-    (at : Arriving c s a b u w g) (first : IsFirst (is_due w.tick g) (sources c) no_source x) → at.place ≤ first.place
-first_after c s a b u w g x at first = by_order (cases_lt first.place at.place)
-  where
-    by_order : (first.place < at.place) ⊎ (at.place ≤ first.place) → at.place ≤ first.place
-    by_order (inl before) =
-        absurd
-        (true_is_not_false (sym first.passes ∙ ap (is_due w.tick g) (sym first.is)
-        ∙ taken_not_due c s a b u w g at first.place before))
-    by_order (inr after) = after
-
 -- the one that was found
 pub found_some : {X Y : Type 0} (f : X → Y) (found : Option X) (y : Y) → Some y ≡ option_map f found
     → (x : X) × (found ≡ Some x) × (y ≡ f x)
@@ -205,134 +156,182 @@ are_taking c g (OisrSource oisr) are = record {
   oisrs_held = length-set g.oisrs_held oisr.0 true ∙ are.oisrs_held;
 }
 
--- the sources up to before a place were played, where none has an arrival
-passed_to : (c : ConfigParts) (s : ScriptParts) (a b : List Event) (u w : World) (g : Window) (to : ℕ) → IsScript c s
-    → (at : Arriving c s a b u w g) → at.place ≤ to → to ≤ length (sources c)
-    → ((k : ℕ) → k < to → is_due w.tick g (source_at c k) ≡ false)
-    → Gives a b w None (chain (map (arrival s) (take to (sources c))) u)
-passed_to c s a b u w g to rules at from within none =
-    let same : at.place + (to - at.place) ≡ to = omega arith in
-    subst (λ k. Gives a b w None (chain (map (arrival s) (take k (sources c))) u)) same
-    (gives_past (arrival s) (sources c) no_source at.place (to - at.place) a b u w (omega arith)
-    (λ k after below.
-    no_arrival s w (source_at c k)
-    (has_arrival c s w g (source_at c k) rules (at.left k after (omega arith)) ∙ none k (omega arith)))
-    at.gives)
+module _ {L : Type 0} {Told : L → List Event → L → Type 0} where
+  -- no arrival before this tick is to come
+  pub arriving_from : (c : ConfigParts) (s : ScriptParts) (a b : L) (u w : World) (g : Window)
+      → Arriving Told c s a b u w g → ForSome (next_tick g) (λ tick. w.tick ≤ tick)
+  arriving_from c s a b u w g at =
+      for_some w.tick (next_tick g) (next_from c w.tick g at.are (λ k below. by_order k below (cases_lt k at.place)))
+    where
+      by_order : (k : ℕ) → k < length (sources c) → (k < at.place) ⊎ (at.place ≤ k)
+          → IsFrom w.tick (slice_get (left_at g (source_at c k)) 0)
+      by_order k below (inl before) =
+          is_from w.tick (slice_get (left_at g (source_at c k)) 0)
+          (λ tick e. let later = first_from (w.tick + 1) (arrivals_of s (source_at c k)) tick
+          (sym (ap (λ ts. slice_get ts 0) (at.taken k before)) ∙ e) in omega arith)
+      by_order k below (inr after) =
+          is_from w.tick (slice_get (left_at g (source_at c k)) 0)
+          (λ tick e. first_from w.tick (arrivals_of s (source_at c k)) tick
+          (sym (ap (λ ts. slice_get ts 0) (at.left k after below)) ∙ e))
 
--- an arrival that the code took at a source is the one that its part plays
-arriving_at : (c : ConfigParts) (s : ScriptParts) (a b : List Event) (u w : World) (g : Window) (x : Source)
-    → IsScript c s → Arriving c s a b u w g → IsFirst (is_due w.tick g) (sources c) no_source x
-    → Arriving c s a (b ++ arrival_event w.tick (arrived_at g x) ∷ []) u (with_window w (taking (Some x) g))
-    (taking (Some x) g)
-arriving_at c s a b u w g x rules at first = record {
-  place = first.place + 1;
-  within = let within = first.within in omega arith;
-  gives =
-      gives_more (arrival s) (sources c) first.place x a b (b ++ arrival_event w.tick (arrived_at g x) ∷ []) u w
-      (with_window w next) first.within
-      (get_or_default (sources c) first.place x no_source first.within ∙ first.is)
-      (passed_to c s a b u w g first.place rules at after_place (let within = first.within in omega arith) first.before)
-      (gives_this b (with_window w next) (arrival_event w.tick (arrived_at g x) ∷ []) (arrival s x w)
-      (an_arrival s w g x some at.seen));
-  seen = refl;
-  are = are_taking c g x at.are;
-  taken = λ before below. taken before below (cases_lt before first.place);
-  left = λ after from below.
-      left_other g x (source_at c after) (other after below (omega arith))
-      ∙ at.left after (let here = after_place in omega arith) below;
-}
-  where
-    next : Window
-    next = taking (Some x) g
+  -- a source that was passed has no arrival now
+  taken_not_due : (c : ConfigParts) (s : ScriptParts) (a b : L) (u w : World) (g : Window)
+      (at : Arriving Told c s a b u w g) (k : ℕ) → k < at.place → is_due w.tick g (source_at c k) ≡ false
+  taken_not_due c s a b u w g at k before =
+      ap (is_next w.tick) (at.taken k before) ∙ later_is_not (w.tick) (arrivals_of s (source_at c k))
 
-    after_place : at.place ≤ first.place
-    after_place = first_after c s a b u w g x at first
-
-    left_here : left_at g x ≡ ticks_from w.tick (arrivals_of s x)
-    left_here = subst (λ (y : Source). left_at g y ≡ ticks_from w.tick (arrivals_of s y)) first.is
-        (at.left first.place after_place first.within)
-
-    some : list_any (λ (tick : ℕ). tick == w.tick) (arrivals_of s x) ≡ true
-    some = has_arrival c s w g x rules left_here ∙ first.passes
-
-    other : (k : ℕ) → k < length (sources c) → k ≢ first.place → source_at c k ≢ x
-    other k below differ same = other_source c k first.place below first.within differ (same ∙ sym first.is)
-
-    passed : (k : ℕ) → k < first.place → (k < at.place) ⊎ (at.place ≤ k)
-        → left_at g (source_at c k) ≡ ticks_from (w.tick + 1) (arrivals_of s (source_at c k))
-    passed k before (inl gone) = at.taken k gone
-    passed k before (inr after) =
-        let within = first.within in
-        let here = at.left k after (omega arith) in
-        here
-        ∙ from_passed w.tick 0 (arrivals_of s (source_at c k)) (arrivals_ascend c s rules (source_at c k))
-        (sym (ap (is_next w.tick) here) ∙ first.before k before)
-
-    taken_here : left_at next x ≡ ticks_from (w.tick + 1) (arrivals_of s x)
-    taken_here =
-        left_same c g x at.are (subst (IsSource c) first.is (source_is c first.place first.within))
-        ∙ ap (drop 1) left_here
-        ∙ from_taken w.tick 0 (arrivals_of s x) (arrivals_ascend c s rules x)
-        (sym (ap (is_next w.tick) left_here) ∙ first.passes)
-
-    taken : (k : ℕ) → k < first.place + 1 → (k < first.place) ⊎ (first.place ≤ k)
-        → left_at next (source_at c k) ≡ ticks_from (w.tick + 1) (arrivals_of s (source_at c k))
-    taken k below (inl before) =
-        let within = first.within in
-        left_other g x (source_at c k) (other k (omega arith) (omega arith)) ∙ passed k before (cases_lt k at.place)
-    taken k below (inr after) =
-        let same : k ≡ first.place = omega arith in
-        subst (λ (y : Source). left_at next y ≡ ticks_from (w.tick + 1) (arrivals_of s y))
-        (sym (ap (source_at c) same ∙ first.is)) taken_here
-
--- after an arrival was taken
-pub arriving_more : (c : ConfigParts) (s : ScriptParts) (a b : List Event) (u w : World) (g next : Window)
-    (taken : Arrived) → IsScript c s → Arriving c s a b u w g
-    → Some taken ≡ option_map (arrived_at g) (first_due w.tick g) → next ≡ taking (first_due w.tick g) g
-    → Arriving c s a (b ++ arrival_event w.tick taken ∷ []) u (with_window w next) next
-arriving_more c s a b u w g next taken rules at answer next_is =
-    let found = found_some (arrived_at g) (first_due w.tick g) taken answer in
-    let first = first_found (is_due w.tick g) (sources c) no_source found.0
-    (ap (find (is_due w.tick g)) (sym (all_sources_are c g at.are)) ∙ found.1) in
-    let next_too : next ≡ taking (Some found.0) g = next_is ∙ ap (λ o. taking o g) found.1 in
-    subst (λ (v : Window). Arriving c s a (b ++ arrival_event w.tick taken ∷ []) u (with_window w v) v) (sym next_too)
-    (subst (λ (arrived : Arrived). Arriving c s a (b ++ arrival_event w.tick arrived ∷ []) u
-    (with_window w (taking (Some found.0) g)) (taking (Some found.0) g)) (sym found.2)
-    (arriving_at c s a b u w g found.0 rules at first))
+  -- the sources before the first with an arrival have none
+  pub first_after : (c : ConfigParts) (s : ScriptParts) (a b : L) (u w : World) (g : Window) (x : Source)
+      (at : Arriving Told c s a b u w g) (first : IsFirst (is_due w.tick g) (sources c) no_source x) → at.place ≤ first.place
+  first_after c s a b u w g x at first = by_order (cases_lt first.place at.place)
+    where
+      by_order : (first.place < at.place) ⊎ (at.place ≤ first.place) → at.place ≤ first.place
+      by_order (inl before) =
+          absurd
+          (true_is_not_false (sym first.passes ∙ ap (is_due w.tick g) (sym first.is)
+          ∙ taken_not_due c s a b u w g at first.place before))
+      by_order (inr after) = after
 
 -- at its end all arrivals of this tick were played
-pub record Arrivals (c : ConfigParts) (s : ScriptParts) (a b : List Event) (u w : World)
-    (g next : Window) : Type 0 where
-  pub gives : Gives a b w None (arrivals c s u)
+pub record Arrivals {L : Type 0} (Told : L → List Event → L → Type 0) (c : ConfigParts) (s : ScriptParts) (a b : L)
+    (u w : World) (g next : Window) : Type 0 where
+  pub gives : Gives Told a b w None (arrivals c s u)
   pub same : next ≡ g
   pub left : AreLeftFrom c s (w.tick + 1) g
 
--- after the last arrival of this tick
-pub arriving_end : (c : ConfigParts) (s : ScriptParts) (a b : List Event) (u w : World) (g next : Window) → IsScript c s
-    → Arriving c s a b u w g → None ≡ option_map (arrived_at g) (first_due w.tick g)
-    → next ≡ taking (first_due w.tick g) g → Arrivals c s a b u w g next
-unfolding arrivals
-arriving_end c s a b u w g next rules at answer next_is =
-    let nothing = found_nothing (arrived_at g) (first_due w.tick g) answer in
-    let none = none_found (is_due w.tick g) (sources c) no_source
-    (ap (find (is_due w.tick g)) (sym (all_sources_are c g at.are)) ∙ nothing) in
-    record {
-      gives =
-          gives_all (arrival s) (sources c) (length (sources c)) a b u w (omega arith)
-          (passed_to c s a b u w g (length (sources c)) rules at at.within (omega arith) none);
-      same = next_is ∙ ap (λ o. taking o g) nothing;
-      left = record { left = λ k below. passed none k below (cases_lt k at.place) };
-    }
-  where
-    passed : ((k : ℕ) → k < length (sources c) → is_due w.tick g (source_at c k) ≡ false) → (k : ℕ)
-        → k < length (sources c) → (k < at.place) ⊎ (at.place ≤ k)
-        → left_at g (source_at c k) ≡ ticks_from (w.tick + 1) (arrivals_of s (source_at c k))
-    passed none k below (inl gone) = at.taken k gone
-    passed none k below (inr after) =
-        let here = at.left k after below in
-        here
-        ∙ from_passed w.tick 0 (arrivals_of s (source_at c k)) (arrivals_ascend c s rules (source_at c k))
-        (sym (ap (is_next w.tick) here) ∙ none k below)
+module _ {L : Type 0} {Told : L → List Event → L → Type 0} (telling : IsTelling Told) where
+  -- at its start the arrivals from this tick on are to come
+  pub arriving_begin : (c : ConfigParts) (s : ScriptParts) (a : L) (w : World) (g : Window) → with_window w g ≡ w
+      → AreSourcesOf c g → AreLeftFrom c s w.tick g → Arriving Told c s a a w w g
+  arriving_begin c s a w g seen are left = record {
+    place = 0;
+    within = omega arith;
+    gives = gives_begin telling (arrival s) (sources c) a w;
+    seen = seen;
+    are = are;
+    taken = λ before below. absurd (omega arith);
+    left = λ after from below. left.left after below;
+  }
+
+  -- the sources up to before a place were played, where none has an arrival
+  passed_to : (c : ConfigParts) (s : ScriptParts) (a b : L) (u w : World) (g : Window) (to : ℕ) → IsScript c s
+      → (at : Arriving Told c s a b u w g) → at.place ≤ to → to ≤ length (sources c)
+      → ((k : ℕ) → k < to → is_due w.tick g (source_at c k) ≡ false)
+      → Gives Told a b w None (chain (map (arrival s) (take to (sources c))) u)
+  passed_to c s a b u w g to rules at from within none =
+      let same : at.place + (to - at.place) ≡ to = omega arith in
+      subst (λ k. Gives Told a b w None (chain (map (arrival s) (take k (sources c))) u)) same
+      (gives_past telling (arrival s) (sources c) no_source at.place (to - at.place) a b u w (omega arith)
+      (λ k after below.
+      no_arrival s w (source_at c k)
+      (has_arrival c s w g (source_at c k) rules (at.left k after (omega arith)) ∙ none k (omega arith)))
+      at.gives)
+
+  -- an arrival that the code took at a source is the one that its part plays
+  arriving_at : (c : ConfigParts) (s : ScriptParts) (a b d : L) (u w : World) (g : Window) (x : Source)
+      → IsScript c s → Arriving Told c s a b u w g → IsFirst (is_due w.tick g) (sources c) no_source x
+      → Told b (arrival_event w.tick (arrived_at g x) ∷ []) d
+      → Arriving Told c s a d u (with_window w (taking (Some x) g)) (taking (Some x) g)
+  arriving_at c s a b d u w g x rules at first told = record {
+    place = first.place + 1;
+    within = let within = first.within in omega arith;
+    gives =
+        gives_more telling (arrival s) (sources c) first.place x a b d u w (with_window w next) first.within
+        (get_or_default (sources c) first.place x no_source first.within ∙ first.is)
+        (passed_to c s a b u w g first.place rules at after_place (let within = first.within in omega arith) first.before)
+        (gives_this b d (with_window w next) (arrival_event w.tick (arrived_at g x) ∷ []) (arrival s x w)
+        (an_arrival s w g x some at.seen) told);
+    seen = refl;
+    are = are_taking c g x at.are;
+    taken = λ before below. taken before below (cases_lt before first.place);
+    left = λ after from below.
+        left_other g x (source_at c after) (other after below (omega arith))
+        ∙ at.left after (let here = after_place in omega arith) below;
+  }
+    where
+      next : Window
+      next = taking (Some x) g
+
+      after_place : at.place ≤ first.place
+      after_place = first_after c s a b u w g x at first
+
+      left_here : left_at g x ≡ ticks_from w.tick (arrivals_of s x)
+      left_here = subst (λ (y : Source). left_at g y ≡ ticks_from w.tick (arrivals_of s y)) first.is
+          (at.left first.place after_place first.within)
+
+      some : list_any (λ (tick : ℕ). tick == w.tick) (arrivals_of s x) ≡ true
+      some = has_arrival c s w g x rules left_here ∙ first.passes
+
+      other : (k : ℕ) → k < length (sources c) → k ≢ first.place → source_at c k ≢ x
+      other k below differ same = other_source c k first.place below first.within differ (same ∙ sym first.is)
+
+      passed : (k : ℕ) → k < first.place → (k < at.place) ⊎ (at.place ≤ k)
+          → left_at g (source_at c k) ≡ ticks_from (w.tick + 1) (arrivals_of s (source_at c k))
+      passed k before (inl gone) = at.taken k gone
+      passed k before (inr after) =
+          let within = first.within in
+          let here = at.left k after (omega arith) in
+          here
+          ∙ from_passed w.tick 0 (arrivals_of s (source_at c k)) (arrivals_ascend c s rules (source_at c k))
+          (sym (ap (is_next w.tick) here) ∙ first.before k before)
+
+      taken_here : left_at next x ≡ ticks_from (w.tick + 1) (arrivals_of s x)
+      taken_here =
+          left_same c g x at.are (subst (IsSource c) first.is (source_is c first.place first.within))
+          ∙ ap (drop 1) left_here
+          ∙ from_taken w.tick 0 (arrivals_of s x) (arrivals_ascend c s rules x)
+          (sym (ap (is_next w.tick) left_here) ∙ first.passes)
+
+      taken : (k : ℕ) → k < first.place + 1 → (k < first.place) ⊎ (first.place ≤ k)
+          → left_at next (source_at c k) ≡ ticks_from (w.tick + 1) (arrivals_of s (source_at c k))
+      taken k below (inl before) =
+          let within = first.within in
+          left_other g x (source_at c k) (other k (omega arith) (omega arith)) ∙ passed k before (cases_lt k at.place)
+      taken k below (inr after) =
+          let same : k ≡ first.place = omega arith in
+          subst (λ (y : Source). left_at next y ≡ ticks_from (w.tick + 1) (arrivals_of s y))
+          (sym (ap (source_at c) same ∙ first.is)) taken_here
+
+  -- after an arrival was taken
+  pub arriving_more : (c : ConfigParts) (s : ScriptParts) (a b d : L) (u w : World) (g next : Window)
+      (taken : Arrived) → IsScript c s → Arriving Told c s a b u w g
+      → Some taken ≡ option_map (arrived_at g) (first_due w.tick g) → next ≡ taking (first_due w.tick g) g
+      → Told b (arrival_event w.tick taken ∷ []) d → Arriving Told c s a d u (with_window w next) next
+  arriving_more c s a b d u w g next taken rules at answer next_is told =
+      let found = found_some (arrived_at g) (first_due w.tick g) taken answer in
+      let first = first_found (is_due w.tick g) (sources c) no_source found.0
+      (ap (find (is_due w.tick g)) (sym (all_sources_are c g at.are)) ∙ found.1) in
+      let next_too : next ≡ taking (Some found.0) g = next_is ∙ ap (λ o. taking o g) found.1 in
+      subst (λ (v : Window). Arriving Told c s a d u (with_window w v) v) (sym next_too)
+      (arriving_at c s a b d u w g found.0 rules at first
+      (subst (λ (arrived : Arrived). Told b (arrival_event w.tick arrived ∷ []) d) found.2 told))
+
+  -- after the last arrival of this tick
+  pub arriving_end : (c : ConfigParts) (s : ScriptParts) (a b : L) (u w : World) (g next : Window) → IsScript c s
+      → Arriving Told c s a b u w g → None ≡ option_map (arrived_at g) (first_due w.tick g)
+      → next ≡ taking (first_due w.tick g) g → Arrivals Told c s a b u w g next
+  unfolding arrivals
+  arriving_end c s a b u w g next rules at answer next_is =
+      let nothing = found_nothing (arrived_at g) (first_due w.tick g) answer in
+      let none = none_found (is_due w.tick g) (sources c) no_source
+      (ap (find (is_due w.tick g)) (sym (all_sources_are c g at.are)) ∙ nothing) in
+      record {
+        gives =
+            gives_all (arrival s) (sources c) (length (sources c)) a b u w (omega arith)
+            (passed_to c s a b u w g (length (sources c)) rules at at.within (omega arith) none);
+        same = next_is ∙ ap (λ o. taking o g) nothing;
+        left = record { left = λ k below. passed none k below (cases_lt k at.place) };
+      }
+    where
+      passed : ((k : ℕ) → k < length (sources c) → is_due w.tick g (source_at c k) ≡ false) → (k : ℕ)
+          → k < length (sources c) → (k < at.place) ⊎ (at.place ≤ k)
+          → left_at g (source_at c k) ≡ ticks_from (w.tick + 1) (arrivals_of s (source_at c k))
+      passed none k below (inl gone) = at.taken k gone
+      passed none k below (inr after) =
+          let here = at.left k after below in
+          here
+          ∙ from_passed w.tick 0 (arrivals_of s (source_at c k)) (arrivals_ascend c s rules (source_at c k))
+          (sym (ap (is_next w.tick) here) ∙ none k below)
 
 -- where the next arrival comes later, this tick has none
 pub arrivals_silent : (c : ConfigParts) (s : ScriptParts) (w : World) (g : Window) → IsScript c s

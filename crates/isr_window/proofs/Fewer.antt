@@ -1,6 +1,6 @@
 -- Each arrival that is taken leaves fewer to come, and each interrupt that is accepted leaves fewer that are held.
-use Rattle.std.proofs.Common.{ℕ, suc, ◌≡◌, ◌<◌, ◌≤◌, ◌+◌, Bool, true, false, List, [], ◌∷◌, length, get_or, set, drop, ap, sym, ◌∙◌, subst, cond, arith, ⊎_elim}
-use Rattle.std.specs.Prelude.{Option, None, Some, ◌&&◌, option_map, find, sum_by, slice_get}
+use Rattle.std.proofs.Common.{ℕ, ◌≡◌, ◌<◌, ◌≤◌, ◌+◌, Bool, true, false, List, [], ◌∷◌, length, get_or, set, drop, ap, sym, ◌∙◌, subst, cond, arith, ⊎_elim}
+use Rattle.std.specs.Prelude.{Option, Some, option_map, sum_by}
 use Rattle.std.proofs.lemmas.Bool.{cases_lt, and_parts, true≢false}
 use Rattle.std.proofs.lemmas.List.{get_or_past}
 use Rattle.std.proofs.lemmas.List.Sums.{sum_by-set}

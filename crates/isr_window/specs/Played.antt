@@ -49,10 +49,11 @@ arrival_event now arrived = event_of arrived.merged
     event_of true = Merge now arrived.source
 
 -- the arrivals of the sources before a place were played, from a world u on, and those after it are to come
-pub record Arriving (c : ConfigParts) (s : ScriptParts) (a b : List Event) (u w : World) (g : Window) : Type 0 where
+pub record Arriving {L : Type 0} (Told : L → List Event → L → Type 0) (c : ConfigParts) (s : ScriptParts) (a b : L)
+    (u w : World) (g : Window) : Type 0 where
   pub place : ℕ
   pub within : place ≤ length (sources c)
-  pub gives : Gives a b w None (chain (map (arrival s) (take place (sources c))) u)
+  pub gives : Gives Told a b w None (chain (map (arrival s) (take place (sources c))) u)
   pub seen : with_window w g ≡ w
   pub are : AreSourcesOf c g
   pub taken : (before : ℕ) → before < place
@@ -72,10 +73,11 @@ pub record AreUnfinished (c : ConfigParts) (busy : BusySources) (w : World) (g :
       → is_busy busy (source_owner (source_at c place)) ≡ not (is_done (left_of w (source_runner (source_at c place))))
 
 -- the acceptances of the sources before a place were played, from a world u on, and none of these can be accepted
-pub record Accepting (c : ConfigParts) (a b : List Event) (u w : World) (g : Window) (busy : BusySources) : Type 0 where
+pub record Accepting {L : Type 0} (Told : L → List Event → L → Type 0) (c : ConfigParts) (a b : L) (u w : World)
+    (g : Window) (busy : BusySources) : Type 0 where
   pub place : ℕ
   pub within : place ≤ length (sources c)
-  pub gives : Gives a b w None (chain (map (acceptance c) (take place (sources c))) u)
+  pub gives : Gives Told a b w None (chain (map (acceptance c) (take place (sources c))) u)
   pub seen : with_window w g ≡ w
   pub are : AreSourcesOf c g
   pub unfinished : AreUnfinished c busy w g

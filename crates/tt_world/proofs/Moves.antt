@@ -4,7 +4,7 @@ use Rattle.std.specs.Prelude.{map}
 use Rattle.std.proofs.lemmas.List.{take_more, take_all, map-append}
 use Rattle.tt_base.specs.declared.event.Event.{Event}
 use Rattle.tt_world.specs.World.{World}
-use Rattle.tt_world.specs.Moved.{Moved, Gives, followed, continued, preceded, is_over, goes_on, chain}
+use Rattle.tt_world.specs.Moved.{Moved, Gives, IsTelling, Appends, followed, continued, preceded, is_over, goes_on, chain}
 use Rattle.std.specs.Prelude.{None, Some}
 use Rattle.tt_world.specs.declared.world.RunEnd.TheVariants as ending
 use Rattle.tt_world.specs.Moved.{Outcome}
@@ -16,49 +16,12 @@ going_from (Some ending.LastRound) e = cc
 going_from (Some (ending.Missed task)) e = cc
 going_from (Some ending.Shutdown) e = cc
 
--- a part that did nothing
-pub gives_none : (a : List Event) (w : World) → Gives a a w None (goes_on w [])
-gives_none a w = record { world_is = refl; events_are = sym (append-nil a); end_is = refl }
-
--- where the code of a part goes on and the code of the next part follows, both together are one after the other
-pub gives_next : (a b d : List Event) (v w : World) (end : Outcome) (m : Moved) (next : World → Moved)
-    → Gives a b v None m → Gives b d w end (next v) → Gives a d w end (followed m next)
-unfolding followed
-gives_next a b d v w end m next g h =
-    let on : is_over m.end ≡ false = ap is_over (sym g.end_is) in
-    let e : continued (is_over m.end) m next ≡ preceded m.events (next m.world) = ap (λ b. continued b m next) on in
-    let n : next v ≡ next m.world = ap next g.world_is in
-    record {
-      world_is = h.world_is ∙ ap (λ x. x.world) n ∙ sym (ap (λ x. x.world) e);
-      events_are = h.events_are ∙ ap (λ x. x ++ (next v).events) g.events_are ∙ append_assoc a m.events (next v).events
-          ∙ ap (λ x. a ++ (m.events ++ x.events)) n ∙ sym (ap (λ x. a ++ x.events) e);
-      end_is = h.end_is ∙ ap (λ x. x.end) n ∙ sym (ap (λ x. x.end) e);
-    }
-
--- where the code of a part ends the run, no part follows
-pub gives_stop : (a b : List Event) (w : World) (end : Outcome) (m : Moved) (next : World → Moved) → is_over end ≡ true
-    → Gives a b w end m → Gives a b w end (followed m next)
-unfolding followed
-gives_stop a b w end m next o g =
-    let p : is_over m.end ≡ true = sym (ap is_over g.end_is) ∙ o in
-    let e : continued (is_over m.end) m next ≡ m = ap (λ b. continued b m next) p in
-    record {
-      world_is = g.world_is ∙ sym (ap (λ x. x.world) e);
-      events_are = g.events_are ∙ sym (ap (λ x. a ++ x.events) e);
-      end_is = g.end_is ∙ sym (ap (λ x. x.end) e);
-    }
-
--- a chain of parts: the first, and then the others; and for a loop, a part after those that were done
-pub gives_first : (a b d : List Event) (v w : World) (end : Outcome) (part : World → Moved)
-    (parts : List (World → Moved)) (u : World) → Gives a b v None (part u) → Gives b d w end (chain parts v)
-    → Gives a d w end (chain (part ∷ parts) u)
-unfolding chain
-gives_first a b d v w end part parts u g h = gives_next a b d v w end (part u) (chain parts) g h
-
-pub gives_over : (a b : List Event) (w : World) (end : Outcome) (part : World → Moved) (parts : List (World → Moved))
-    (u : World) → is_over end ≡ true → Gives a b w end (part u) → Gives a b w end (chain (part ∷ parts) u)
-unfolding chain
-gives_over a b w end part parts u o g = gives_stop a b w end (part u) (chain parts) o g
+-- events are told to a list one after the other
+pub appends_is_telling : IsTelling Appends
+appends_is_telling = record {
+  none = λ a. sym (append-nil a);
+  both = λ a b d some others p q. q ∙ ap (λ x. x ++ others) p ∙ append_assoc a some others;
+}
 
 -- a chain of two pieces
 both_same : (over : Bool) (m : Moved) (parts more : List (World → Moved)) → is_over m.end ≡ over
@@ -82,32 +45,82 @@ unfolding chain followed
 chain_both [] more w = refl
 chain_both (part ∷ parts) more w = both_same (is_over (part w).end) (part w) parts more refl (chain_both parts more)
 
--- for a loop: none of the parts was done yet, and one more is done
-pub gives_begin : {X : Type 0} (part : X → World → Moved) (xs : List X) (a : List Event) (w : World)
-    → Gives a a w None (chain (map part (take 0 xs)) w)
-unfolding chain
-gives_begin part xs a w = gives_none a w
+module _ {L : Type 0} {Told : L → List Event → L → Type 0} where
+  -- where the code of a part ends the run, no part follows
+  pub gives_stop : (a b : L) (w : World) (end : Outcome) (m : Moved) (next : World → Moved) → is_over end ≡ true
+      → Gives Told a b w end m → Gives Told a b w end (followed m next)
+  unfolding followed
+  gives_stop a b w end m next o g =
+      let p : is_over m.end ≡ true = sym (ap is_over g.end_is) ∙ o in
+      let e : continued (is_over m.end) m next ≡ m = ap (λ b. continued b m next) p in
+      record {
+        world_is = g.world_is ∙ sym (ap (λ x. x.world) e);
+        told = subst (λ es. Told a es b) (sym (ap (λ x. x.events) e)) g.told;
+        end_is = g.end_is ∙ sym (ap (λ x. x.end) e);
+      }
 
-one_part : (part : World → Moved) (a b : List Event) (u w : World) → Gives a b w None (part u)
-    → Gives a b w None (chain (part ∷ []) u)
-unfolding chain
-one_part part a b u w g = gives_next a b b w w None (part u) (chain []) g (gives_none b w)
+  -- so too in a chain of parts
+  pub gives_over : (a b : L) (w : World) (end : Outcome) (part : World → Moved) (parts : List (World → Moved))
+      (u : World) → is_over end ≡ true → Gives Told a b w end (part u) → Gives Told a b w end (chain (part ∷ parts) u)
+  unfolding chain
+  gives_over a b w end part parts u o g = gives_stop a b w end (part u) (chain parts) o g
 
-pub gives_done : (a : List Event) (w : World) → Gives a a w None (chain [] w)
-unfolding chain
-gives_done a w = gives_none a w
+  -- for a loop: all parts are done
+  pub gives_all : {X : Type 0} (part : X → World → Moved) (xs : List X) (i : ℕ) (a b : L) (u w : World)
+      → length xs ≤ i → Gives Told a b w None (chain (map part (take i xs)) u)
+      → Gives Told a b w None (chain (map part xs) u)
+  gives_all part xs i a b u w l g =
+      subst (λ ys. Gives Told a b w None (chain (map part ys) u)) (take_all i xs l) g
 
-pub gives_more : {X : Type 0} (part : X → World → Moved) (xs : List X) (i : ℕ) (x : X) (a b d : List Event)
-    (u v w : World) → i < length xs → get_or xs i x ≡ x → Gives a b v None (chain (map part (take i xs)) u)
-    → Gives b d w None (part x v) → Gives a d w None (chain (map part (take (i + 1) xs)) u)
-gives_more part xs i x a b d u v w l here g h =
-    let e : take (i + 1) xs ≡ take i xs ++ x ∷ [] = take_more xs i x l ∙ ap (λ y. take i xs ++ y ∷ []) here in
-    let f : map part (take (i + 1) xs) ≡ map part (take i xs) ++ part x ∷ [] = ap (map part) e
-    ∙ map-append part (take i xs) (x ∷ []) in
-    let k = gives_next a b d v w None (chain (map part (take i xs)) u) (chain (part x ∷ [])) g
-    (one_part (part x) b d v w h) in
-    subst (Gives a d w None) (sym (ap (λ ps. chain ps u) f ∙ chain_both (map part (take i xs)) (part x ∷ []) u)) k
+module _ {L : Type 0} {Told : L → List Event → L → Type 0} (telling : IsTelling Told) where
+  -- a part that did nothing
+  pub gives_none : (a : L) (w : World) → Gives Told a a w None (goes_on w [])
+  gives_none a w = record { world_is = refl; told = telling.none a; end_is = refl }
 
-pub gives_all : {X : Type 0} (part : X → World → Moved) (xs : List X) (i : ℕ) (a b : List Event) (u w : World)
-    → length xs ≤ i → Gives a b w None (chain (map part (take i xs)) u) → Gives a b w None (chain (map part xs) u)
-gives_all part xs i a b u w l g = subst (λ ys. Gives a b w None (chain (map part ys) u)) (take_all i xs l) g
+  -- where the code of a part goes on and the code of the next part follows, both together are one after the other
+  pub gives_next : (a b d : L) (v w : World) (end : Outcome) (m : Moved) (next : World → Moved)
+      → Gives Told a b v None m → Gives Told b d w end (next v) → Gives Told a d w end (followed m next)
+  unfolding followed
+  gives_next a b d v w end m next g h =
+      let on : is_over m.end ≡ false = ap is_over (sym g.end_is) in
+      let e : continued (is_over m.end) m next ≡ preceded m.events (next m.world) = ap (λ b. continued b m next) on in
+      let n : next v ≡ next m.world = ap next g.world_is in
+      record {
+        world_is = h.world_is ∙ ap (λ x. x.world) n ∙ sym (ap (λ x. x.world) e);
+        told = subst (λ es. Told a es d) (ap (λ x. m.events ++ x.events) n ∙ sym (ap (λ x. x.events) e))
+            (telling.both a b d m.events (next v).events g.told h.told);
+        end_is = h.end_is ∙ ap (λ x. x.end) n ∙ sym (ap (λ x. x.end) e);
+      }
+
+  -- a chain of parts: the first, and then the others; and for a loop, a part after those that were done
+  pub gives_first : (a b d : L) (v w : World) (end : Outcome) (part : World → Moved) (parts : List (World → Moved))
+      (u : World) → Gives Told a b v None (part u) → Gives Told b d w end (chain parts v)
+      → Gives Told a d w end (chain (part ∷ parts) u)
+  unfolding chain
+  gives_first a b d v w end part parts u g h = gives_next a b d v w end (part u) (chain parts) g h
+
+  -- for a loop: none of the parts was done yet, and one more is done
+  pub gives_begin : {X : Type 0} (part : X → World → Moved) (xs : List X) (a : L) (w : World)
+      → Gives Told a a w None (chain (map part (take 0 xs)) w)
+  unfolding chain
+  gives_begin part xs a w = gives_none a w
+
+  one_part : (part : World → Moved) (a b : L) (u w : World) → Gives Told a b w None (part u)
+      → Gives Told a b w None (chain (part ∷ []) u)
+  unfolding chain
+  one_part part a b u w g = gives_next a b b w w None (part u) (chain []) g (gives_none b w)
+
+  pub gives_done : (a : L) (w : World) → Gives Told a a w None (chain [] w)
+  unfolding chain
+  gives_done a w = gives_none a w
+
+  pub gives_more : {X : Type 0} (part : X → World → Moved) (xs : List X) (i : ℕ) (x : X) (a b d : L)
+      (u v w : World) → i < length xs → get_or xs i x ≡ x → Gives Told a b v None (chain (map part (take i xs)) u)
+      → Gives Told b d w None (part x v) → Gives Told a d w None (chain (map part (take (i + 1) xs)) u)
+  gives_more part xs i x a b d u v w l here g h =
+      let e : take (i + 1) xs ≡ take i xs ++ x ∷ [] = take_more xs i x l ∙ ap (λ y. take i xs ++ y ∷ []) here in
+      let f : map part (take (i + 1) xs) ≡ map part (take i xs) ++ part x ∷ [] = ap (map part) e
+      ∙ map-append part (take i xs) (x ∷ []) in
+      let k = gives_next a b d v w None (chain (map part (take i xs)) u) (chain (part x ∷ [])) g
+      (one_part (part x) b d v w h) in
+      subst (Gives Told a d w None) (sym (ap (λ ps. chain ps u) f ∙ chain_both (map part (take i xs)) (part x ∷ []) u)) k

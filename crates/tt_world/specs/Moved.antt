@@ -47,8 +47,18 @@ abbrev pub event_if : Bool → Event → List Event
 event_if true event = event ∷ []
 event_if false event = []
 
--- what a part of the code did is what its definition gives
-pub record Gives (before after : List Event) (world : World) (end : Outcome) (m : Moved) : Type 0 where
+-- events are told to something one after the other: none of them changes nothing, and some and then others are both
+pub record IsTelling {L : Type 0} (Told : L → List Event → L → Type 0) : Type 0 where
+  pub none : (a : L) → Told a [] a
+  pub both : (a b d : L) (some others : List Event) → Told a some b → Told b others d → Told a (some ++ others) d
+
+-- events are told to a list: it has them behind its own
+abbrev pub Appends : List Event → List Event → List Event → Type 0
+Appends before events after = after ≡ before ++ events
+
+-- what a part of the code did is what its definition gives; it told the events of the part
+pub record Gives {L : Type 0} (Told : L → List Event → L → Type 0) (before after : L) (world : World) (end : Outcome)
+    (m : Moved) : Type 0 where
   pub world_is : world ≡ m.world
-  pub events_are : after ≡ before ++ m.events
+  pub told : Told before m.events after
   pub end_is : end ≡ m.end
