@@ -10,6 +10,7 @@ pub mod Forward
 pub mod Points
 pub mod Ends
 pub mod Modes
+pub mod Calling
 pub mod Owners
 pub mod Emits
 pub mod Through

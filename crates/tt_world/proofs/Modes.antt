@@ -1,4 +1,5 @@
--- The present and the wanted mode exist, and what is left of anybody has short expressions and names what is declared.
+-- The present and the wanted mode exist, and what is left of anybody has short expressions, names what is declared, and is
+-- allowed to its owner.
 use Rattle.std.proofs.Common.{ℕ, suc, ◌≡◌, ◌≢◌, ◌<◌, ◌≤◌, ◌+◌, ◌-◌, List, [], ◌∷◌, ◌++◌, Bool, true, false, Option, None, Some, refl, ap, sym, ◌∙◌, subst, eqb, arith, length, ◌⊎◌, ⊎_elim, inl, inr, get_or, set, get_or-set_same, get_or-set_other}
 use Rattle.std.specs.Prelude.{◌==◌, ◌&&◌, map, replicate, if◌then◌else◌}
 use Rattle.std.specs.List.{list_any}
@@ -20,6 +21,7 @@ use Rattle.task_lang.specs.declared.tick.Effect.{Effect}
 use Rattle.task_lang.specs.declared.tick.Effect.TheVariants as effect
 use Rattle.task_lang.specs.declared.allowed.OwnerKind.{OwnerKind}
 use Rattle.task_lang.specs.declared.allowed.OwnerKind.TheVariants as owner
+use Rattle.task_lang.specs.Allowed.{is_allowed}
 use Rattle.task_lang.specs.Limits.{has_callee, has_demand, has_variables, is_expression_short, names_below, each_of, inner_pass}
 use Rattle.task_lang.specs.Tick.{supply_of, state_of, tick, tick_by}
 use Rattle.task_lang.specs.TickLaws.{LastsThroughTicks}
@@ -35,12 +37,12 @@ use Rattle.tt_world.specs.Correction.{is_length}
 use Rattle.tt_world.specs.Monitoring.{monitored, is_at, is_at_end}
 use Rattle.tt_world.specs.Moved.{preceded}
 use Rattle.tt_world.specs.Rounds.{head, latch, next_round, round_end}
-use Rattle.tt_world.specs.Gates.{enable, enables, arrived, arrival, arrivals, is_accepted, acceptance, acceptances, sources, holding, disabling, arrivals_of, is_held}
+use Rattle.tt_world.specs.Gates.{source_runner, enable, enables, arrived, arrival, arrivals, is_accepted, acceptance, acceptances, sources, holding, disabling, arrivals_of, is_held}
 use Rattle.tt_world.specs.Opening.{checks, activated, activation, opening}
 use Rattle.tt_world.specs.ScriptRules.{IsScript}
 use Rattle.tt_world.specs.declared.config.OsekDef.{OsekDef}
 use Rattle.tt_world.specs.Schedule.{first_world, instant, world_at}
-use Rattle.tt_world.specs.Runners.{runner_of, owner_of, left_of, leaving, job_at, no_job, with_left}
+use Rattle.tt_world.specs.Runners.{runner_of, owner_of, kind_of, left_of, leaving, job_at, no_job, with_left}
 use Rattle.tt_world.specs.Services.{Answer, synced, service, is_suspended, is_caller, is_shutdown}
 use Rattle.tt_world.specs.Step.{state_after, effected, runner_tick, step, run_line}
 use Rattle.tt_world.proofs.Parts.{OpeningKeeps, Alone, Anything, Leads, followed_leads, chain_each, GoesOnBefore, kept_at, instant_leads, opening_leads}
@@ -76,26 +78,42 @@ leaving_cases w (runner.Oisr i) (runner.Oisr j) left = set_cases w.oisrs i.0 j.0
 leaving_cases w (runner.Osek i) (runner.Osek j) left = set_cases w.oseks i.0 j.0 left
 leaving_cases w r q left = inr refl
 
--- each list left passes a test of lists
-abbrev pub EachLeft : (List Stmt → Type 0) → World → Type 0
-EachLeft Test w = (r : Runner) → Test (left_of w r)
+-- each list left passes a test of an owner's kind and its list
+abbrev pub EachLeft : (OwnerKind → List Stmt → Type 0) → World → Type 0
+EachLeft Test w = (r : Runner) → Test (kind_of r) (left_of w r)
 
-pub each_leaving : (Test : List Stmt → Type 0) (w : World) (r : Runner) (left : List Stmt) → Test left → EachLeft Test w
-    → EachLeft Test (leaving w r left)
-each_leaving Test w r left t e q =
-    ⊎_elim (λ (f : left_of (leaving w r left) q ≡ left). subst Test (sym f) t)
-    (λ (f : left_of (leaving w r left) q ≡ left_of w q). subst Test (sym f) (e q)) (leaving_cases w r q left)
+either_left : (Test : List Stmt → Type 0) (after left before : List Stmt) → (after ≡ left) ⊎ (after ≡ before)
+    → Test left → Test before → Test after
+either_left Test after left before (inl e) t b = subst Test (sym e) t
+either_left Test after left before (inr e) t b = subst Test (sym e) b
+
+pub each_leaving : (Test : OwnerKind → List Stmt → Type 0) (w : World) (r : Runner) (left : List Stmt)
+    → Test (kind_of r) left → EachLeft Test w → EachLeft Test (leaving w r left)
+each_leaving Test w (runner.Isr i) left t e (runner.Isr j) =
+    either_left (Test owner.Isr) _ _ _ (leaving_cases w (runner.Isr i) (runner.Isr j) left) t (e (runner.Isr j))
+each_leaving Test w (runner.Job i) left t e (runner.Job j) =
+    either_left (Test owner.Task) _ _ _ (leaving_cases w (runner.Job i) (runner.Job j) left) t (e (runner.Job j))
+each_leaving Test w (runner.Oisr i) left t e (runner.Oisr j) =
+    either_left (Test owner.Oisr) _ _ _ (leaving_cases w (runner.Oisr i) (runner.Oisr j) left) t (e (runner.Oisr j))
+each_leaving Test w (runner.Osek i) left t e (runner.Osek j) =
+    either_left (Test owner.Osek) _ _ _ (leaving_cases w (runner.Osek i) (runner.Osek j) left) t (e (runner.Osek j))
+each_leaving Test w r left t e q = e q
 
 -- ---- names
 
 -- nothing left
-pub none_runnable : (c : ConfigParts) → IsRunnable c []
-none_runnable c = record { expressions = refl; variables = refl; demands = refl; callees = refl }
+pub none_runnable : (c : ConfigParts) {kind : OwnerKind} → IsRunnable c kind []
+none_runnable c = record { expressions = refl; variables = refl; demands = refl; callees = refl; allowed = refl }
 
 -- a whole body
-pub body_runnable : (c : ConfigParts) (kind : OwnerKind) (body : List Stmt) → IsBody c kind body → IsRunnable c body
-body_runnable c kind body h =
-    record { expressions = h.expressions; variables = h.variables; demands = h.demands; callees = h.callees }
+pub body_runnable : (c : ConfigParts) (kind : OwnerKind) (body : List Stmt) → IsBody c kind body → IsRunnable c kind body
+body_runnable c kind body h = record {
+  expressions = h.expressions;
+  variables = h.variables;
+  demands = h.demands;
+  callees = h.callees;
+  allowed = h.allowed;
+}
 
 pub record Named (c : ConfigParts) (w : World) : Type 0 where
   pub mode : w.mode.0 < length c.modes
@@ -105,7 +123,7 @@ pub record Named (c : ConfigParts) (w : World) : Type 0 where
 pub has_mode : (c : ConfigParts) (w : World) → Named c w → HasMode c w
 has_mode c w n = record { mode = n.mode; wanted = n.wanted }
 
-leaving_named : (c : ConfigParts) (w : World) (r : Runner) (left : List Stmt) → IsRunnable c left → Named c w
+leaving_named : (c : ConfigParts) (w : World) (r : Runner) (left : List Stmt) → IsRunnable c (kind_of r) left → Named c w
     → Named c (leaving w r left)
 leaving_named c w (runner.Isr i) left t n =
     record { mode = n.mode; wanted = n.wanted; lefts = each_leaving (IsRunnable c) w (runner.Isr i) left t n.lefts }
@@ -118,60 +136,71 @@ leaving_named c w (runner.Osek i) left t n =
 leaving_named c w runner.Nobody left t n = n
 
 module _ (c : ConfigParts) (s : ScriptParts) (rules : IsConfig c) where
-  body_named : (task : _) → IsRunnable c (body_of c task)
+  body_named : (task : _) → IsRunnable c owner.Task (body_of c task)
   body_named task =
       ⊎_elim (λ (l : task.0 < length c.tasks).
       body_runnable c owner.Task _ (All-get_or (IsTask c) c.tasks task.0 no_task l rules.tasks).routine.is_body)
-      (λ (g : length c.tasks ≤ task.0). subst (λ x. IsRunnable c x.body) (sym (get_or_past c.tasks task.0 no_task g)) (none_runnable c))
+      (λ (g : length c.tasks ≤ task.0). subst (λ x. IsRunnable c owner.Task x.body) (sym (get_or_past c.tasks task.0 no_task g)) (none_runnable c))
       (cases_lt task.0 (length c.tasks))
 
-  osek_named : (task : OsekNo) → IsRunnable c (osek_body c task)
+  osek_named : (task : OsekNo) → IsRunnable c owner.Osek (osek_body c task)
   osek_named task =
       ⊎_elim (λ (l : task.0 < length c.oseks).
       body_runnable c owner.Osek _ (All-get_or (IsOsek c) c.oseks task.0 no_osek l rules.oseks).routine.is_body)
-      (λ (g : length c.oseks ≤ task.0). subst (λ x. IsRunnable c x.body) (sym (get_or_past c.oseks task.0 no_osek g)) (none_runnable c))
+      (λ (g : length c.oseks ≤ task.0). subst (λ x. IsRunnable c owner.Osek x.body) (sym (get_or_past c.oseks task.0 no_osek g)) (none_runnable c))
       (cases_lt task.0 (length c.oseks))
 
-  routine_named : (source : Source) → IsRunnable c (routine_of c source)
+  routine_named : (source : Source) → IsRunnable c (kind_of (source_runner source)) (routine_of c source)
   routine_named (IsrSource i) =
       ⊎_elim (λ (l : i.0 < length c.isrs).
       body_runnable c owner.Isr _ (All-get_or (IsIsr c) c.isrs i.0 no_isr l rules.isrs).routine.is_body)
-      (λ (g : length c.isrs ≤ i.0). subst (λ x. IsRunnable c x.body) (sym (get_or_past c.isrs i.0 no_isr g)) (none_runnable c))
+      (λ (g : length c.isrs ≤ i.0). subst (λ x. IsRunnable c owner.Isr x.body) (sym (get_or_past c.isrs i.0 no_isr g)) (none_runnable c))
       (cases_lt i.0 (length c.isrs))
   routine_named (OisrSource i) =
       ⊎_elim (λ (l : i.0 < length c.oisrs).
       body_runnable c owner.Oisr _ (All-get_or (IsOisr c) c.oisrs i.0 no_oisr l rules.oisrs).routine.is_body)
-      (λ (g : length c.oisrs ≤ i.0). subst (λ x. IsRunnable c x.body) (sym (get_or_past c.oisrs i.0 no_oisr g)) (none_runnable c))
+      (λ (g : length c.oisrs ≤ i.0). subst (λ x. IsRunnable c owner.Oisr x.body) (sym (get_or_past c.oisrs i.0 no_oisr g)) (none_runnable c))
       (cases_lt i.0 (length c.oisrs))
 
   -- ---- services
 
-  record NamedAnswer (a : Answer) : Type 0 where
-    world : Named c a.world
-    left : IsRunnable c a.left
+  -- only an OSEK task is the caller where the caller is this task
+  caller_kind : (r : Runner) (task : OsekNo) → is_caller r task ≡ true → kind_of r ≡ owner.Osek
+  caller_kind (runner.Osek caller) task e = refl
+  caller_kind (runner.Isr isr) task e = cc
+  caller_kind (runner.Job place) task e = cc
+  caller_kind (runner.Oisr oisr) task e = cc
+  caller_kind runner.Nobody task e = cc
 
-  synced_named : (global : Option ℕ) (left : List Stmt) (w : World) → Named c w → IsRunnable c left
-      → NamedAnswer (synced c global w left)
-  synced_named None left w n t = record { world = n; left = t }
-  synced_named (Some global) left w n t =
+  record NamedAnswer (r : Runner) (a : Answer) : Type 0 where
+    world : Named c a.world
+    left : IsRunnable c (kind_of r) a.left
+
+  synced_named : (r : Runner) (global : Option ℕ) (left : List Stmt) (w : World) → Named c w
+      → IsRunnable c (kind_of r) left → NamedAnswer r (synced c global w left)
+  synced_named r None left w n t = record { world = n; left = t }
+  synced_named r (Some global) left w n t =
       record { world = record { mode = n.mode; wanted = n.wanted; lefts = n.lefts }; left = t }
 
   service_named : (r : Runner) (k : Call) (left : List Stmt) (w : World)
-      → names_below (length c.modes) (length c.oseks) k ≡ true → Named c w → IsRunnable c left
-      → NamedAnswer (service c s r k left w)
+      → names_below (length c.modes) (length c.oseks) k ≡ true → Named c w → IsRunnable c (kind_of r) left
+      → NamedAnswer r (service c s r k left w)
   unfolding service
   service_named r (call.Switch mode) left w b n t =
       record { world = record { mode = n.mode; wanted = ltb-true _ _ b; lefts = n.lefts }; left = t }
-  service_named r call.Sync left w b n t = synced_named _ left w n t
+  service_named r call.Sync left w b n t = synced_named r _ left w n t
   service_named r call.Shutdown left w b n t = record { world = n; left = t }
   service_named r (call.Activate task) left w b n t =
-      cond_both (is_suspended w task) _ _ NamedAnswer
+      cond_both (is_suspended w task) _ _ (NamedAnswer r)
       (λ _. record { world = leaving_named c w (runner.Osek task) (osek_body c task) (osek_named task) n; left = t })
       (λ _. record { world = n; left = t })
   service_named r (call.Chain task) left w b n t =
-      cond_both (is_caller r task) _ _ NamedAnswer
-      (λ _. record { world = n; left = osek_named task })
-      (λ _. cond_both (is_suspended w task) _ _ NamedAnswer
+      cond_both (is_caller r task) _ _ (NamedAnswer r)
+      (λ e. record {
+        world = n;
+        left = subst (λ kind. IsRunnable c kind (osek_body c task)) (sym (caller_kind r task e)) (osek_named task);
+      })
+      (λ _. cond_both (is_suspended w task) _ _ (NamedAnswer r)
       (λ _. record { world = leaving_named c w (runner.Osek task) (osek_body c task) (osek_named task) n; left = none_runnable c })
       (λ _. record { world = n; left = t }))
   service_named r call.Terminate left w b n t = record { world = n; left = none_runnable c }
@@ -195,7 +224,7 @@ module _ (c : ConfigParts) (s : ScriptParts) (rules : IsConfig c) where
   tick_named left w (Stmt-F.If expr first second) rest h = tt
   tick_named left w (Stmt-F.Repeat n body) rest h = tt
 
-  pub effects_named : (w : World) (left : List Stmt) → IsRunnable c left → EffectsNamed (state_after c s w left).effects
+  pub effects_named : {kind : OwnerKind} (w : World) (left : List Stmt) → IsRunnable c kind left → EffectsNamed (state_after c s w left).effects
   unfolding tick
   effects_named w [] t = tt
   effects_named w (front ∷ rest) t =
@@ -215,8 +244,17 @@ module _ (c : ConfigParts) (s : ScriptParts) (rules : IsConfig c) where
     take = λ demand used n is e. work (suc n);
   }
 
-  ticked_named : (w : World) (left : List Stmt) → IsRunnable c left → IsRunnable c (state_after c s w left).left
-  ticked_named w left t =
+  -- work and repeats are allowed whatever their numbers, and work wherever a demand is
+  allowed_lasts : (kind : OwnerKind) → LastsThroughTicks (supply_of c.demands s.values) (is_allowed kind)
+  allowed_lasts kind = record {
+    work = λ n e. e;
+    repeat = λ n body e. e;
+    take = λ demand used n is e. e;
+  }
+
+  ticked_named : (kind : OwnerKind) (w : World) (left : List Stmt) → IsRunnable c kind left
+      → IsRunnable c kind (state_after c s w left).left
+  ticked_named kind w left t =
       let keeps = keeps_each (supply_of c.demands s.values) (state_of left w.vars w.cursors []) in
       record {
         expressions = keeps _ (lasting is_expression_short (λ n. refl) (λ n body. refl)) t.expressions;
@@ -224,10 +262,11 @@ module _ (c : ConfigParts) (s : ScriptParts) (rules : IsConfig c) where
         demands = keeps _ (lasting (has_demand (length c.demands)) (λ n. refl) (λ n body. refl)) t.demands;
         callees = keeps _
             (lasting (has_callee (length c.modes) (length c.oseks)) (λ n. refl) (λ n body. refl)) t.callees;
+        allowed = keeps _ (allowed_lasts kind) t.allowed;
       }
 
   effected_named : (r : Runner) (effects : List Effect) (who : Owner) (left : List Stmt) (w : World) (es : List Event)
-      → EffectsNamed effects → Named c w → IsRunnable c left → Holds (Named c) es (effected c s r who effects left w).move
+      → EffectsNamed effects → Named c w → IsRunnable c (kind_of r) left → Holds (Named c) es (effected c s r who effects left w).move
   effected_named r [] who left w es f n t = leaving_named c w r left t n
   effected_named r (effect.Out value ∷ rest) who left w es f n t = leaving_named c w r left t n
   effected_named r (effect.Service k ∷ rest) who left w es f n t =
@@ -244,7 +283,7 @@ module _ (c : ConfigParts) (s : ScriptParts) (rules : IsConfig c) where
       followed_leads (Alone (Named c)) (Alone (Named c)) Anything es
       (preceded (run_line w who) (runner_tick c s r who w).move) _
       (effected_named r state.effects who state.left _ es (effects_named w (left_of w r) (n.lefts r))
-      (record { mode = n.mode; wanted = n.wanted; lefts = n.lefts }) (ticked_named w (left_of w r) (n.lefts r)))
+      (record { mode = n.mode; wanted = n.wanted; lefts = n.lefts }) (ticked_named (kind_of r) w (left_of w r) (n.lefts r)))
       (λ v ds p. record { mode = p.mode; wanted = p.wanted; lefts = p.lefts })
 
   -- ---- the opening
@@ -258,7 +297,7 @@ module _ (c : ConfigParts) (s : ScriptParts) (rules : IsConfig c) where
   none_left : (w : World) → EachLeft (IsRunnable c) w → (number : ℕ) (mode : _)
       → EachLeft (IsRunnable c) (record w { start = w.tick; number = number; mode = mode; latched = None; jobs = [] })
   none_left w e number mode (runner.Job place) =
-      subst (λ (x : Job). IsRunnable c x.left) (sym (get_or_past [] place no_job (omega arith))) (none_runnable c)
+      subst (λ (x : Job). IsRunnable c owner.Task x.left) (sym (get_or_past [] place no_job (omega arith))) (none_runnable c)
   none_left w e number mode (runner.Isr i) = e (runner.Isr i)
   none_left w e number mode (runner.Oisr i) = e (runner.Oisr i)
   none_left w e number mode (runner.Osek i) = e (runner.Osek i)
@@ -304,16 +343,16 @@ module _ (c : ConfigParts) (s : ScriptParts) (rules : IsConfig c) where
       (λ _. arrived_named (is_held w source) source w es n) (λ _. n)
 
   -- a new activation
-  more_left : (w : World) (entry : ℕ) (left : List Stmt) → IsRunnable c left → EachLeft (IsRunnable c) w
+  more_left : (w : World) (entry : ℕ) (left : List Stmt) → IsRunnable c owner.Task left → EachLeft (IsRunnable c) w
       → EachLeft (IsRunnable c) (record w { jobs = w.jobs ++ record { entry = entry; left = left } ∷ [] })
   more_left w entry left t e (runner.Job place) =
       let y : Job = record { entry = entry; left = left } in
       ⊎_elim
       (λ (l : place < length (w.jobs ++ y ∷ [])).
-      ⊎_elim (λ (old : IsOldPlace w.jobs y place). subst (λ x. IsRunnable c x.left) (sym old.1) (e (runner.Job place)))
-      (λ (new : IsNewPlace w.jobs y place). subst (λ x. IsRunnable c x.left) (sym new.1) t)
+      ⊎_elim (λ (old : IsOldPlace w.jobs y place). subst (λ x. IsRunnable c owner.Task x.left) (sym old.1) (e (runner.Job place)))
+      (λ (new : IsNewPlace w.jobs y place). subst (λ x. IsRunnable c owner.Task x.left) (sym new.1) t)
       (place_of_more w.jobs y place l))
-      (λ (g : length (w.jobs ++ y ∷ []) ≤ place). subst (λ (x : Job). IsRunnable c x.left)
+      (λ (g : length (w.jobs ++ y ∷ []) ≤ place). subst (λ (x : Job). IsRunnable c owner.Task x.left)
       (sym (get_or_past (w.jobs ++ y ∷ []) place no_job g)) (none_runnable c))
       (cases_lt place (length (w.jobs ++ y ∷ [])))
   more_left w entry left t e (runner.Isr i) = e (runner.Isr i)
@@ -353,30 +392,30 @@ module _ (c : ConfigParts) (s : ScriptParts) (rules : IsConfig c) where
   named_at first = kept_at c s (Named c) first instant_named
 
   -- before tick 0
-  auto_named : (task : OsekDef) → IsOsek c task → IsRunnable c (if task.auto then task.body else [])
-  auto_named task h = cond_both task.auto task.body [] (IsRunnable c) (λ _. body_runnable c owner.Osek _ h.routine.is_body)
+  auto_named : (task : OsekDef) → IsOsek c task → IsRunnable c owner.Osek (if task.auto then task.body else [])
+  auto_named task h = cond_both task.auto task.body [] (IsRunnable c owner.Osek) (λ _. body_runnable c owner.Osek _ h.routine.is_body)
       (λ _. none_runnable c)
 
   oseks_named : (i : ℕ)
-      → IsRunnable c (get_or (map (λ (task : OsekDef). if task.auto then task.body else []) c.oseks) i [])
+      → IsRunnable c owner.Osek (get_or (map (λ (task : OsekDef). if task.auto then task.body else []) c.oseks) i [])
   oseks_named i =
-      subst (IsRunnable c) (sym (get_or-map (λ (task : OsekDef). if task.auto then task.body else []) c.oseks i no_osek))
+      subst (IsRunnable c owner.Osek) (sym (get_or-map (λ (task : OsekDef). if task.auto then task.body else []) c.oseks i no_osek))
       (⊎_elim (λ (l : i < length c.oseks). auto_named _ (All-get_or (IsOsek c) c.oseks i no_osek l rules.oseks))
-      (λ (g : length c.oseks ≤ i). subst (λ (x : OsekDef). IsRunnable c (if x.auto then x.body else []))
+      (λ (g : length c.oseks ≤ i). subst (λ (x : OsekDef). IsRunnable c owner.Osek (if x.auto then x.body else []))
       (sym (get_or_past c.oseks i no_osek g)) (none_runnable c)) (cases_lt i (length c.oseks)))
 
-  none_of : (n i : ℕ) → IsRunnable c (get_or (replicate {A = List Stmt} n []) i [])
-  none_of n i =
-      ⊎_elim (λ (l : i < n). subst (IsRunnable c) (sym (get_or-replicate {A = List Stmt} n i [] [] l)) (none_runnable c))
-      (λ (g : n ≤ i). subst (IsRunnable c) (sym
+  none_of : (kind : OwnerKind) (n i : ℕ) → IsRunnable c kind (get_or (replicate {A = List Stmt} n []) i [])
+  none_of kind n i =
+      ⊎_elim (λ (l : i < n). subst (IsRunnable c kind) (sym (get_or-replicate {A = List Stmt} n i [] [] l)) (none_runnable c))
+      (λ (g : n ≤ i). subst (IsRunnable c kind) (sym
       (get_or_past (replicate {A = List Stmt} n []) i []
       (let e = length-replicate {A = List Stmt} n [] in omega arith))) (none_runnable c)) (cases_lt i n)
 
   first_lefts : EachLeft (IsRunnable c) (first_world c s)
-  first_lefts (runner.Isr i) = none_of (length c.isrs) i.0
-  first_lefts (runner.Job place) = subst (λ (x : Job). IsRunnable c x.left)
+  first_lefts (runner.Isr i) = none_of owner.Isr (length c.isrs) i.0
+  first_lefts (runner.Job place) = subst (λ (x : Job). IsRunnable c owner.Task x.left)
       (sym (get_or_past [] place no_job (omega arith))) (none_runnable c)
-  first_lefts (runner.Oisr i) = none_of (length c.oisrs) i.0
+  first_lefts (runner.Oisr i) = none_of owner.Oisr (length c.oisrs) i.0
   first_lefts (runner.Osek i) = oseks_named i.0
   first_lefts runner.Nobody = none_runnable c
 

@@ -69,13 +69,14 @@ pub record IsBody (c : ConfigParts) (kind : OwnerKind) (body : List Stmt) : Type
   pub callees : HasCallees (length c.modes) (length c.oseks) body
   pub allowed : IsTrue (each_in (is_allowed kind) body)
 
--- what a run keeps of each list of statements that is left: short expressions, and variables, demands, modes and OSEK
--- tasks that are declared
-pub record IsRunnable (c : ConfigParts) (left : List Stmt) : Type 0 where
+-- what a run keeps of each list of statements that is left of an owner of this kind: short expressions, variables,
+-- demands, modes and OSEK tasks that are declared, and each statement allowed
+pub record IsRunnable (c : ConfigParts) (kind : OwnerKind) (left : List Stmt) : Type 0 where
   pub expressions : AreExpressionsShort left
   pub variables : HasVariables (length c.vars) left
   pub demands : HasDemands (length c.demands) left
   pub callees : HasCallees (length c.modes) (length c.oseks) left
+  pub allowed : IsTrue (each_in (is_allowed kind) left)
 
 -- a body that takes ticks: it has a statement, its worst case is at most 10^12 ticks, and the budget is that worst case
 pub record IsRoutine (c : ConfigParts) (kind : OwnerKind) (body : List Stmt) (budget : ℕ) : Type 0 where

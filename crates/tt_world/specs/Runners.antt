@@ -4,6 +4,8 @@ use Rattle.std.specs.List.{range_with_len}
 use Rattle.tt_base.specs.declared.event.Owner.{Owner}
 use Rattle.tt_base.specs.declared.event.Owner.TheVariants as owner
 use Rattle.task_lang.specs.declared.syntax.Stmt.{Stmt}
+use Rattle.task_lang.specs.declared.allowed.OwnerKind.{OwnerKind}
+use Rattle.task_lang.specs.declared.allowed.OwnerKind.TheVariants as kind
 use Rattle.tt_world.specs.declared.config.IsrDef.{IsrDef}
 use Rattle.tt_world.specs.declared.config.OsekDef.{OsekDef}
 use Rattle.tt_world.specs.declared.config.OisrDef.{OisrDef}
@@ -50,6 +52,14 @@ leaving w (Osek task) left = record w { oseks = slice_set w.oseks task.0 left }
 leaving w Nobody left = w
 
 -- ---- who runs
+
+-- the kind of owner that a runner is; nobody has no statement, so that any kind serves
+abbrev pub kind_of : Runner → OwnerKind
+kind_of (Isr isr) = kind.Isr
+kind_of (runner.Job place) = kind.Task
+kind_of (Oisr oisr) = kind.Oisr
+kind_of (Osek task) = kind.Osek
+kind_of Nobody = kind.Task
 
 -- the numbers of those that have statements left
 abbrev pub unfinished : List (List Stmt) → List ℕ

@@ -1,0 +1,76 @@
+-- Which services the one who runs calls: those that its kind of owner may call.
+use Rattle.std.proofs.Common.{ℕ, ◌≡◌, List, [], ◌∷◌, Bool, true, refl, sym, ◌∙◌, subst}
+use Rattle.std.specs.Prelude.{ℤ, ◌&&◌}
+use Rattle.std.proofs.lemmas.Bool.{and_parts}
+use Rattle.tt_base.specs.declared.event.Call.{Call}
+use Rattle.tt_base.specs.declared.event.Call.TheVariants as call
+use Rattle.task_lang.specs.declared.syntax.Stmt.{Stmt, out-Stmt}
+use Rattle.task_lang.specs.declared.syntax.Stmt.TheOpen.{Stmt-F}
+use Rattle.task_lang.specs.declared.syntax.Stmt.TheFolds.{map-Stmt, fold_out-Stmt}
+use Rattle.task_lang.specs.declared.tick.Effect.{Effect}
+use Rattle.task_lang.specs.declared.tick.Effect.TheVariants as effect
+use Rattle.task_lang.specs.declared.allowed.OwnerKind.{OwnerKind}
+use Rattle.task_lang.specs.declared.allowed.OwnerKind.TheVariants as owner
+use Rattle.task_lang.specs.Allowed.{is_allowed, may_call}
+use Rattle.task_lang.specs.Limits.{each_of, each_in, inner_pass}
+use Rattle.task_lang.specs.Tick.{Supply, state_of, tick, tick_by}
+use Rattle.tt_world.specs.declared.config.ConfigParts.{ConfigParts}
+use Rattle.tt_world.specs.declared.world.Runner.{Runner}
+use Rattle.tt_world.specs.ConfigRules.{IsRunnable}
+use Rattle.tt_world.specs.Runners.{kind_of}
+use Rattle.tt_world.specs.Services.{is_osek_call}
+
+-- each service that is called may be called by this kind of owner
+abbrev pub EffectsAllowed : OwnerKind → List Effect → Type 0
+EffectsAllowed kind [] = Unit {0}
+EffectsAllowed kind (effect.Out value ∷ rest) = EffectsAllowed kind rest
+EffectsAllowed kind (effect.Service k ∷ rest) = (may_call kind k ≡ true) × EffectsAllowed kind rest
+
+module _ (kind : OwnerKind) (supply : Supply) (vars : List ℤ) (cursors : List ℕ) where
+  tick_allowed : (left : List Stmt) (front : Stmt-F Stmt) (rest : List Stmt)
+      → is_allowed kind (map-Stmt Stmt Bool (each_of (is_allowed kind)) front) ≡ true
+      → EffectsAllowed kind (tick_by supply (state_of left vars cursors []) front rest).effects
+  tick_allowed left (Stmt-F.Service k) rest h = (h, tt)
+  tick_allowed left (Stmt-F.Out expr) rest h = tt
+  tick_allowed left (Stmt-F.Work n) rest h = tt
+  tick_allowed left (Stmt-F.Take demand) rest h = tt
+  tick_allowed left (Stmt-F.Set var expr) rest h = tt
+  tick_allowed left (Stmt-F.If expr first second) rest h = tt
+  tick_allowed left (Stmt-F.Repeat n body) rest h = tt
+
+  -- a tick of a list that is allowed calls what is allowed
+  pub effects_allowed : (left : List Stmt) → each_in (is_allowed kind) left ≡ true
+      → EffectsAllowed kind (tick supply (state_of left vars cursors [])).effects
+  unfolding tick
+  effects_allowed [] h = tt
+  effects_allowed (front ∷ rest) h =
+      let test = is_allowed {A = Bool} kind in
+      let here = sym (fold_out-Stmt Bool (λ y. test y && inner_pass y) front)
+      ∙ (and_parts (each_of test front) _ h).0 in
+      tick_allowed (front ∷ rest) (out-Stmt front) rest
+      (and_parts (test (map-Stmt Stmt Bool (each_of test) (out-Stmt front))) _ here).0
+
+osek_may_call : (kind : OwnerKind) (k : Call) → may_call kind k ≡ true → is_osek_call k ≡ true → kind ≡ owner.Osek
+osek_may_call owner.Osek k h e = refl
+osek_may_call kind (call.Switch mode) h e = cc
+osek_may_call kind call.Sync h e = cc
+osek_may_call kind call.Shutdown h e = cc
+osek_may_call kind (call.Activate task) h e = cc
+osek_may_call owner.Task (call.Chain task) h e = cc
+osek_may_call owner.Isr (call.Chain task) h e = cc
+osek_may_call owner.Oisr (call.Chain task) h e = cc
+osek_may_call owner.Hook (call.Chain task) h e = cc
+osek_may_call owner.Task call.Terminate h e = cc
+osek_may_call owner.Isr call.Terminate h e = cc
+osek_may_call owner.Oisr call.Terminate h e = cc
+osek_may_call owner.Hook call.Terminate h e = cc
+
+-- of those who run only an OSEK task calls what only an OSEK task may call
+pub osek_calls : (c : ConfigParts) (supply : Supply) (vars : List ℤ) (cursors : List ℕ) (r : Runner) (left : List Stmt)
+    (k : Call) → IsRunnable c (kind_of r) left
+    → (tick supply (state_of left vars cursors [])).effects ≡ effect.Service k ∷ [] → is_osek_call k ≡ true
+    → kind_of r ≡ owner.Osek
+osek_calls c supply vars cursors r left k runnable e h =
+    let all : EffectsAllowed (kind_of r) (effect.Service k ∷ []) =
+    subst (EffectsAllowed (kind_of r)) e (effects_allowed (kind_of r) supply vars cursors left runnable.allowed) in
+    osek_may_call (kind_of r) k all.0 h
