@@ -6,7 +6,7 @@ use Rattle.tt_base.specs.declared.number.IsrNo.{IsrNo}
 use Rattle.tt_world.specs.declared.config.Enable.{Enable as EnableRow}
 use Rattle.tt_world.specs.World.{World}
 use Rattle.tt_world.specs.Gates.{enable}
-use Rattle.tt_world.specs.Moved.{Moved, Gives, chain, followed}
+use Rattle.tt_world.specs.Moved.{Moved, Appends, Gives, chain, followed}
 use Rattle.round_table.specs.DueRows.{isrs_of}
 use Rattle.stack_dispatch.specs.Due.{enables_by}
 use Rattle.stack_dispatch.proofs.Checking.{range_past, range_more}
@@ -26,7 +26,7 @@ no_offset isr = record { offset = 0; isr = isr }
 module _ (isrs : List IsrNo) (i j : ℕ) (before : List Event) (all : Moved) (es : List Event) (w : World)
     (led : Leads before all es (enables_by (slice_range isrs i j) w)) where
   pub leads_more : (isr : IsrNo) → i < j → slice_get isrs i ≡ Some isr → (fs : List Event) (v : World)
-      → Gives es fs v None (enable (no_offset isr) w) → Leads before all fs (enables_by (slice_range isrs (i + 1) j) v)
+      → Gives Appends es fs v None (enable (no_offset isr) w) → Leads before all fs (enables_by (slice_range isrs (i + 1) j) v)
   unfolding enable chain followed
   leads_more isr l here fs v g =
       let rest = slice_range isrs (i + 1) j in
@@ -36,18 +36,18 @@ module _ (isrs : List IsrNo) (i j : ℕ) (before : List Event) (all : Moved) (es
         world_is = led.world_is ∙ ap (λ (m : Moved). m.world) first ∙ ap (λ (m : Moved). m.world) same;
         events_are = led.events_are ∙ ap (λ (m : Moved). es ++ m.events) first
             ∙ sym (append_assoc es (enable (no_offset isr) w).events (enables_by rest (enable (no_offset isr) w).world).events)
-            ∙ ap (λ fs. fs ++ (enables_by rest (enable (no_offset isr) w).world).events) (sym g.events_are)
+            ∙ ap (λ fs. fs ++ (enables_by rest (enable (no_offset isr) w).world).events) (sym g.told)
             ∙ ap (λ (m : Moved). fs ++ m.events) same;
         end_is = led.end_is ∙ ap (λ (m : Moved). m.end) first ∙ ap (λ (m : Moved). m.end) same;
       }
 
-  pub leads_last : j ≤ i → Gives before es w None all
+  pub leads_last : j ≤ i → Gives Appends before es w None all
   unfolding chain
   leads_last l =
       let last = ap (λ xs. enables_by xs w) (range_past isrs i j l) in
       record {
         world_is = sym (led.world_is ∙ ap (λ (m : Moved). m.world) last);
-        events_are = sym (led.events_are ∙ ap (λ (m : Moved). es ++ m.events) last ∙ append-nil es);
+        told = sym (led.events_are ∙ ap (λ (m : Moved). es ++ m.events) last ∙ append-nil es);
         end_is = sym (led.end_is ∙ ap (λ (m : Moved). m.end) last);
       }
 

@@ -14,14 +14,14 @@ use Rattle.tt_world.specs.World.{World}
 use Rattle.tt_world.specs.Correction.{is_length}
 use Rattle.tt_world.specs.Gates.{acceptances, is_accepted}
 use Rattle.tt_world.specs.Monitoring.{is_at}
-use Rattle.tt_world.specs.Moved.{Gives, goes_on, is_over}
+use Rattle.tt_world.specs.Moved.{Appends, Gives, goes_on, is_over}
 use Rattle.tt_world.specs.Opening.{opening}
 use Rattle.tt_world.specs.Points.{point_of}
 use Rattle.tt_world.specs.Rows.{offset_of, mode_of, row_of}
 use Rattle.tt_world.specs.Runners.{job_at}
 use Rattle.tt_world.specs.Step.{step}
 use Rattle.tt_world.proofs.Keeps.{acceptances_hold}
-use Rattle.tt_world.proofs.Moves.{gives_none}
+use Rattle.tt_world.proofs.Moves.{gives_none, appends_is_telling}
 use Rattle.tt_world.proofs.Openings.{NothingDue, opening_accepts}
 use Rattle.tt_world.proofs.Still.{Still, step_still, step_accepts, owner_ends}
 use Rattle.isr_window.specs.Window.{next_tick}
@@ -103,11 +103,11 @@ module _ (c : ConfigParts) (s : ScriptParts) where
         }
 
     -- an opening that tries the acceptances, and one that does nothing
-    pub opens_accepting : (a b : List Event) (v : World) → Gives a b v None (acceptances c st.world) → Gives a b v None (opening c s st.world)
-    opens_accepting a b v g = subst (Gives a b v None) (sym (opening_accepts c s st.world nothing_due)) g
+    pub opens_accepting : (a b : List Event) (v : World) → Gives Appends a b v None (acceptances c st.world) → Gives Appends a b v None (opening c s st.world)
+    opens_accepting a b v g = subst (Gives Appends a b v None) (sym (opening_accepts c s st.world nothing_due)) g
 
-    pub opens_idle : (a : List Event) → NoneAccepted c st.world → Gives a a st.world None (opening c s st.world)
-    opens_idle a none = opens_accepting a a st.world (subst (Gives a a st.world None) (sym (acceptances_silent c st.world none)) (gives_none a st.world))
+    pub opens_idle : (a : List Event) → NoneAccepted c st.world → Gives Appends a a st.world None (opening c s st.world)
+    opens_idle a none = opens_accepting a a st.world (subst (Gives Appends a a st.world None) (sym (acceptances_silent c st.world none)) (gives_none appends_is_telling a st.world))
 
     pub idle_sources : HasSources c s (st.world.tick + 1) st
     idle_sources = record {
@@ -123,7 +123,7 @@ module _ (c : ConfigParts) (s : ScriptParts) where
     pub mode : v.mode ≡ w.mode
     pub latched : v.latched ≡ w.latched
 
-  accepted_round : (w v : World) (a b : List Event) → Gives a b v None (acceptances c w) → SameRound w v
+  accepted_round : (w v : World) (a b : List Event) → Gives Appends a b v None (acceptances c w) → SameRound w v
   accepted_round w v a b g =
       after (SameRound w) (acceptances c w) a b v g
       (acceptances_hold (SameRound w) (λ u _ _ _ _ _ p. record { tick = p.tick; start = p.start; mode = p.mode; latched = p.latched }) c w []
@@ -155,7 +155,7 @@ module _ (c : ConfigParts) (s : ScriptParts) where
     arrivals = subst (λ (b : Beside). ForSome (next_tick (window_in (record { world = st.world; beside = b }))) (λ tick. next ≤ tick)) (sym beside) h.arrivals;
   }
 
-  pub ahead_accepted : (st v : RunState) (next : ℕ) (a b : List Event) → v.beside ≡ st.beside → Gives a b v.world None (acceptances c st.world)
+  pub ahead_accepted : (st v : RunState) (next : ℕ) (a b : List Event) → v.beside ≡ st.beside → Gives Appends a b v.world None (acceptances c st.world)
       → IsAhead c 0 st next → IsAhead c 1 v next
   ahead_accepted st v next a b beside g h =
       let r = accepted_round st.world v.world a b g in
@@ -167,7 +167,7 @@ module _ (c : ConfigParts) (s : ScriptParts) where
   ahead_idle st next h = ahead_kept 0 1 st st next refl refl refl refl (λ z. absurd (omega arith)) (omega arith) h
 
   pub foresees : (st v : RunState) (next : ℕ) (ended : Bool) (a b : List Event) → v.beside ≡ st.beside → st.world.start ≤ st.world.tick
-      → Gives a b v.world None (step c s st.world) → ended ≡ owner_ends c s st.world → NoneAccepted c st.world → IsAhead c 1 st next
+      → Gives Appends a b v.world None (step c s st.world) → ended ≡ owner_ends c s st.world → NoneAccepted c st.world → IsAhead c 1 st next
       → Foresees c v (record { next = next; ended = ended })
   foresees st v next ended a b beside started g is none h =
       let on = ap is_over (sym g.end_is) in

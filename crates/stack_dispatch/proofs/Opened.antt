@@ -16,7 +16,7 @@ use Rattle.tt_world.specs.ScriptRules.{IsScript}
 use Rattle.tt_world.specs.Correction.{is_length}
 use Rattle.tt_world.specs.Gates.{enable, arrivals, acceptances, is_accepted}
 use Rattle.tt_world.specs.Monitoring.{monitored, is_at, is_at_end}
-use Rattle.tt_world.specs.Moved.{Moved, Gives, Outcome, is_over, chain}
+use Rattle.tt_world.specs.Moved.{Moved, Appends, Gives, Outcome, is_over, chain}
 use Rattle.tt_world.specs.Opening.{due, first_parts, later_parts, opening}
 use Rattle.tt_world.specs.Rounds.{head, latch, next_round, round_end}
 use Rattle.tt_world.specs.Rows.{offset_of, mode_of, enables_at, entry_at}
@@ -27,7 +27,7 @@ use Rattle.tt_world.proofs.Ends.{are_bounded}
 use Rattle.tt_world.proofs.Keeps.{Holds, monitored_holds}
 use Rattle.tt_world.proofs.Late.{Late, late_at}
 use Rattle.tt_world.proofs.Modes.{Named, has_mode, opening_named, run_named}
-use Rattle.tt_world.proofs.Moves.{gives_first, gives_over, gives_done, gives_next, gives_stop}
+use Rattle.tt_world.proofs.Moves.{gives_first, gives_over, gives_done, gives_next, gives_stop, appends_is_telling}
 use Rattle.tt_world.proofs.Openings.{activated_in, due_from, due_same}
 use Rattle.tt_world.proofs.Parts.{Before, Latched, Begun, Alone, Anything, Leads, followed_leads, chain_each, led_on}
 use Rattle.tt_world.proofs.Places.{Placed, latch_placed, round_end_placed, placed_at}
@@ -51,7 +51,7 @@ use Rattle.stack_dispatch.proofs.Running.{AtTick, has_number}
 use Rattle.stack_dispatch.proofs.Served.{due_given, checked_same}
 
 -- what holds after a part of the definitions holds after the part of the code that goes on
-pub after : (P : World → Type 0) (m : Moved) (a b : List Event) (v : World) → Gives a b v None m → Holds P [] m → P v
+pub after : (P : World → Type 0) (m : Moved) (a b : List Event) (v : World) → Gives Appends a b v None m → Holds P [] m → P v
 after P m a b v g h = subst P (sym g.world_is) (led_on (Alone P) Anything [] m (ap is_over (sym g.end_is)) h)
 
 -- ---- the sources
@@ -123,7 +123,7 @@ module _ (c : ConfigParts) (s : ScriptParts) where
 
   -- after an activation too the sources are as they were, and nothing can be accepted
   pub is_opened : (t : ℕ) (mode : ModeDef) (found : Option ℕ) (st last : RunState) (a b : List Event) → last.beside ≡ st.beside
-      → Gives a b last.world None (activated_in c mode found st.world) → AreSourcesOf c (window_in st) → AreLeftFrom c s (t + 1) (window_in st)
+      → Gives Appends a b last.world None (activated_in c mode found st.world) → AreSourcesOf c (window_in st) → AreLeftFrom c s (t + 1) (window_in st)
       → NoneAccepted c st.world → IsOpened c s t last
   is_opened t mode found st last a b beside g sources left none =
       let k = subst (Kept st.world) (sym g.world_is) (activated_kept mode found st.world) in
@@ -142,49 +142,49 @@ module _ (c : ConfigParts) (s : ScriptParts) where
   module _ (table : TableRows) (w : World) (served : IsServed Begun c s w) (is_table : IsTableOf c table w) (d : Due)
       (stands : StandsAt table (offset_of w) d) where
     checks_part : (a b : List Event) (v : World) (end : Outcome)
-        → Gives a b v end (monitored_entries c table.mode (slice_range (checks_of table) d.checks_from d.checks_to) w)
-        → Gives a b v end (monitored c (is_at (offset_of w)) w)
+        → Gives Appends a b v end (monitored_entries c table.mode (slice_range (checks_of table) d.checks_from d.checks_to) w)
+        → Gives Appends a b v end (monitored c (is_at (offset_of w)) w)
     checks_part a b v end g = due_given Begun c s table w served is_table a b v end _ g stands.checks
 
     -- after the checks and the enables the tick and the sources are as they were
     pub enabled : (v u : World) (a b e : List Event) (end : Outcome) (isrs : List IsrNo)
-        → Gives a b v end (monitored_entries c table.mode (slice_range (checks_of table) d.checks_from d.checks_to) w) → end ≡ None
-        → Gives b e u None (enables_by isrs v) → Kept w u
+        → Gives Appends a b v end (monitored_entries c table.mode (slice_range (checks_of table) d.checks_from d.checks_to) w) → end ≡ None
+        → Gives Appends b e u None (enables_by isrs v) → Kept w u
     enabled v u a b e end isrs g on h =
-        let checks = subst (λ o. Gives a b v o (monitored c (is_at (offset_of w)) w)) on (checks_part a b v end g) in
+        let checks = subst (λ o. Gives Appends a b v o (monitored c (is_at (offset_of w)) w)) on (checks_part a b v end g) in
         subst (λ x. Kept x u) (checked_same c (is_at (offset_of w)) w v a b checks) (after (Kept v) _ b e u h (enables_kept isrs v))
 
     -- a check was missed
     pub due_over : (a b : List Event) (v : World) (end : Outcome) (last : RunEnd)
-        → Gives a b v end (monitored_entries c table.mode (slice_range (checks_of table) d.checks_from d.checks_to) w) → end ≡ Some last
-        → Gives a b v (Some last) (chain (due c s) w)
+        → Gives Appends a b v end (monitored_entries c table.mode (slice_range (checks_of table) d.checks_from d.checks_to) w) → end ≡ Some last
+        → Gives Appends a b v (Some last) (chain (due c s) w)
     due_over a b v end last g is =
-        subst (Gives a b v (Some last)) (sym (due_same c s w))
-        (gives_over a b v (Some last) _ _ w refl (subst (λ o. Gives a b v o (monitored c (is_at (offset_of w)) w)) is (checks_part a b v end g)))
+        subst (Gives Appends a b v (Some last)) (sym (due_same c s w))
+        (gives_over a b v (Some last) _ _ w refl (subst (λ o. Gives Appends a b v o (monitored c (is_at (offset_of w)) w)) is (checks_part a b v end g)))
 
     pub due_all : (e0 e1 e2 e3 e4 e5 : List Event) (w1 w2 w3 w4 w5 : World) (end : Outcome)
-        → Gives e0 e1 w1 end (monitored_entries c table.mode (slice_range (checks_of table) d.checks_from d.checks_to) w) → end ≡ None
-        → Gives e1 e2 w2 None (enables_by (slice_range (enables_of table) d.enables_from d.enables_to) w1)
-        → Gives e2 e3 w3 None (arrivals c s w2) → Gives e3 e4 w4 None (acceptances c w3)
-        → Gives e4 e5 w5 None (activated_in c table.mode d.activation w4) → Gives e0 e5 w5 None (chain (due c s) w)
+        → Gives Appends e0 e1 w1 end (monitored_entries c table.mode (slice_range (checks_of table) d.checks_from d.checks_to) w) → end ≡ None
+        → Gives Appends e1 e2 w2 None (enables_by (slice_range (enables_of table) d.enables_from d.enables_to) w1)
+        → Gives Appends e2 e3 w3 None (arrivals c s w2) → Gives Appends e3 e4 w4 None (acceptances c w3)
+        → Gives Appends e4 e5 w5 None (activated_in c table.mode d.activation w4) → Gives Appends e0 e5 w5 None (chain (due c s) w)
     due_all e0 e1 e2 e3 e4 e5 w1 w2 w3 w4 w5 end g1 on g2 g3 g4 g5 =
         let same : table.mode ≡ mode_of c w = ap (λ (t : TableRows). t.mode) is_table in
-        let checks = subst (λ o. Gives e0 e1 w1 o (monitored c (is_at (offset_of w)) w)) on (checks_part e0 e1 w1 end g1) in
+        let checks = subst (λ o. Gives Appends e0 e1 w1 o (monitored c (is_at (offset_of w)) w)) on (checks_part e0 e1 w1 end g1) in
         let rows = λ (m : ModeDef). enables_at (offset_of w) m.enables in
-        let enables = subst (Gives e1 e2 w2 None)
+        let enables = subst (Gives Appends e1 e2 w2 None)
         (ap (λ isrs. enables_by isrs w1) (stands.enables ∙ ap (λ (m : ModeDef). isrs_of (rows m)) same) ∙ sym (enables_are (rows (mode_of c w)) w1)) g2 in
-        let activation = subst (Gives e4 e5 w5 None)
+        let activation = subst (Gives Appends e4 e5 w5 None)
         (ap (λ (found : Option ℕ). activated_in c table.mode found w4) stands.activation
         ∙ ap (λ (m : ModeDef). activated_in c m (entry_at (offset_of w) m.activations) w4) same) g5 in
-        subst (Gives e0 e5 w5 None) (sym (due_same c s w))
-        (gives_first e0 e1 e5 w1 w5 None _ _ w checks (gives_first e1 e2 e5 w2 w5 None _ _ w1 enables
-        (gives_first e2 e3 e5 w3 w5 None _ _ w2 g3 (gives_first e3 e4 e5 w4 w5 None _ _ w3 g4
-        (gives_first e4 e5 e5 w5 w5 None _ [] w4 activation (gives_done e5 w5))))))
+        subst (Gives Appends e0 e5 w5 None) (sym (due_same c s w))
+        (gives_first appends_is_telling e0 e1 e5 w1 w5 None _ _ w checks (gives_first appends_is_telling e1 e2 e5 w2 w5 None _ _ w1 enables
+        (gives_first appends_is_telling e2 e3 e5 w3 w5 None _ _ w2 g3 (gives_first appends_is_telling e3 e4 e5 w4 w5 None _ _ w3 g4
+        (gives_first appends_is_telling e4 e5 e5 w5 w5 None _ [] w4 activation (gives_done appends_is_telling e5 w5))))))
 
   -- ---- the parts of a round
 
   module _ (w : World) where
-    pub latched_served : (a b : List Event) (v : World) → Gives a b v None (latch c w) → IsServed Before c s w → IsServed Latched c s v
+    pub latched_served : (a b : List Event) (v : World) → Gives Appends a b v None (latch c w) → IsServed Before c s w → IsServed Latched c s v
     latched_served a b v g h = record {
       rules = h.rules;
       script = h.script;
@@ -192,7 +192,7 @@ module _ (c : ConfigParts) (s : ScriptParts) where
       placed = after (Placed c 0) (latch c w) a b v g (latch_placed c s h.rules w [] h.placed);
     }
 
-    pub begun_served : (a b : List Event) (v : World) → Gives a b v None (round_end c s w) → IsServed Latched c s w → IsServed Begun c s v
+    pub begun_served : (a b : List Event) (v : World) → Gives Appends a b v None (round_end c s w) → IsServed Latched c s w → IsServed Begun c s v
     begun_served a b v g h = record {
       rules = h.rules;
       script = h.script;
@@ -200,7 +200,7 @@ module _ (c : ConfigParts) (s : ScriptParts) where
       placed = after (Placed c 0) (round_end c s w) a b v g (round_end_placed c s h.rules w [] h.placed);
     }
 
-    pub first_served : (a b : List Event) → w.tick ≡ 0 → Gives a b w None (head s w) → IsServed Before c s w → IsServed Begun c s w
+    pub first_served : (a b : List Event) → w.tick ≡ 0 → Gives Appends a b w None (head s w) → IsServed Before c s w → IsServed Begun c s w
     first_served a b z g h = record {
       rules = h.rules;
       script = h.script;
@@ -209,21 +209,21 @@ module _ (c : ConfigParts) (s : ScriptParts) where
     }
 
     -- the opening of tick 0, and that of a later tick
-    pub opens_first : (a b d : List Event) (v : World) (end : Outcome) → w.tick ≡ 0 → Gives a b w None (head s w)
-        → Gives b d v end (chain (due c s) w) → Gives a d v end (opening c s w)
+    pub opens_first : (a b d : List Event) (v : World) (end : Outcome) → w.tick ≡ 0 → Gives Appends a b w None (head s w)
+        → Gives Appends b d v end (chain (due c s) w) → Gives Appends a d v end (opening c s w)
     unfolding opening
     opens_first a b d v end z g h =
-        subst (Gives a d v end) (sym (cond-true (eqb w.tick 0) _ _ (ap (λ n. eqb n 0) z))) (gives_first a b d w v end _ _ w g h)
+        subst (Gives Appends a d v end) (sym (cond-true (eqb w.tick 0) _ _ (ap (λ n. eqb n 0) z))) (gives_first appends_is_telling a b d w v end _ _ w g h)
 
-    pub opens_later : (a b : List Event) (v : World) (end : Outcome) → (w.tick ≡ 0 → ⊥) → Gives a b v end (chain (later_parts c s) w)
-        → Gives a b v end (opening c s w)
+    pub opens_later : (a b : List Event) (v : World) (end : Outcome) → (w.tick ≡ 0 → ⊥) → Gives Appends a b v end (chain (later_parts c s) w)
+        → Gives Appends a b v end (opening c s w)
     unfolding opening
     opens_later a b v end ne h =
-        subst (Gives a b v end) (sym (cond-false (eqb w.tick 0) _ _ (false_from_ne_true _ (λ e. ne (eqb-true w.tick 0 e))))) h
+        subst (Gives Appends a b v end) (sym (cond-false (eqb w.tick 0) _ _ (false_from_ne_true _ (λ e. ne (eqb-true w.tick 0 e))))) h
 
   -- ---- the instant
 
-  module _ (w v : World) (a b : List Event) (g : Gives a b v None (opening c s w)) (h : IsServed Before c s w) (n : Named c w) where
+  module _ (w v : World) (a b : List Event) (g : Gives Appends a b v None (opening c s w)) (h : IsServed Before c s w) (n : Named c w) where
     pub opened_tick : v.tick ≡ w.tick
     opened_tick =
         ap (λ (x : World). x.tick) g.world_is
@@ -247,20 +247,20 @@ module _ (c : ConfigParts) (s : ScriptParts) where
           runnable = named.lefts (runner_of c st.world);
         }
 
-  pub instant_over : (w v : World) (a b : List Event) (end : Outcome) (last : RunEnd) → Gives a b v end (opening c s w) → end ≡ Some last
-      → Gives a b v (Some last) (instant c s w)
+  pub instant_over : (w v : World) (a b : List Event) (end : Outcome) (last : RunEnd) → Gives Appends a b v end (opening c s w) → end ≡ Some last
+      → Gives Appends a b v (Some last) (instant c s w)
   unfolding instant
   instant_over w v a b end last g is =
-      gives_stop a b v (Some last) (opening c s w) (step c s) refl (subst (λ o. Gives a b v o (opening c s w)) is g)
+      gives_stop a b v (Some last) (opening c s w) (step c s) refl (subst (λ o. Gives Appends a b v o (opening c s w)) is g)
 
-  pub instant_on : (w v u : World) (a b d : List Event) (end last : Outcome) → Gives a b v end (opening c s w) → end ≡ None
-      → Gives b d u last (step c s v) → Gives a d u last (instant c s w)
+  pub instant_on : (w v u : World) (a b d : List Event) (end last : Outcome) → Gives Appends a b v end (opening c s w) → end ≡ None
+      → Gives Appends b d u last (step c s v) → Gives Appends a d u last (instant c s w)
   unfolding instant
   instant_on w v u a b d end last g on h =
-      gives_next a b d v u last (opening c s w) (step c s) (subst (λ o. Gives a b v o (opening c s w)) on g) h
+      gives_next appends_is_telling a b d v u last (opening c s w) (step c s) (subst (λ o. Gives Appends a b v o (opening c s w)) on g) h
 
   -- after the tick the arrivals to come are those from the next tick on
-  pub ticked_sources : (t : ℕ) (st next : RunState) (a b : List Event) → Gives a b next.world None (step c s st.world) → next.beside ≡ st.beside
+  pub ticked_sources : (t : ℕ) (st next : RunState) (a b : List Event) → Gives Appends a b next.world None (step c s st.world) → next.beside ≡ st.beside
       → HasSources c s t st → HasSources c s t next
   ticked_sources t st next a b g beside h =
       let still = step_still c s st.world (ap is_over (sym g.end_is)) in

@@ -9,7 +9,7 @@ use Rattle.tt_world.specs.declared.world.RunEnd.{RunEnd}
 use Rattle.tt_world.specs.World.{World}
 use Rattle.tt_world.specs.ConfigRules.{IsConfig}
 use Rattle.tt_world.specs.ScriptRules.{IsScript}
-use Rattle.tt_world.specs.Moved.{Outcome, Gives, is_over}
+use Rattle.tt_world.specs.Moved.{Outcome, Appends, Gives, is_over}
 use Rattle.tt_world.specs.Schedule.{IsBounded, instant, instant_at, world_at, events_before, ends_at, last_instant, most_ticks, schedule, first_world}
 use Rattle.tt_world.specs.Status.{status_by, status_of, last_stamp}
 use Rattle.tt_world.proofs.Parts.{GoesOnBefore}
@@ -40,7 +40,7 @@ has_number c s bounded w es a =
 -- ---- an instant after another
 
 module _ (c : ConfigParts) (s : ScriptParts) (v w : World) (es fs : List Event) (end : Outcome) (a : AtTick c s v es)
-    (g : Gives es fs w end (instant c s v)) where
+    (g : Gives Appends es fs w end (instant c s v)) where
   ends_is : is_over end ≡ ends_at c s v.tick
   unfolding instant_at
   ends_is = ap is_over g.end_is ∙ ap (λ x. is_over (instant c s x).end) a.world
@@ -52,7 +52,7 @@ module _ (c : ConfigParts) (s : ScriptParts) (v w : World) (es fs : List Event) 
   events_next : fs ≡ events_before c s (v.tick + 1)
   unfolding events_before instant_at
   events_next =
-      g.events_are
+      g.told
       ∙ rw add-one (ap (λ x. es ++ (instant c s x).events) a.world
       ∙ ap (λ x. x ++ (instant c s (world_at c s v.tick)).events) a.events)
 

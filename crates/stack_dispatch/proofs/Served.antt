@@ -12,14 +12,14 @@ use Rattle.tt_world.specs.declared.world.Point.TheVariants as point
 use Rattle.tt_world.specs.ConfigRules.{is_activation}
 use Rattle.tt_world.specs.World.{World}
 use Rattle.tt_world.specs.Correction.{is_no_change, is_length}
-use Rattle.tt_world.specs.Moved.{Gives, Outcome, is_over, followed}
+use Rattle.tt_world.specs.Moved.{Appends, Gives, Outcome, is_over, followed}
 use Rattle.tt_world.specs.Monitoring.{Checked, monitored, after_checks, is_at, is_at_end}
 use Rattle.tt_world.specs.Points.{point_of}
 use Rattle.tt_world.specs.Rounds.{next_round, round_end}
 use Rattle.tt_world.specs.Rows.{no_row, offset_of, mode_of, row_of}
 use Rattle.tt_world.proofs.Deadlines.{IsFrom, point_is_from}
 use Rattle.tt_world.proofs.Keeps.{monitored_holds}
-use Rattle.tt_world.proofs.Moves.{gives_next, gives_stop}
+use Rattle.tt_world.proofs.Moves.{gives_next, gives_stop, appends_is_telling}
 use Rattle.tt_world.proofs.Parts.{Phase, Latched, Alone, Anything, led_on}
 use Rattle.tt_world.proofs.TableRows.{AreRows, mode_rows, deadline_after, list_all_get}
 use Rattle.tt_world.proofs.Time.{Stands}
@@ -93,13 +93,13 @@ module _ (phase : Phase) (c : ConfigParts) (s : ScriptParts) (table : TableRows)
       (checked_by_entry w.tick (mode_of c w) is_due w.jobs served.placed.entries served.placed.few there))
 
   module _ (a b : List Event) (v : World) (end : Outcome) (entries : List ℕ)
-      (g : Gives a b v end (monitored_entries c table.mode entries w)) where
+      (g : Gives Appends a b v end (monitored_entries c table.mode entries w)) where
     pub end_given : c.round - c.adjust ≤ offset_of w → entries ≡ entries_due (is_at_end (offset_of w)) table.mode
-        → Gives a b v end (monitored c (is_at_end (offset_of w)) w)
-    end_given over are = subst (Gives a b v end) (by_entry (is_at_end (offset_of w)) (λ entry l _. end_there over entry l) entries are) g
+        → Gives Appends a b v end (monitored c (is_at_end (offset_of w)) w)
+    end_given over are = subst (Gives Appends a b v end) (by_entry (is_at_end (offset_of w)) (λ entry l _. end_there over entry l) entries are) g
 
-    pub due_given : entries ≡ entries_due (is_at (offset_of w)) table.mode → Gives a b v end (monitored c (is_at (offset_of w)) w)
-    due_given are = subst (Gives a b v end) (by_entry (is_at (offset_of w)) due_there entries are) g
+    pub due_given : entries ≡ entries_due (is_at (offset_of w)) table.mode → Gives Appends a b v end (monitored c (is_at (offset_of w)) w)
+    due_given are = subst (Gives Appends a b v end) (by_entry (is_at (offset_of w)) due_there entries are) g
 
 -- an outcome that is an end
 pub over_from : (end : Outcome) → (end ≡ None → ⊥) → is_over end ≡ true
@@ -112,19 +112,19 @@ module _ (c : ConfigParts) (s : ScriptParts) (w : World) (over : is_length w.lat
   unfolding round_end
   over_parts = cond-true _ _ _ over
 
-  module _ (a b : List Event) (v : World) (end : Outcome) (g : Gives a b v end (monitored c (is_at_end (offset_of w)) w)) where
-    pub ended_stop : (end ≡ None → ⊥) → Gives a b v end (round_end c s w)
-    ended_stop ne = subst (Gives a b v end) (sym over_parts) (gives_stop a b v end _ (next_round s) (over_from end ne) g)
+  module _ (a b : List Event) (v : World) (end : Outcome) (g : Gives Appends a b v end (monitored c (is_at_end (offset_of w)) w)) where
+    pub ended_stop : (end ≡ None → ⊥) → Gives Appends a b v end (round_end c s w)
+    ended_stop ne = subst (Gives Appends a b v end) (sym over_parts) (gives_stop a b v end _ (next_round s) (over_from end ne) g)
 
-    pub ended_next : end ≡ None → (d : List Event) (u : World) (last : Outcome) → Gives b d u last (next_round s v)
-        → Gives a d u last (round_end c s w)
+    pub ended_next : end ≡ None → (d : List Event) (u : World) (last : Outcome) → Gives Appends b d u last (next_round s v)
+        → Gives Appends a d u last (round_end c s w)
     ended_next on d u last h =
-        subst (Gives a d u last) (sym over_parts)
-        (gives_next a b d v u last _ (next_round s) (subst (λ o. Gives a b v o (monitored c (is_at_end (offset_of w)) w)) on g) h)
+        subst (Gives Appends a d u last) (sym over_parts)
+        (gives_next appends_is_telling a b d v u last _ (next_round s) (subst (λ o. Gives Appends a b v o (monitored c (is_at_end (offset_of w)) w)) on g) h)
 
 -- checks after which the run goes on leave the world as it was
 pub checked_same : (c : ConfigParts) (is_due : Point → Bool) (w v : World) (a b : List Event)
-    → Gives a b v None (monitored c is_due w) → v ≡ w
+    → Gives Appends a b v None (monitored c is_due w) → v ≡ w
 checked_same c is_due w v a b g =
     g.world_is ∙ led_on (Alone (λ u. u ≡ w)) Anything [] (monitored c is_due w) (ap is_over (sym g.end_is))
     (monitored_holds (λ u. u ≡ w) c is_due w [] (λ _. refl))

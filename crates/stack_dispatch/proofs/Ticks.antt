@@ -16,13 +16,13 @@ use Rattle.tt_world.specs.declared.world.Runner.{Runner}
 use Rattle.tt_world.specs.declared.world.Runner.TheVariants as runner
 use Rattle.tt_world.specs.ConfigRules.{IsConfig, IsRunnable}
 use Rattle.tt_world.specs.World.{World}
-use Rattle.tt_world.specs.Moved.{Moved, Outcome, Gives, preceded, followed, is_over}
-use Rattle.tt_world.specs.Runners.{is_done, left_of, leaving, first_runner, runner_of, owner_of}
+use Rattle.tt_world.specs.Moved.{Moved, Outcome, Appends, Gives, preceded, followed, is_over}
+use Rattle.tt_world.specs.Runners.{is_done, kind_of, left_of, leaving, first_runner, runner_of, owner_of}
 use Rattle.tt_world.specs.Step.{state_after, effected, runner_tick, is_somebody, run_line, tick_over, step}
 use Rattle.tt_world.proofs.Forward.{effected_mid}
 use Rattle.tt_world.proofs.WhoRuns.{highest_undone}
 use Rattle.tt_world.proofs.Modes.{EffectsNamed, effects_named}
-use Rattle.tt_world.proofs.Moves.{gives_next, gives_stop}
+use Rattle.tt_world.proofs.Moves.{gives_next, gives_stop, appends_is_telling}
 use Rattle.tt_world.proofs.Still.{owner_ends}
 use Rattle.tt_world.proofs.WhoRuns.{last_found_at}
 use Rattle.stack_dispatch.specs.Serving.{IsCalling}
@@ -63,11 +63,11 @@ pub somebody_ready : (c : ConfigParts) (w : World) (r : Runner) → r ≡ runner
 somebody_ready c w r e n = has_some w r (is_ready c w r e) n
 
 -- what follows lines
-gives_after : (a b d line : List Event) (w : World) (end : Outcome) (m : Moved) → b ≡ a ++ line → Gives b d w end m
-    → Gives a d w end (preceded line m)
+gives_after : (a b d line : List Event) (w : World) (end : Outcome) (m : Moved) → b ≡ a ++ line → Gives Appends b d w end m
+    → Gives Appends a d w end (preceded line m)
 gives_after a b d line w end m e g = record {
   world_is = g.world_is;
-  events_are = g.events_are ∙ ap (λ x. x ++ m.events) e ∙ append_assoc a line m.events;
+  told = g.told ∙ ap (λ x. x ++ m.events) e ∙ append_assoc a line m.events;
   end_is = g.end_is;
 }
 
@@ -120,7 +120,7 @@ module _ (c : ConfigParts) (s : ScriptParts) (r : Runner) (who : Owner) (w now :
       → IsTick a a now None (is_done (left_of now r)) (runner_tick c s r who w)
   unfolding left mid
   tick_none a e = subst (IsTick a a now None (is_done (left_of now r))) (sym (tick_is [] e)) (record {
-    gives = record { world_is = t.world_is; events_are = sym (append-nil a); end_is = refl };
+    gives = record { world_is = t.world_is; told = sym (append-nil a); end_is = refl };
     ended_is = done_is;
   })
 
@@ -129,7 +129,7 @@ module _ (c : ConfigParts) (s : ScriptParts) (r : Runner) (who : Owner) (w now :
   unfolding left mid
   tick_out value a b e f = subst (IsTick a b now None (is_done (left_of now r)))
       (sym (tick_is (effect.Out value ∷ []) e)) (record {
-        gives = record { world_is = t.world_is; events_are = f; end_is = refl };
+        gives = record { world_is = t.world_is; told = f; end_is = refl };
         ended_is = done_is;
       })
 
@@ -139,7 +139,7 @@ module _ (c : ConfigParts) (s : ScriptParts) (r : Runner) (who : Owner) (w now :
   tick_call k a b world end ended e h =
       subst (IsTick a b world end ended) (sym (tick_is (effect.Service k ∷ []) e)) (h.calls left mid calling)
 
-  pub call_named : IsConfig c → IsRunnable c (left_of w r) → (k : Call)
+  pub call_named : IsConfig c → IsRunnable c (kind_of r) (left_of w r) → (k : Call)
       → effects ≡ effect.Service k ∷ [] → names_below (length c.modes) (length c.oseks) k ≡ true
   call_named rules runnable k e =
       let all : EffectsNamed c s rules (effect.Service k ∷ []) =
@@ -151,11 +151,11 @@ pub tick_nobody : (c : ConfigParts) (s : ScriptParts) (who : Owner) (w : World) 
     → IsTick a a w None true (runner_tick c s runner.Nobody who w)
 unfolding tick
 tick_nobody c s who w a =
-    record { gives = record { world_is = refl; events_are = sym (append-nil a); end_is = refl }; ended_is = refl }
+    record { gives = record { world_is = refl; told = sym (append-nil a); end_is = refl }; ended_is = refl }
 
 -- a tick that does not end the run leaves the present tick to be raised
 pub tick_stays : (c : ConfigParts) (s : ScriptParts) (r : Runner) (who : Owner) (w v : World) (a b : List Event)
-    → Gives a b v None (runner_tick c s r who w).move → v.tick ≡ w.tick
+    → Gives Appends a b v None (runner_tick c s r who w).move → v.tick ≡ w.tick
 tick_stays c s r who w v a b g =
     let state = state_after c s w (left_of w r) in
     ap (λ (x : World). x.tick) g.world_is
@@ -174,23 +174,23 @@ module _ (c : ConfigParts) (s : ScriptParts) (w : World) (r : Runner) (who : Own
   unfolding step
   step_is = rw (owns, runs) refl
 
-  first : Gives a d v end (preceded (run_line w who) (runner_tick c s r who w).move)
+  first : Gives Appends a d v end (preceded (run_line w who) (runner_tick c s r who w).move)
   first = gives_after a b d (run_line w who) v end _ line t.gives
 
-  pub step_ends : is_over end ≡ true → Gives a d v end (step c s w)
-  step_ends over = subst (Gives a d v end) (sym step_is) (gives_stop a d v end _ _ over first)
+  pub step_ends : is_over end ≡ true → Gives Appends a d v end (step c s w)
+  step_ends over = subst (Gives Appends a d v end) (sym step_is) (gives_stop a d v end _ _ over first)
 
   pub step_goes_on : end ≡ None → (f : List Event) (u : World)
-      → Gives d f u None (tick_over who (is_somebody r && ended) v)
-      → Gives a f u None (step c s w)
-  step_goes_on e f u g = subst (Gives a f u None) (sym step_is)
-      (gives_next a d f v u None (preceded (run_line w who) (runner_tick c s r who w).move)
+      → Gives Appends d f u None (tick_over who (is_somebody r && ended) v)
+      → Gives Appends a f u None (step c s w)
+  step_goes_on e f u g = subst (Gives Appends a f u None) (sym step_is)
+      (gives_next appends_is_telling a d f v u None (preceded (run_line w who) (runner_tick c s r who w).move)
       (tick_over who (is_somebody r && (runner_tick c s r who w).ended))
-      (subst (λ o. Gives a d v o (preceded (run_line w who) (runner_tick c s r who w).move)) e first)
-      (subst (λ x. Gives d f u None (tick_over who (is_somebody r && x) v)) t.ended_is g))
+      (subst (λ o. Gives Appends a d v o (preceded (run_line w who) (runner_tick c s r who w).move)) e first)
+      (subst (λ x. Gives Appends d f u None (tick_over who (is_somebody r && x) v)) t.ended_is g))
 
   pub step_room : end ≡ None → v.tick ≡ w.tick
-  step_room e = tick_stays c s r who w v b d (subst (λ o. Gives b d v o (runner_tick c s r who w).move) e t.gives)
+  step_room e = tick_stays c s r who w v b d (subst (λ o. Gives Appends b d v o (runner_tick c s r who w).move) e t.gives)
 
   pub ends_is : (over : Bool) → over ≡ (is_somebody r && ended) → over ≡ owner_ends c s w
   ends_is over e =

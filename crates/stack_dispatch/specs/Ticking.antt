@@ -13,22 +13,22 @@ use Rattle.tt_world.specs.declared.world.Runner.TheVariants.{Nobody}
 use Rattle.tt_world.specs.ConfigRules.{IsConfig, IsRunnable}
 use Rattle.tt_world.specs.World.{World, Job}
 use Rattle.tt_world.specs.Rows.{HasMode}
-use Rattle.tt_world.specs.Runners.{is_done, left_of, leaving, runner_of, with_left}
-use Rattle.tt_world.specs.Moved.{Outcome, Gives}
+use Rattle.tt_world.specs.Runners.{is_done, kind_of, left_of, leaving, runner_of, with_left}
+use Rattle.tt_world.specs.Moved.{Outcome, Appends, Gives}
 use Rattle.tt_world.specs.Services.{service}
 use Rattle.tt_world.specs.Step.{RunnerTick, state_after, called}
 use Rattle.stack_dispatch.specs.Serving.{IsCalling}
 use Rattle.stack_dispatch.specs.State.{RunState, IsFor}
 
 -- the one who runs can take a tick: the next tick has a number, the round has begun, the present mode exists, and what
--- is left of the one who runs has short expressions and names what is declared
+-- is left of the one who runs has short expressions, names what is declared, and is allowed to its kind
 pub record CanTick (c : ConfigParts) (s : ScriptParts) (state : RunState) : Type 0 where
   pub rules : IsConfig c
   pub kept : IsFor c s state.beside
   pub tick : state.world.tick + 1 < 2 ^ 64
   pub started : state.world.start ≤ state.world.tick
   pub mode : HasMode c state.world
-  pub runnable : IsRunnable c (left_of state.world (runner_of c state.world))
+  pub runnable : IsRunnable c (kind_of (runner_of c state.world)) (left_of state.world (runner_of c state.world))
 
 -- the one who runs has something left, or is nobody
 abbrev pub IsReady : World → Runner → Type 0
@@ -53,7 +53,7 @@ pub record IsJobTicked (before : List Job) (place : ℕ) (after : List Job) (var
 -- a part of the code of a tick did what its definition gives, and the runner has ended or not
 pub record IsTick (before after : List Event) (world : World) (end : Outcome) (ended : Bool)
     (tick : RunnerTick) : Type 0 where
-  pub gives : Gives before after world end tick.move
+  pub gives : Gives Appends before after world end tick.move
   pub ended_is : ended ≡ tick.ended
 
 -- a service is called by a caller whose tick was taken in place

@@ -2,7 +2,7 @@
 
 ghost use Rattle.std.specs.Prelude.{◌≡◌, ◌+◌, ◌<◌, ◌≤◌, ◌^◌, false, length, None, IfOk, IfSome};
 ghost use Rattle.tt_world.specs.ConfigRules.{IsConfig};
-ghost use Rattle.tt_world.specs.Moved.{Gives, chain};
+ghost use Rattle.tt_world.specs.Moved.{Appends, Gives, chain};
 ghost use Rattle.tt_world.specs.Opening.{due as due_parts, later_parts, opening};
 ghost use Rattle.tt_world.specs.Rows.{offset_of, body_of};
 ghost use Rattle.tt_world.specs.Schedule.{instant};
@@ -64,7 +64,7 @@ impl State {
         events: &mut Events,
     ) -> Result<(), Memory>
         requires { IfSome entry (λ e. e < length table.now.mode.activations) }
-        ensures gives { IfOk result (λ _. Gives events.old events.new self.new.world None (activated_in config.now table.now.mode entry self.old.world)) }
+        ensures gives { IfOk result (λ _. Gives Appends events.old events.new self.new.world None (activated_in config.now table.now.mode entry self.old.world)) }
         ensures beside { IfOk result (λ _. self.new.beside ≡ self.old.beside) }
     {
         let Some(entry) = entry else {
@@ -97,7 +97,7 @@ impl State {
         requires table { IsTableOf config.now table.now self.old.world }
         requires stands { StandsAt table.now (offset_of self.old.world) due }
         requires sources { HasSources config.now script.now self.old.world.tick self.old }
-        ensures gives { IfOk result (λ end. Gives events.old events.new self.new.world end (chain (due_parts config.now script.now) self.old.world)) }
+        ensures gives { IfOk result (λ end. Gives Appends events.old events.new self.new.world end (chain (due_parts config.now script.now) self.old.world)) }
         ensures fixed { IfOk result (λ _. fixed_in self.new.beside ≡ fixed_in self.old.beside) }
         ensures opened { IfOk result (λ end. None ≡ end → IsOpened config.now script.now self.old.world.tick self.new) }
     {
@@ -124,7 +124,7 @@ impl State {
         requires fixed { IsFor config.now script.now self.old.beside }
         requires tables { tables.now ≡ tables_of config.now }
         requires sources { HasSources config.now script.now self.old.world.tick self.old }
-        ensures gives { IfOk result (λ end. Gives events.old events.new self.new.world end (chain (due_parts config.now script.now) self.old.world)) }
+        ensures gives { IfOk result (λ end. Gives Appends events.old events.new self.new.world end (chain (due_parts config.now script.now) self.old.world)) }
         ensures fixed { IfOk result (λ _. fixed_in self.new.beside ≡ fixed_in self.old.beside) }
         ensures opened { IfOk result (λ end. None ≡ end → IsOpened config.now script.now self.old.world.tick self.new) }
     {
@@ -147,7 +147,7 @@ impl State {
         requires fixed { IsFor config.now script.now self.old.beside }
         requires tables { tables.now ≡ tables_of config.now }
         requires sources { HasSources config.now script.now self.old.world.tick self.old }
-        ensures gives { IfOk result (λ end. Gives events.old events.new self.new.world end (chain (later_parts config.now script.now) self.old.world)) }
+        ensures gives { IfOk result (λ end. Gives Appends events.old events.new self.new.world end (chain (later_parts config.now script.now) self.old.world)) }
         ensures fixed { IfOk result (λ _. fixed_in self.new.beside ≡ fixed_in self.old.beside) }
         ensures opened { IfOk result (λ end. None ≡ end → IsOpened config.now script.now self.old.world.tick self.new) }
     {
@@ -174,7 +174,7 @@ impl State {
         requires fixed { IsFor config.now script.now self.old.beside }
         requires tables { tables.now ≡ tables_of config.now }
         requires sources { HasSources config.now script.now self.old.world.tick self.old }
-        ensures gives { IfOk result (λ end. Gives events.old events.new self.new.world end (opening config.now script.now self.old.world)) }
+        ensures gives { IfOk result (λ end. Gives Appends events.old events.new self.new.world end (opening config.now script.now self.old.world)) }
         ensures fixed { IfOk result (λ _. fixed_in self.new.beside ≡ fixed_in self.old.beside) }
         ensures opened { IfOk result (λ end. None ≡ end → IsOpened config.now script.now self.old.world.tick self.new) }
     {
@@ -223,7 +223,7 @@ impl State {
         requires can { CanPass config.now script.now self.old }
         requires foresees { Foresees config.now self.old ahead }
         requires idle { self.old.world.tick < ahead.next }
-        ensures gives { IfOk result (λ _. Gives events.old events.new self.new.world None (opening config.now script.now self.old.world)) }
+        ensures gives { IfOk result (λ _. Gives Appends events.old events.new self.new.world None (opening config.now script.now self.old.world)) }
         ensures beside { IfOk result (λ _. self.new.beside ≡ self.old.beside) }
         ensures opened { IfOk result (λ _. IsOpened config.now script.now self.old.world.tick self.new) }
         ensures ahead { IfOk result (λ _. IsAhead config.now 1 self.new ahead.next) }
@@ -248,7 +248,7 @@ impl State {
         requires can { CanPass config.now script.now self.old }
         requires tables { tables.now ≡ tables_of config.now }
         requires foresees { Foresees config.now self.old ahead.old }
-        ensures gives { IfOk result (λ end. Gives events.old events.new self.new.world end (opening config.now script.now self.old.world)) }
+        ensures gives { IfOk result (λ end. Gives Appends events.old events.new self.new.world end (opening config.now script.now self.old.world)) }
         ensures fixed { IfOk result (λ _. fixed_in self.new.beside ≡ fixed_in self.old.beside) }
         ensures opened { IfOk result (λ end. None ≡ end → IsOpened config.now script.now self.old.world.tick self.new) }
         ensures ahead { IfOk result (λ end. None ≡ end → IsAhead config.now 1 self.new ahead.new.next) }
@@ -277,7 +277,7 @@ impl State {
         requires can { CanPass config.now script.now self.old }
         requires tables { tables.now ≡ tables_of config.now }
         requires foresees { Foresees config.now self.old ahead.old }
-        ensures gives { IfOk result (λ end. Gives events.old events.new self.new.world end (instant config.now script.now self.old.world)) }
+        ensures gives { IfOk result (λ end. Gives Appends events.old events.new self.new.world end (instant config.now script.now self.old.world)) }
         ensures fixed { IfOk result (λ _. fixed_in self.new.beside ≡ fixed_in self.old.beside) }
         ensures sources { IfOk result (λ end. None ≡ end → HasSources config.now script.now (self.old.world.tick + 1) self.new) }
         ensures foresees { IfOk result (λ end. None ≡ end → Foresees config.now self.new ahead.new) }

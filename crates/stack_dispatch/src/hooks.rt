@@ -5,7 +5,7 @@ ghost use Rattle.task_lang.specs.Limits.{AreExpressionsShort, is_expression_shor
 ghost use Rattle.task_lang.specs.declared.syntax.Stmt.{out-Stmt};
 ghost use Rattle.tt_world.specs.Hooks.{vars_by, outs_by, vars_after, outs_of, shuts_down, misses};
 ghost use Rattle.tt_world.specs.ConfigRules.{IsConfig};
-ghost use Rattle.tt_world.specs.Moved.{Gives};
+ghost use Rattle.tt_world.specs.Moved.{Appends, Gives};
 
 use crate::state::State;
 use task_lang::value::value;
@@ -71,7 +71,7 @@ impl State {
         events: &mut Series<Event>,
     ) -> Result<Option<RunEnd>, Memory>
         requires { IsConfig config.now }
-        ensures gives { IfOk result (λ over. Gives events.old events.new self.new.world over
+        ensures gives { IfOk result (λ over. Gives Appends events.old events.new self.new.world over
             (shuts_down config.now (Some end) self.old.world)) }
         ensures beside { IfOk result (λ _. self.new.beside ≡ self.old.beside) }
     {
@@ -97,7 +97,7 @@ impl State {
         events: &mut Series<Event>,
     ) -> Result<Option<RunEnd>, Memory>
         requires { IsConfig config.now }
-        ensures gives { IfOk result (λ over. Gives events.old events.new self.new.world over
+        ensures gives { IfOk result (λ over. Gives Appends events.old events.new self.new.world over
             (misses config.now task self.old.world)) }
         ensures beside { IfOk result (λ _. self.new.beside ≡ self.old.beside) }
     {

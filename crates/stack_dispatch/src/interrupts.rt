@@ -4,7 +4,7 @@ ghost use Rattle.std.specs.Prelude.{◌≡◌, ◌+◌, ◌≤◌, ◌<◌, ◌+
 ghost use Rattle.tt_base.specs.declared.event.Event.TheVariants as event;
 ghost use Rattle.tt_world.specs.ConfigRules.{IsConfig};
 ghost use Rattle.tt_world.specs.Gates.{enable, acceptances, arrivals, source_owner};
-ghost use Rattle.tt_world.specs.Moved.{Gives};
+ghost use Rattle.tt_world.specs.Moved.{Appends, Gives};
 ghost use Rattle.tt_world.specs.Rows.{routine_of};
 ghost use Rattle.tt_world.specs.ScriptRules.{IsScript};
 ghost use Rattle.tt_world.specs.World.{IsrSource, OisrSource};
@@ -90,7 +90,7 @@ impl State {
     /// Enables a time-triggered source.
     #[tactic(auto, unfolding(tt_world::specs::Gates::enable))]
     fn enable(&mut self, isr: IsrNo, events: &mut Events) -> Result<(), Memory>
-        ensures gives { IfOk result (λ _. Gives events.old events.new self.new.world None (enable (record { offset = 0; isr = isr }) self.old.world)) }
+        ensures gives { IfOk result (λ _. Gives Appends events.old events.new self.new.world None (enable (record { offset = 0; isr = isr }) self.old.world)) }
         ensures beside { IfOk result (λ _. self.new.beside ≡ self.old.beside) }
     {
         self.gates.enable(isr);
@@ -106,7 +106,7 @@ impl State {
         events: &mut Events,
     ) -> Result<(), Memory>
         requires { to ≤ length (enables_of table.now) }
-        ensures gives { IfOk result (λ _. Gives events.old events.new self.new.world None
+        ensures gives { IfOk result (λ _. Gives Appends events.old events.new self.new.world None
             (enables_by (slice_range (enables_of table.now) from to) self.old.world)) }
         ensures beside { IfOk result (λ _. self.new.beside ≡ self.old.beside) }
     {
@@ -135,7 +135,7 @@ impl State {
         requires script { IsScript config.now script.now }
         requires sources { AreSourcesOf config.now (window_in self.old) }
         requires left { AreLeftFrom config.now script.now self.old.world.tick (window_in self.old) }
-        ensures gives { IfOk result (λ _. Gives events.old events.new self.new.world None (arrivals config.now script.now self.old.world)) }
+        ensures gives { IfOk result (λ _. Gives Appends events.old events.new self.new.world None (arrivals config.now script.now self.old.world)) }
         ensures fixed { IfOk result (λ _. fixed_in self.new.beside ≡ fixed_in self.old.beside) }
         ensures sources { IfOk result (λ _. AreSourcesOf config.now (window_in self.new)) }
         ensures left { IfOk result (λ _. AreLeftFrom config.now script.now (self.old.world.tick + 1) (window_in self.new)) }
@@ -217,7 +217,7 @@ impl State {
     ) -> Result<(), Memory>
         requires rules { IsConfig config.now }
         requires sources { AreSourcesOf config.now (window_in self.old) }
-        ensures gives { IfOk result (λ _. Gives events.old events.new self.new.world None (acceptances config.now self.old.world)) }
+        ensures gives { IfOk result (λ _. Gives Appends events.old events.new self.new.world None (acceptances config.now self.old.world)) }
         ensures beside { IfOk result (λ _. self.new.beside ≡ self.old.beside) }
         ensures sources { IfOk result (λ _. AreSourcesOf config.now (window_in self.new)) }
         ensures none { IfOk result (λ _. NoneAccepted config.now self.new.world) }

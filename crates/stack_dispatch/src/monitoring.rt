@@ -2,7 +2,7 @@
 
 ghost use Rattle.std.specs.Prelude.{◌≡◌, ◌≤◌, length, IfOk, slice_range};
 ghost use Rattle.tt_world.specs.ConfigRules.{IsConfig};
-ghost use Rattle.tt_world.specs.Moved.{Gives};
+ghost use Rattle.tt_world.specs.Moved.{Appends, Gives};
 ghost use Rattle.round_table.specs.DueRows.{checks_of};
 ghost use Rattle.stack_dispatch.specs.Checking.{Checks, checked_entries, monitored_entries};
 
@@ -52,7 +52,7 @@ impl State {
     ) -> Result<Option<RunEnd>, Memory>
         requires rules { IsConfig config.now }
         requires within { to ≤ length (checks_of table.now) }
-        ensures gives { IfOk result (λ end. Gives events.old events.new self.new.world end
+        ensures gives { IfOk result (λ end. Gives Appends events.old events.new self.new.world end
             (monitored_entries config.now table.now.mode (slice_range (checks_of table.now) from to) self.old.world)) }
         ensures beside { IfOk result (λ _. self.new.beside ≡ self.old.beside) }
     {

@@ -2,7 +2,7 @@
 
 ghost use Rattle.std.specs.Prelude.{◌≡◌, ◌-◌, ◌≤◌, true, None, Some, IfOk};
 ghost use Rattle.tt_world.specs.Correction.{is_length};
-ghost use Rattle.tt_world.specs.Moved.{Gives};
+ghost use Rattle.tt_world.specs.Moved.{Appends, Gives};
 ghost use Rattle.tt_world.specs.Monitoring.{is_at_end, monitored};
 ghost use Rattle.tt_world.specs.Rounds.{head, latch, next_round, round_end};
 ghost use Rattle.tt_world.specs.Rows.{offset_of};
@@ -22,7 +22,7 @@ impl State {
     /// Notes the head of the run.
     #[tactic(auto, unfolding(tt_world::specs::Rounds::head))]
     pub(crate) fn begin(&self, script: &ScriptParts, events: &mut Events) -> Result<(), Memory>
-        ensures { IfOk result (λ _. Gives events.old events.new self.now.world None (head script.now self.now.world)) }
+        ensures { IfOk result (λ _. Gives Appends events.old events.new self.now.world None (head script.now self.now.world)) }
     {
         events.push(Event::OsStart {
             at: self.tick,
@@ -40,7 +40,7 @@ impl State {
     pub(crate) fn latch(&mut self, config: &ConfigParts, events: &mut Events) -> Result<(), Memory>
         requires round { self.old.beside.round ≡ config.now.round }
         requires late { Late 0 config.now self.old.world }
-        ensures gives { IfOk result (λ _. Gives events.old events.new self.new.world None (latch config.now self.old.world)) }
+        ensures gives { IfOk result (λ _. Gives Appends events.old events.new self.new.world None (latch config.now self.old.world)) }
         ensures beside { IfOk result (λ _. self.new.beside ≡ self.old.beside) }
     {
         if self.offset() != config.round.saturating_sub(config.adjust) {
@@ -74,7 +74,7 @@ impl State {
         requires served { IsServed Latched config.now script.now self.old.world }
         requires table { IsTableOf config.now table.now self.old.world }
         requires over { is_length self.old.world.latched (offset_of self.old.world) ≡ true }
-        ensures gives { IfOk result (λ end. Gives events.old events.new self.new.world end
+        ensures gives { IfOk result (λ end. Gives Appends events.old events.new self.new.world end
             (monitored config.now (is_at_end (offset_of self.old.world)) self.old.world)) }
         ensures beside { IfOk result (λ _. self.new.beside ≡ self.old.beside) }
     {
@@ -91,7 +91,7 @@ impl State {
     ) -> Result<Option<RunEnd>, Memory>
         requires rounds { self.old.beside.rounds ≡ script.now.rounds }
         requires over { is_length self.old.world.latched (offset_of self.old.world) ≡ true }
-        ensures gives { IfOk result (λ end. Gives events.old events.new self.new.world end (next_round script.now self.old.world)) }
+        ensures gives { IfOk result (λ end. Gives Appends events.old events.new self.new.world end (next_round script.now self.old.world)) }
         ensures beside { IfOk result (λ _. self.new.beside ≡ self.old.beside) }
     {
         let at = self.tick;
@@ -110,7 +110,7 @@ impl State {
     }
 
     /// The round's end, where the offset is the round's length.
-    #[tactic(auto, using(tt_world::proofs::Moves::gives_next, tt_world::proofs::Moves::gives_stop), unfolding(tt_world::specs::Rounds::round_end))]
+    #[tactic(auto, using(tt_world::proofs::Moves::gives_next, tt_world::proofs::Moves::gives_stop, tt_world::proofs::Moves::appends_is_telling), unfolding(tt_world::specs::Rounds::round_end))]
     pub(crate) fn end_round(
         &mut self,
         config: &ConfigParts,
@@ -121,7 +121,7 @@ impl State {
         requires served { IsServed Latched config.now script.now self.old.world }
         requires table { IsTableOf config.now table.now self.old.world }
         requires fixed { IsFor config.now script.now self.old.beside }
-        ensures gives { IfOk result (λ end. Gives events.old events.new self.new.world end (round_end config.now script.now self.old.world)) }
+        ensures gives { IfOk result (λ end. Gives Appends events.old events.new self.new.world end (round_end config.now script.now self.old.world)) }
         ensures beside { IfOk result (λ _. self.new.beside ≡ self.old.beside) }
     {
         if !self.is_over() {

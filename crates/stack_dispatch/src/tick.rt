@@ -4,7 +4,7 @@ ghost use Rattle.std.specs.Prelude.{◌≡◌, ◌+◌, ◌^◌, ◌<◌, ◌≤
 ghost use Rattle.task_lang.specs.Limits.{AreExpressionsShort, names_below};
 ghost use Rattle.task_lang.specs.Tick.{tick, supply_of, state_of};
 ghost use Rattle.tt_world.specs.ConfigRules.{IsConfig};
-ghost use Rattle.tt_world.specs.Moved.{Gives};
+ghost use Rattle.tt_world.specs.Moved.{Appends, Gives};
 ghost use Rattle.tt_world.specs.Runners.{is_done, left_of, job_at, runner_of};
 ghost use Rattle.tt_world.specs.Services.{is_shutdown};
 ghost use Rattle.tt_world.specs.Step.{run_line, is_somebody, runner_tick, tick_over, step};
@@ -220,7 +220,7 @@ impl State {
     ) -> Result<(), Memory>
         requires { self.old.world.tick + 1 < 2 ^ 64 }
         ensures gives { IfOk result (λ _.
-            Gives events.old events.new self.new.world None (tick_over who ended self.old.world)) }
+            Gives Appends events.old events.new self.new.world None (tick_over who ended self.old.world)) }
         ensures beside { IfOk result (λ _. self.new.beside ≡ self.old.beside) }
     {
         self.tick += 1;
@@ -245,7 +245,7 @@ impl State {
     ) -> Result<Ticked, Memory>
         requires can { CanTick config.now script.now self.old }
         requires runs { runner ≡ runner_of config.now self.old.world }
-        ensures gives { IfOk result (λ ticked. Gives events.old events.new self.new.world ticked.end
+        ensures gives { IfOk result (λ ticked. Gives Appends events.old events.new self.new.world ticked.end
             (step config.now script.now self.old.world)) }
         ensures ended { IfOk result (λ ticked.
             ticked.ended ≡ owner_ends config.now script.now self.old.world) }
@@ -272,7 +272,7 @@ impl State {
         events: &mut Series<Event>,
     ) -> Result<Ticked, Memory>
         requires { CanTick config.now script.now self.old }
-        ensures gives { IfOk result (λ ticked. Gives events.old events.new self.new.world ticked.end
+        ensures gives { IfOk result (λ ticked. Gives Appends events.old events.new self.new.world ticked.end
             (step config.now script.now self.old.world)) }
         ensures ended { IfOk result (λ ticked.
             ticked.ended ≡ owner_ends config.now script.now self.old.world) }

@@ -2,8 +2,9 @@ use Rattle.std.proofs.Common.{◌≡◌, ◌<◌, ℕ, List, [], ◌∷◌, ◌+
 use Rattle.tt_base.specs.declared.event.Event.{Event}
 use Rattle.tt_base.specs.declared.event.Event.TheVariants.{Accept}
 use Rattle.tt_world.specs.Gates.{acceptances}
-use Rattle.tt_world.specs.Moved.{Gives}
+use Rattle.tt_world.specs.Moved.{Appends, Gives}
 use Rattle.tt_world.specs.World.{World}
+use Rattle.tt_world.proofs.Moves.{appends_is_telling}
 use Rattle.isr_window.specs.Window.{Window, first_ready, accepting}
 use Rattle.isr_window.specs.Played.{with_window, Accepting, AreSourcesOf, begun}
 use Rattle.isr_window.proofs.Acceptances.{accepting_begin, accepting_more, accepting_end}
@@ -15,7 +16,7 @@ use Rattle.stack_dispatch.proofs.state.State.accept_all.Goals as goal
 
 pub sources-init : goal.sources-init
 sources-init c = record {
-  at = accepting_begin c.args.config.now c.args.events.now c.args.self.now.world (window_in c.args.self.now) c.busy-busy.result refl c.requires.sources c.busy-busy.ensures;
+  at = accepting_begin appends_is_telling c.args.config.now c.args.events.now c.args.self.now.world (window_in c.args.self.now) c.busy-busy.result refl c.requires.sources c.busy-busy.ensures;
   beside = refl;
 }
 
@@ -24,17 +25,16 @@ sources-preserved c =
     let st = c.sources.self in
     let busy = c.busy-busy.result in
     let next = accepting (first_ready busy (window_in st)) (window_in st) in
-    let more = accepting_more c.args.config.now _ _ _ st.world (window_in st) next busy c.in-Some.source c.sources.invariant.at c.in-Some.ensures.value refl in
     let world = c.in_ok-accept.ensures.world ∙ ap (λ (z : RunState). begun c.args.config.now c.in-Some.source z.world) c.take_held.ensures.state in
     let beside = c.in_ok-accept.ensures.beside ∙ ap (λ (z : RunState). z.beside) c.take_held.ensures.state in
     let noted : c.accept.new.events ≡ c.sources.events ++ Accept st.world.tick c.in-Some.source ∷ [] =
     c.in_ok-accept.ensures.events ∙ ap (λ (z : RunState). c.sources.events ++ Accept z.world.tick c.in-Some.source ∷ []) c.take_held.ensures.state in
+    let more = accepting_more appends_is_telling c.args.config.now _ _ c.accept.new.events _ st.world (window_in st) next busy c.in-Some.source c.sources.invariant.at c.in-Some.ensures.value refl noted in
     record {
-      at = subst (λ (g : Window). Accepting c.args.config.now c.args.events.now c.accept.new.events c.args.self.now.world c.accept.new.self.world g busy)
+      at = subst (λ (g : Window). Accepting Appends c.args.config.now c.args.events.now c.accept.new.events c.args.self.now.world c.accept.new.self.world g busy)
           (sym (accepted_window c.args.config.now c.in-Some.source next st c.accept.new.self world beside))
-          (subst (λ (w : World). Accepting c.args.config.now c.args.events.now c.accept.new.events c.args.self.now.world w next busy) (sym world)
-          (subst (λ es. Accepting c.args.config.now c.args.events.now es c.args.self.now.world (begun c.args.config.now c.in-Some.source (with_window st.world next)) next busy)
-          (sym noted) more));
+          (subst (λ (w : World). Accepting Appends c.args.config.now c.args.events.now c.accept.new.events c.args.self.now.world w next busy) (sym world)
+          more);
       beside = beside ∙ accepting_beside (first_ready busy (window_in st)) st ∙ c.sources.invariant.beside;
     }
 
@@ -49,19 +49,19 @@ sources-smaller c =
 pub returns-clause-gives : goal.returns-clause-gives
 returns-clause-gives c =
     let st = c.sources.self in
-    let end = accepting_end c.args.config.now _ _ _ _ _ _ _ c.sources.invariant.at c.in_default.ensures.value refl in
-    subst (λ (w : World). Gives c.args.events.now c.sources.events w None (acceptances c.args.config.now c.args.self.now.world))
+    let end = accepting_end appends_is_telling c.args.config.now _ _ _ _ _ _ _ c.sources.invariant.at c.in_default.ensures.value refl in
+    subst (λ (w : World). Gives Appends c.args.events.now c.sources.events w None (acceptances c.args.config.now c.args.self.now.world))
     (sym (ap (λ (z : RunState). z.world) c.take_held.ensures.state ∙ ap (with_window st.world) end.same ∙ c.sources.invariant.at.seen)) end.gives
 
 pub returns-clause-sources : goal.returns-clause-sources
 returns-clause-sources c =
-    let end = accepting_end c.args.config.now _ _ _ _ _ _ _ c.sources.invariant.at c.in_default.ensures.value refl in
+    let end = accepting_end appends_is_telling c.args.config.now _ _ _ _ _ _ _ c.sources.invariant.at c.in_default.ensures.value refl in
     subst (AreSourcesOf c.args.config.now) (sym (ap window_in c.take_held.ensures.state ∙ end.same)) c.sources.invariant.at.are
 
 pub returns-clause-none : goal.returns-clause-none
 returns-clause-none c =
     let st = c.sources.self in
-    let end = accepting_end c.args.config.now _ _ _ _ _ _ _ c.sources.invariant.at c.in_default.ensures.value refl in
+    let end = accepting_end appends_is_telling c.args.config.now _ _ _ _ _ _ _ c.sources.invariant.at c.in_default.ensures.value refl in
     subst (NoneAccepted c.args.config.now)
     (sym (ap (λ (z : RunState). z.world) c.take_held.ensures.state ∙ ap (with_window st.world) end.same ∙ c.sources.invariant.at.seen)) end.none
 

@@ -1,8 +1,8 @@
 use Rattle.std.proofs.Common.{◌≡◌, ◌+◌, None, refl, ap, sym, ◌∙◌, subst}
 use Rattle.std.proofs.lemmas.Result.{IfOk-weaker}
-use Rattle.tt_world.specs.Moved.{Outcome, Gives}
+use Rattle.tt_world.specs.Moved.{Outcome, Appends, Gives}
 use Rattle.tt_world.specs.Rounds.{latch, round_end}
-use Rattle.tt_world.proofs.Moves.{gives_first, gives_over}
+use Rattle.tt_world.proofs.Moves.{gives_first, gives_over, appends_is_telling}
 use Rattle.stack_dispatch.specs.Served.{IsOpened}
 use Rattle.stack_dispatch.proofs.Opened.{Kept, after, latch_kept, round_end_kept, has_sources, latched_served, begun_served}
 use Rattle.stack_dispatch.proofs.state.State.open_later.Goals as goal
@@ -13,20 +13,20 @@ end_round-requires-clause-served c =
 
 pub returns-in-Some-clause-gives : goal.returns-in-Some-clause-gives
 returns-in-Some-clause-gives c =
-    let over = subst (λ (o : Outcome). Gives c.latch.new.events c.end_round.new.events c.end_round.new.self.world o
+    let over = subst (λ (o : Outcome). Gives Appends c.latch.new.events c.end_round.new.events c.end_round.new.self.world o
     (round_end c.args.config.now c.args.script.now c.latch.new.self.world)) c.in-Some.is c.in_ok-end.ensures.gives in
-    gives_first _ _ _ _ _ _ _ _ _ c.in_ok-latch.ensures.gives (gives_over _ _ _ _ _ _ _ refl over)
+    gives_first appends_is_telling _ _ _ _ _ _ _ _ _ c.in_ok-latch.ensures.gives (gives_over _ _ _ _ _ _ _ refl over)
 
 pub open_due-requires-clause-served : goal.open_due-requires-clause-served
 open_due-requires-clause-served c =
-    let on = subst (λ (o : Outcome). Gives c.latch.new.events c.end_round.new.events c.end_round.new.self.world o
+    let on = subst (λ (o : Outcome). Gives Appends c.latch.new.events c.end_round.new.events c.end_round.new.self.world o
     (round_end c.args.config.now c.args.script.now c.latch.new.self.world)) c.in_default.is c.in_ok-end.ensures.gives in
     begun_served c.args.config.now c.args.script.now c.latch.new.self.world _ _ _ on
     (latched_served c.args.config.now c.args.script.now c.args.self.now.world _ _ _ c.in_ok-latch.ensures.gives c.requires.served)
 
 pub open_due-requires-clause-sources : goal.open_due-requires-clause-sources
 open_due-requires-clause-sources c =
-    let on = subst (λ (o : Outcome). Gives c.latch.new.events c.end_round.new.events c.end_round.new.self.world o
+    let on = subst (λ (o : Outcome). Gives Appends c.latch.new.events c.end_round.new.events c.end_round.new.self.world o
     (round_end c.args.config.now c.args.script.now c.latch.new.self.world)) c.in_default.is c.in_ok-end.ensures.gives in
     let first = after (Kept c.args.self.now.world) (latch c.args.config.now c.args.self.now.world) _ _ _ c.in_ok-latch.ensures.gives
     (latch_kept c.args.config.now c.args.script.now c.args.self.now.world) in
@@ -37,14 +37,14 @@ open_due-requires-clause-sources c =
 
 pub returns-clause-gives : goal.returns-clause-gives
 returns-clause-gives c =
-    let on = subst (λ (o : Outcome). Gives c.latch.new.events c.end_round.new.events c.end_round.new.self.world o
+    let on = subst (λ (o : Outcome). Gives Appends c.latch.new.events c.end_round.new.events c.end_round.new.self.world o
     (round_end c.args.config.now c.args.script.now c.latch.new.self.world)) c.in_default.is c.in_ok-end.ensures.gives in
     IfOk-weaker c.open_due.result _ _
-    (λ end h. gives_first _ _ _ _ _ _ _ _ _ c.in_ok-latch.ensures.gives (gives_first _ _ _ _ _ _ _ _ _ on h)) c.open_due.ensures.gives
+    (λ end h. gives_first appends_is_telling _ _ _ _ _ _ _ _ _ c.in_ok-latch.ensures.gives (gives_first appends_is_telling _ _ _ _ _ _ _ _ _ on h)) c.open_due.ensures.gives
 
 pub returns-clause-opened : goal.returns-clause-opened
 returns-clause-opened c =
-    let on = subst (λ (o : Outcome). Gives c.latch.new.events c.end_round.new.events c.end_round.new.self.world o
+    let on = subst (λ (o : Outcome). Gives Appends c.latch.new.events c.end_round.new.events c.end_round.new.self.world o
     (round_end c.args.config.now c.args.script.now c.latch.new.self.world)) c.in_default.is c.in_ok-end.ensures.gives in
     let first = after (Kept c.args.self.now.world) (latch c.args.config.now c.args.self.now.world) _ _ _ c.in_ok-latch.ensures.gives
     (latch_kept c.args.config.now c.args.script.now c.args.self.now.world) in
