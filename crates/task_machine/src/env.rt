@@ -1,6 +1,6 @@
 //! What the ticks of a body read and change: variables, and the values that the script gives for demands.
 
-ghost use Rattle.std.specs.Prelude.{◌≡◌, ◌<◌, ◌∷◌, ◌++◌, [], length, take, replicate, slice_set, IfOk};
+ghost use Rattle.std.specs.Prelude.{◌≡◌, ◌∷◌, ◌++◌, [], length, take, replicate, slice_set, IfOk};
 ghost use Rattle.task_machine.specs.Stored.{Store};
 
 use std::alloc::Global;
@@ -64,12 +64,11 @@ impl Env {
         &self.vars
     }
 
-    /// Gives a variable a value. Nothing else changes.
+    /// Gives a variable a value. Nothing else changes. A variable that is not there keeps nothing.
     pub fn set_var(&mut self, var: VarNo, value: i32)
-        requires { var.0 < length self.old.vars }
         ensures { self.new ≡ record self.old { vars = slice_set self.old.vars var.0 value } }
     {
-        self.vars.set(var, value);
+        self.vars.assign(var, value);
     }
 }
 

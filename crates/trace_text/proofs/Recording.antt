@@ -51,7 +51,7 @@ notes_then {S} {r} {names} {s} {m} {t} {xs} {ys} all split p q = record {
 }
 
 -- a count that rose after it did not fall
-rose_later : (a b c : ℕ) → a ≤ b → Rose b c → Rose a c
+pub rose_later : (a b c : ℕ) → a ≤ b → Rose b c → Rose a c
 rose_later a b c le rose = grind (arith, rose)
 
 -- some events were noted, and it was cut within others

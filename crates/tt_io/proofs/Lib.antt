@@ -1,2 +1,2 @@
 pub mod Passing
-mod Taking
+pub mod Taking

@@ -8,6 +8,7 @@ pub mod JobLists
 pub mod WhoRuns
 pub mod Forward
 pub mod Points
+pub mod Room
 pub mod Ends
 pub mod Modes
 pub mod Calling

@@ -107,7 +107,7 @@ module _ (c : ConfigParts) (s : ScriptParts) (rules : IsConfig c) where
       omega arith)) o)
       (cases_order entry (length w.jobs))
 
-  activated_placed : (w : World) (es : List Event) → Placed c 0 w → (found : Option ℕ)
+  pub activated_placed : (w : World) (es : List Event) → Placed c 0 w → (found : Option ℕ)
       → entry_at (offset_of w) (mode_of c w).activations ≡ found → Holds (Placed c 1) es (activated c found w)
   activated_placed w es p None e =
       record {

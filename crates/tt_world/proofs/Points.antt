@@ -150,7 +150,7 @@ module _ (c : ConfigParts) (s : ScriptParts) (rules : IsConfig c) where
       (omega arith)
       (point_is_from (mode_of c w) (row_of (mode_of c w) entry))
 
-  activated_ahead : (w : World) (es : List Event) → Ahead c 1 w → (found : Option ℕ)
+  pub activated_ahead : (w : World) (es : List Event) → Ahead c 1 w → (found : Option ℕ)
       → entry_at (offset_of w) (mode_of c w).activations ≡ found → Holds (Ahead c 1) es (activated c found w)
   activated_ahead w es a None e = a
   activated_ahead w es a (Some entry) e =
