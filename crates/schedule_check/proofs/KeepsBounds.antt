@@ -1,5 +1,5 @@
 -- That a script keeps its bounds is decided by the test of it.
-use Rattle.std.proofs.Common.{ℕ, zero, suc, ◌≡◌, ◌≢◌, ◌<◌, ◌≤◌, [], Bool, true, false, refl, ap, sym, ◌∙◌, subst, arith, length, ⊎_elim}
+use Rattle.std.proofs.Common.{ℕ, zero, suc, ◌≡◌, ◌≢◌, ◌<◌, ◌≤◌, [], Bool, true, false, refl, ap, ◌∙◌, arith, length, ⊎_elim}
 use Rattle.std.specs.Prelude.{IsTrue, ◌↔◌, ◌&&◌, nat_le, slice_get}
 use Rattle.std.specs.List.{list_all}
 use Rattle.std.proofs.lemmas.List.{get_or_past}

@@ -7,6 +7,7 @@ pub mod Answering
 pub mod KeptValues
 pub mod Sums
 pub mod Cuts
+pub mod Counting
 pub mod Largest
 pub mod Opened
 pub mod Sweeping

@@ -1,6 +1,7 @@
 pub mod Least
 pub mod TablesOf
 pub mod Demand
+pub mod Counts
 pub mod Kept
 pub mod Responses
 pub mod Windows

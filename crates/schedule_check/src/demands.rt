@@ -1,52 +1,24 @@
 //! How many ticks an activation and all that can delay it ask for.
 
-ghost use Rattle.std.specs.Prelude.{◌≡◌, ◌<◌, ◌≤◌, ◌^◌, length};
+ghost use Rattle.std.specs.Prelude.{◌≡◌, ℕ, ◌<◌, ◌≤◌, ◌*◌, ◌^◌, length, sum_by, slice_index_or};
+ghost use Rattle.std.specs.List.{range_with_len};
 ghost use Rattle.std.specs.Option.{ForSome};
-ghost use Rattle.schedule_check.specs.Demand.{demand, enables_in, isr_demand, isrs_demand, most_begins, tasks_demand};
+ghost use Rattle.schedule_check.specs.Demand.{demand, isr_demand, isr_of, most_begins};
 ghost use Rattle.tt_world.specs.ConfigRules.{IsConfig};
 ghost use Rattle.tt_world.specs.Rows.{row_of};
 ghost use Rattle.schedule_check.specs.TablesOf.{IsTableOf};
 
+use crate::counts::{Begun, Enabled, MOST};
 use round_table::Table;
-use tt_base::IsrNo;
+use std::marker::Model;
 use tt_world::{Config, ConfigParts, IsrDef};
-
-/// The budgets of the activations with offsets from one up to below another.
-fn tasks_demand(parts: &ConfigParts, table: &Table, from: u64, to: u64) -> u128
-    requires rules { IsConfig parts.now }
-    requires table { IsTableOf parts.now table.now }
-    requires later { from ≤ to }
-    ensures exact { result ≡ tasks_demand parts.now table.now.mode from to }
-    ensures bounded { result < 2 ^ 104 }
-{
-    let tasks = parts.tasks.as_slice();
-    let first = table.activations_before(from);
-    let mut sum = 0;
-    for entry in first..table.activations_before(to) {
-        sum += u128::from(tasks[usize::from(table.activation(entry).task.0)].budget);
-    }
-    sum
-}
-
-/// How many enables of a routine have offsets from one up to below another.
-fn enables_in(table: &Table, isr: IsrNo, from: u64, to: u64) -> u64
-    requires { from ≤ to }
-    ensures { result ≡ enables_in table.now.mode isr.0 from to }
-{
-    let enables = table.enables();
-    let first = table.enables_before(from);
-    let mut count = 0;
-    for place in first..table.enables_before(to) {
-        count += u64::from(enables[place].isr.0 == isr.0);
-    }
-    count
-}
 
 /// How often a routine begins at most in that many ticks with that many enables, beside what is
 /// carried over.
 fn most_begins(isr: &IsrDef, enables: u64, ticks: u64) -> u64
     requires { ForSome isr.now.distance (λ distance. 1 ≤ distance) }
-    ensures { result ≡ most_begins isr.now.distance enables ticks }
+    ensures exact { result ≡ most_begins isr.now.distance enables ticks }
+    ensures bounded { result ≤ enables }
 {
     match isr.distance {
         None => enables,
@@ -56,41 +28,92 @@ fn most_begins(isr: &IsrDef, enables: u64, ticks: u64) -> u64
 
 /// What a routine asks for in that many ticks with that many enables: its budget for an occurrence
 /// that is unfinished when they begin, for one that an open gate admits, and for the others.
-fn isr_demand(isr: &IsrDef, enables: u64, ticks: u64) -> u128
+fn isr_demand(isr: &IsrDef, enables: u64, ticks: u64) -> u64
     requires distance { ForSome isr.now.distance (λ distance. 1 ≤ distance) }
     requires budget { isr.now.budget ≤ 10 ^ 12 }
+    requires few { enables ≤ 4096 }
     ensures exact { result ≡ isr_demand isr.now enables ticks }
-    ensures bounded { result < 2 ^ 106 }
+    ensures bounded { result ≤ 10 ^ 12 * 4098 }
 {
-    u128::from(isr.budget) * (2 + u128::from(most_begins(isr, enables, ticks)))
+    isr.budget * (2 + most_begins(isr, enables, ticks))
 }
 
-/// What the time-triggered routines ask for from an offset up to a later one.
-fn isrs_demand(parts: &ConfigParts, table: &Table, from: u64, to: u64) -> u128
+/// What the time-triggered routines ask for in that many ticks with that many enables of each.
+fn isrs_demand(parts: &ConfigParts, counts: &[u64; MOST], ticks: u64) -> u64
     requires rules { IsConfig parts.now }
-    requires later { from ≤ to }
-    ensures exact { result ≡ isrs_demand parts.now table.now.mode from to }
-    ensures bounded { result < 2 ^ 111 }
+    requires few { (k : ℕ) → k < 16 → slice_index_or counts.now k 0 ≤ 4096 }
+    ensures exact { result ≡ sum_by
+        (λ number. isr_demand (isr_of parts.now number) (slice_index_or counts.now number 0) ticks)
+        (range_with_len 0 (length parts.now.isrs)) }
+    ensures bounded { result < 2 ^ 57 }
 {
     let isrs = parts.isrs.as_slice();
     let mut sum = 0;
     for (number, isr) in isrs.iter().enumerate() {
-        let enables = enables_in(table, IsrNo(number as u16), from, to);
-        sum += isr_demand(isr, enables, to - from);
+        sum += isr_demand(isr, counts[number], ticks);
     }
     sum
 }
 
-/// What activations and routines ask for from an offset up to a later one.
-#[tactic(auto, unfolding(crate::specs::Demand::demand))]
-pub(crate) fn demand_between(parts: &ConfigParts, table: &Table, from: u64, to: u64) -> u128
-    requires rules { IsConfig parts.now }
-    requires table { IsTableOf parts.now table.now }
-    requires later { from ≤ to }
-    ensures exact { result ≡ demand parts.now table.now.mode from to }
-    ensures bounded { result < 2 ^ 112 }
-{
-    tasks_demand(parts, table, from, to) + isrs_demand(parts, table, from, to)
+/// A window of the round: from the offset of an activation up to a later one, which moves on. Each
+/// row is counted once.
+#[derive(Drop)]
+pub(crate) struct Window<'a> {
+    parts: &'a ConfigParts,
+    table: &'a Table,
+    from: u64,
+    to: u64,
+    begun: Begun,
+    enabled: Enabled,
+}
+
+impl<'a> Model for Window<'a> {
+    ghost use Rattle.std.specs.Coded.{codes};
+    ghost use Rattle.task_lang.specs.contracts.syntax.Stmt as stmt;
+    ghost use Rattle.schedule_check.specs.Counts.{IsCounted, Window};
+
+    ghost Value = { Window };
+
+    ghost coded = { Prim.hlevel (codes, stmt.the_row.coded) };
+
+    ghost view = { λ w. record { parts = w.parts.now; mode = w.table.now.mode; from = w.from; to = w.to } };
+
+    ghost invariant = { λ w. IsCounted w.parts.now w.table.now w.from w.to w.begun w.enabled };
+}
+
+impl<'a> Window<'a> {
+    /// The window that ends at the offset from which it is.
+    pub(crate) fn new(parts: &'a ConfigParts, table: &'a Table, from: u64) -> Window<'a>
+        requires rules { IsConfig parts.now }
+        requires table { IsTableOf parts.now table.now }
+        ensures { result ≡ record { parts = parts.now; mode = table.now.mode; from = from; to = from } }
+    {
+        Window {
+            parts,
+            table,
+            from,
+            to: from,
+            begun: Begun::none(table.activations_before(from)),
+            enabled: Enabled::none(table.enables_before(from)),
+        }
+    }
+
+    /// Moves the end on to an offset.
+    pub(crate) fn extend(&mut self, to: u64)
+        requires { self.old.to ≤ to }
+        ensures { self.new ≡ record self.old { to = to } }
+    {
+        self.begun.extend(self.parts, self.table.activations(), to);
+        self.enabled.extend(self.table.enables(), to);
+        self.to = to;
+    }
+
+    /// What activations and routines ask for in it.
+    pub(crate) fn demand(&self) -> u64
+        ensures { result ≡ demand self.now.parts self.now.mode self.now.from self.now.to }
+    {
+        self.begun.budgets + isrs_demand(self.parts, &self.enabled.counts, self.to - self.from)
+    }
 }
 
 /// The demand of an activation from its offset up to a later offset of the round, in ticks: the
@@ -105,5 +128,7 @@ pub fn demand(config: &Config, table: &Table, entry: usize, t: u64) -> u128
     requires later { (row_of table.now.mode entry).offset < t }
     ensures { result ≡ demand config.now table.now.mode (row_of table.now.mode entry).offset t }
 {
-    demand_between(config.parts(), table, table.activation(entry).offset, t)
+    let mut window = Window::new(config.parts(), table, table.activation(entry).offset);
+    window.extend(t);
+    u128::from(window.demand())
 }

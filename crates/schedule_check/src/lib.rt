@@ -6,6 +6,7 @@
 
 mod answers;
 mod bounds;
+mod counts;
 mod demands;
 mod laws;
 mod responses;

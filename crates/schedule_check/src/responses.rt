@@ -5,7 +5,7 @@ ghost use Rattle.tt_world.specs.Rows.{row_of};
 ghost use Rattle.schedule_check.specs.Responses.{response};
 ghost use Rattle.schedule_check.specs.TablesOf.{IsTableOf};
 
-use crate::demands::demand_between;
+use crate::demands::Window;
 use round_table::Table;
 use tt_world::Config;
 
@@ -18,18 +18,19 @@ pub fn response(config: &Config, table: &Table, entry: usize) -> Option<u64>
     requires entry { entry < length table.now.mode.activations }
     ensures { result ≡ response config.now table.now.mode (row_of table.now.mode entry) }
 {
-    let parts = config.parts();
     let row = table.activation(entry);
+    let mut window = Window::new(config.parts(), table, row.offset);
     let mut end = row.offset + 1;
     while end <= row.deadline {
-        let demand = demand_between(parts, table, row.offset, end);
-        if demand <= u128::from(end - row.offset) {
+        window.extend(end);
+        let demand = window.demand();
+        if demand <= end - row.offset {
             return Some(end);
         }
-        if demand > u128::from(row.deadline - row.offset) {
+        if demand > row.deadline - row.offset {
             return None;
         }
-        end = row.offset + demand as u64;
+        end = row.offset + demand;
     }
     None
 }
