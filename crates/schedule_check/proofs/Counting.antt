@@ -25,11 +25,13 @@ and_rest true b e h = h
 and_rest false b e h = cc
 
 module _ {X : Type 0} (key : X → ℕ) (d : X) (rows : List X) (to : ℕ) where
+  -- the row is there
   pub there : (place : ℕ) → is_before key d rows to place ≡ true → place < length rows
   there place e = ltb-true place (length rows) (and_parts (nat_lt place (length rows)) _ e).0
 
   -- one row more
-  pub before_more : (place : ℕ) → AreBefore key rows to place → is_before key d rows to place ≡ true → AreBefore key rows to (place + 1)
+  pub before_more : (place : ℕ) → AreBefore key rows to place → is_before key d rows to place ≡ true
+      → AreBefore key rows to (place + 1)
   before_more place before e k other l =
       ⊎_elim (λ (less : k < place). before k other less)
       (λ (ge : place ≤ k).
@@ -40,8 +42,8 @@ module _ {X : Type 0} (key : X → ℕ) (d : X) (rows : List X) (to : ℕ) where
       (cases_lt k place)
 
   -- where the rows ascend, the first place with no such row is the cut
-  pub cut_here : IsNonDecreasingBy key rows → (place : ℕ) → place ≤ length rows → AreBefore key rows to place → is_before key d rows to place ≡ false
-      → IsCut (λ x. nat_lt (key x) to) rows place
+  pub cut_here : IsNonDecreasingBy key rows → (place : ℕ) → place ≤ length rows → AreBefore key rows to place
+      → is_before key d rows to place ≡ false → IsCut (λ x. nat_lt (key x) to) rows place
   cut_here up place within before stop = record {
     within = within;
     front = before;
@@ -54,18 +56,9 @@ module _ {X : Type 0} (key : X → ℕ) (d : X) (rows : List X) (to : ℕ) where
         le-ltb (key (get_or rows k other)) to (omega arith);
   }
 
--- what is before an offset is before a later one
-pub before_later : {X : Type 0} (key : X → ℕ) (rows : List X) (from to place : ℕ) → from ≤ to
-    → IsCut (λ x. nat_lt (key x) from) rows place → AreBefore key rows to place
-before_later key rows from to place order cut k other l =
-    let less = ltb-true (key (get_or rows k other)) from (cut.front k other l) in
-    lt-ltb (key (get_or rows k other)) to (omega arith)
-
--- ---- one row more
-
 -- an enable counts for its routine alone
-pub enabled_more : (rows : List Enable) (enabled : Enabled) (isr : ℕ) → AreEnabled rows enabled → enabled.end < length rows
-    → isr ≡ (get_or rows enabled.end no_enable).isr.0 → isr < 16
+pub enabled_more : (rows : List Enable) (enabled : Enabled) (isr : ℕ) → AreEnabled rows enabled
+    → enabled.end < length rows → isr ≡ (get_or rows enabled.end no_enable).isr.0 → isr < 16
     → AreEnabled rows (record {
       first = enabled.first;
       end = enabled.end + 1;
@@ -103,6 +96,7 @@ both_count false false = refl
 
 module _ (c : ConfigParts) (table : TableRows) (from to : ℕ) (begun : Begun) (enabled : Enabled)
     (counted : IsCounted c table from to begun enabled) where
+  -- the budgets that were added up are those that the demand sums
   pub budgets_are : begun.budgets ≡ tasks_demand c table.mode from to
   budgets_are =
       let all = between_cuts (λ (row : Activation). row.offset) (task_budget c) no_row from to counted.order
@@ -110,8 +104,9 @@ module _ (c : ConfigParts) (table : TableRows) (from to : ℕ) (begun : Begun) (
       let so_far = counted.activations.budgets in
       omega arith
 
-  pub enables_are : (isr : ℕ) → isr < 16 → get_or enabled.counts isr 0 ≡ enables_in table.mode isr from to
-  enables_are isr few =
+  -- the enables that were counted are those of the demand
+  pub counts_are : (isr : ℕ) → isr < 16 → get_or enabled.counts isr 0 ≡ enables_in table.mode isr from to
+  counts_are isr few =
       let b : Enable → ℕ = λ row. cond (row.isr.0 == isr) 1 0 in
       let all = between_cuts (λ (row : Enable). row.offset) b no_enable from to counted.order
       table.mode.enables enabled.first enabled.end counted.first_enabled counted.end_enabled in
@@ -133,4 +128,4 @@ module _ (c : ConfigParts) (table : TableRows) (from to : ℕ) (begun : Begun) (
       let long = length-range_with_len 0 (length c.isrs) in
       let at = get_or-range_with_len 0 (length c.isrs) i 0 (omega arith) in
       ap (λ (k : ℕ). isr_demand (isr_of c (get_or (range_with_len 0 (length c.isrs)) i 0)) k (to - from))
-      (enables_are (get_or (range_with_len 0 (length c.isrs)) i 0) (omega arith)))
+      (counts_are (get_or (range_with_len 0 (length c.isrs)) i 0) (omega arith)))

@@ -2,7 +2,7 @@
 use Rattle.std.proofs.Common.{ℕ, zero, suc, ◌≡◌, ◌<◌, ◌≤◌, ◌+◌, List, [], ◌∷◌, Bool, refl, ap, sym, ◌∙◌, arith, get_or, take, ⊎_elim}
 use Rattle.std.specs.Prelude.{sum_by, cond, nat_le, nat_lt}
 use Rattle.std.proofs.lemmas.List.Sums.{sum_by-cons}
-use Rattle.std.proofs.lemmas.Bool.{cases_lt, cond-true, cond-false, and_left, and_right, and_from, lt-ltb, le-ltb, le-leb, lt-leb, ltb-true, ltb-false}
+use Rattle.std.proofs.lemmas.Bool.{cases_lt, cond-true, cond-false, and_left, and_right, and_from, lt-ltb, le-ltb, le-leb, lt-leb}
 use Rattle.round_table.specs.Cuts.{IsCut}
 use Rattle.schedule_check.specs.Demand.{is_within}
 use Rattle.schedule_check.proofs.Sums.{sum_both, sum_same_at}
@@ -72,16 +72,3 @@ module _ {X : Type 0} (key : X → ℕ) (b : X → ℕ) (d : X) (from to : ℕ) 
       (λ x. cond (nat_lt (key x) to) (b x) 0) d xs
       (λ i l. within_split from to (key (get_or xs i d)) (b (get_or xs i d)) order)
       ∙ sym (cut_sum b (λ x. nat_lt (key x) to) xs end above)
-
-  -- the cut of a later offset is no earlier
-  pub cuts_rise : (xs : List X) (first end : ℕ) → IsCut (λ x. nat_lt (key x) from) xs first
-      → IsCut (λ x. nat_lt (key x) to) xs end → first ≤ end
-  cuts_rise xs first end below above =
-      ⊎_elim
-      (λ (l : end < first).
-      let within = below.within in
-      let before = ltb-true (key (get_or xs end d)) from (below.front end d l) in
-      let after = ltb-false (key (get_or xs end d)) to (above.back end d (omega arith) (omega arith)) in
-      absurd (omega arith))
-      (λ (g : first ≤ end). g)
-      (cases_lt end first)

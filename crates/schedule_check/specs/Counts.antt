@@ -27,7 +27,8 @@ AreBefore {X} offset rows to place =
 -- activations from one place up to below another have these budgets
 pub record AreBegun (c : ConfigParts) (rows : List Activation) (begun : Begun) : Type 0 where
   pub within : begun.end ≤ length rows
-  pub budgets : begun.budgets + sum_by (task_budget c) (take begun.first rows) ≡ sum_by (task_budget c) (take begun.end rows)
+  pub budgets : begun.budgets + sum_by (task_budget c) (take begun.first rows)
+      ≡ sum_by (task_budget c) (take begun.end rows)
   pub bounded : begun.budgets ≤ begun.end * 10 ^ 12
 
 -- how many enables of a routine stand in front of a place
@@ -39,7 +40,8 @@ pub record AreEnabled (rows : List Enable) (enabled : Enabled) : Type 0 where
   pub within : enabled.end ≤ length rows
   pub all : length enabled.counts ≡ 16
   pub counts : (isr : ℕ) → isr < 16
-      → slice_index_or enabled.counts isr 0 + enables_in_front rows isr enabled.first ≡ enables_in_front rows isr enabled.end
+      → slice_index_or enabled.counts isr 0 + enables_in_front rows isr enabled.first
+      ≡ enables_in_front rows isr enabled.end
 
 -- from one offset of a mode of a configuration up to a later one
 pub record Window : Type 0 where
@@ -49,7 +51,8 @@ pub record Window : Type 0 where
   pub to : ℕ
 
 -- what is counted of the rows of a table in a window
-pub record IsCounted (c : ConfigParts) (table : TableRows) (from to : ℕ) (begun : Begun) (enabled : Enabled) : Type 0 where
+pub record IsCounted (c : ConfigParts) (table : TableRows) (from to : ℕ) (begun : Begun)
+    (enabled : Enabled) : Type 0 where
   pub rules : IsConfig c
   pub table_is : IsTableOf c table
   pub order : from ≤ to

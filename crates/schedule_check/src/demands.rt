@@ -55,8 +55,8 @@ fn isrs_demand(parts: &ConfigParts, counts: &[u64; MOST], ticks: u64) -> u64
     sum
 }
 
-/// A window of the round: from the offset of an activation up to a later one, which moves on. Each
-/// row is counted once.
+/// A window of the round: from an offset up to a later one, which moves on. The rows in between are
+/// counted as it comes to them, each once.
 #[derive(Drop)]
 pub(crate) struct Window<'a> {
     parts: &'a ConfigParts,
@@ -76,17 +76,23 @@ impl<'a> Model for Window<'a> {
 
     ghost coded = { Prim.hlevel (codes, stmt.the_row.coded) };
 
-    ghost view = { λ w. record { parts = w.parts.now; mode = w.table.now.mode; from = w.from; to = w.to } };
+    ghost view = { λ w. record {
+      parts = w.parts.now;
+      mode = w.table.now.mode;
+      from = w.from;
+      to = w.to;
+    } };
 
     ghost invariant = { λ w. IsCounted w.parts.now w.table.now w.from w.to w.begun w.enabled };
 }
 
 impl<'a> Window<'a> {
-    /// The window that ends at the offset from which it is.
+    /// The window at an offset, with nothing in it yet.
     pub(crate) fn new(parts: &'a ConfigParts, table: &'a Table, from: u64) -> Window<'a>
         requires rules { IsConfig parts.now }
         requires table { IsTableOf parts.now table.now }
-        ensures { result ≡ record { parts = parts.now; mode = table.now.mode; from = from; to = from } }
+        ensures { result
+            ≡ record { parts = parts.now; mode = table.now.mode; from = from; to = from } }
     {
         Window {
             parts,
@@ -98,7 +104,7 @@ impl<'a> Window<'a> {
         }
     }
 
-    /// Moves the end on to an offset.
+    /// Moves its end on to an offset, which is not in it.
     pub(crate) fn extend(&mut self, to: u64)
         requires { self.old.to ≤ to }
         ensures { self.new ≡ record self.old { to = to } }
@@ -108,7 +114,7 @@ impl<'a> Window<'a> {
         self.to = to;
     }
 
-    /// What activations and routines ask for in it.
+    /// What the activations and the routines ask for in it.
     pub(crate) fn demand(&self) -> u64
         ensures { result ≡ demand self.now.parts self.now.mode self.now.from self.now.to }
     {

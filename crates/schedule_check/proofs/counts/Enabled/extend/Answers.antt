@@ -10,7 +10,8 @@ loop-self-preserved c =
     let rows = c.args.rows.now in
     let enabled = c.loop-self.self in
     let before = sym c.is_enable_before.ensures ∙ c.loop-self-test.true in
-    let l : enabled.end < length rows = there (λ (row : Enable). row.offset) no_enable rows c.args.to enabled.end before in
+    let l : enabled.end < length rows =
+    there (λ (row : Enable). row.offset) no_enable rows c.args.to enabled.end before in
     let small : c.from.result < 16 = subst (λ (isr : ℕ). isr < 16) (sym c.from.ensures)
     (All-get_or (λ (row : Enable). row.isr.0 < 16) rows enabled.end no_enable l c.requires.isrs) in
     record {

@@ -8,7 +8,8 @@ pub returns : goal.returns
 unfolding demand
 returns c =
     let inside = c.self.inside in
-    let tasks = budgets_are inside.parts.now inside.table.now inside.from inside.to inside.begun inside.enabled c.self.invariant in
+    let tasks = budgets_are inside.parts.now inside.table.now inside.from inside.to inside.begun inside.enabled
+    c.self.invariant in
     let isrs = c.isrs_demand.ensures.exact
     ∙ isrs_are inside.parts.now inside.table.now inside.from inside.to inside.begun inside.enabled c.self.invariant
     c.self.invariant.rules.few.isrs in
