@@ -104,7 +104,7 @@ module _ (c : ConfigParts) (s : ScriptParts) (rules : IsConfig c) where
   unfolding head
   head_ahead w es z a = a
 
-  latch_ahead : Leads (Alone (Ahead c 0)) (Alone (Ahead c 0)) Anything (latch c)
+  pub latch_ahead : Leads (Alone (Ahead c 0)) (Alone (Ahead c 0)) Anything (latch c)
   unfolding latch
   latch_ahead w es a =
       cond_both (eqb (offset_of w) (c.round - c.adjust)) _ _ (Holds (Ahead c 0) es)
@@ -116,7 +116,7 @@ module _ (c : ConfigParts) (s : ScriptParts) (rules : IsConfig c) where
       cond_both (eqb w.number s.rounds) _ _ (Holds (Ahead c 0) es) (λ _. tt)
       (λ _. record { started = omega arith; ahead = λ place l u. absurd (omega arith) })
 
-  round_end_ahead : Leads (Alone (Ahead c 0)) (Alone (Ahead c 0)) Anything (round_end c s)
+  pub round_end_ahead : Leads (Alone (Ahead c 0)) (Alone (Ahead c 0)) Anything (round_end c s)
   unfolding round_end
   round_end_ahead w es a =
       cond_both (is_length w.latched (offset_of w)) _ _ (Holds (Ahead c 0) es)
@@ -125,7 +125,7 @@ module _ (c : ConfigParts) (s : ScriptParts) (rules : IsConfig c) where
       (monitored_holds (Ahead c 0) c (is_at_end (offset_of w)) w es (λ _. a)) next_round_ahead)
       (λ _. a)
 
-  checks_ahead : Leads (Alone (Ahead c 0)) (Alone (Ahead c 1)) Anything (checks c)
+  pub checks_ahead : Leads (Alone (Ahead c 0)) (Alone (Ahead c 1)) Anything (checks c)
   unfolding checks
   checks_ahead w es a =
       monitored_holds (Ahead c 1) c (is_at (offset_of w)) w es
