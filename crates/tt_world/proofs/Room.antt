@@ -116,7 +116,7 @@ module _ (c : ConfigParts) (w : World) (single : AreTasksSingle c w)
 -- each row has a task that exists
 module _ (c : ConfigParts) (s : ScriptParts) (rules : IsConfig c) (w : World) (ahead : Ahead c 1 w) (placed : Placed c 0 w)
     (entry : ℕ) (found : entry_at (offset_of w) (mode_of c w).activations ≡ Some entry) where
-  task_exists : (i : ℕ) → i < length (mode_of c w).activations → (row_of (mode_of c w) i).task.0 < length c.tasks
+  pub task_exists : (i : ℕ) → i < length (mode_of c w).activations → (row_of (mode_of c w) i).task.0 < length c.tasks
   task_exists i l =
       let row = row_of (mode_of c w) i in
       let here = list_all_get (is_activation c) (mode_of c w).activations i no_row (mode_rows c w.mode.0 rules).activations l in
