@@ -13,7 +13,7 @@ use Rattle.tt_world.specs.declared.config.ConfigParts.{ConfigParts}
 use Rattle.tt_world.specs.declared.script.ScriptParts.{ScriptParts}
 use Rattle.tt_world.specs.Schedule.{schedule}
 use Rattle.tt_world.specs.Status as ending
-use Rattle.tt_config.specs.declared.broken.Broken.{Broken}
+use Rattle.tt_rules.specs.declared.broken.Broken.{Broken}
 use Rattle.tt_config.specs.Broken.{broken_rule}
 use Rattle.tt_config.specs.Parts.{config_of, script_of}
 use Rattle.osektime_core.specs.declared.words.Command.{Command}

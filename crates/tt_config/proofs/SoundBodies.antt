@@ -1,288 +1,260 @@
--- The bodies of the parts that sound rows give meet the rules of a configuration, where the rows break none of the rules on bodies.
-use Rattle.std.proofs.Common.{◌≡◌, ℕ, ◌^◌, ◌<◌, Bool, true, false, List, [], ◌∷◌, All, length, refl, arith, subst, sym, ap}
-use Rattle.std.specs.Prelude.{◌&&◌, nat_lt}
-use Rattle.std.specs.List.{list_all}
-use Rattle.std.proofs.lemmas.Bool.{or_parts, ltb-false}
-use Rattle.std.proofs.lemmas.List.Elements.{All-nil, All-cons, All-append, All-head}
+-- The bodies of a configuration meet its rules.
+use Rattle.std.proofs.Common.{◌≡◌, ℕ, ◌^◌, ◌<◌, ◌≤◌, Bool, true, false, List, [], ◌∷◌, All, length, refl, ap, sym, ◌∙◌, arith, subst}
+use Rattle.std.specs.Prelude.{◌&&◌, ◌||◌, nat_le, flat_map}
+use Rattle.std.specs.List.{AllByRecursion as Each, list_all}
+use Rattle.std.proofs.lemmas.Bool.{and_parts, leb-true}
+use Rattle.std.proofs.lemmas.List.Elements.{All-from_recursion}
+use Rattle.task_lang.specs.declared.allowed.OwnerKind.TheVariants as kind
+use Rattle.task_lang.specs.declared.demand.Demand.{Demand}
 use Rattle.task_lang.specs.declared.syntax.Stmt.{Stmt}
-use Rattle.task_lang.specs.declared.allowed.OwnerKind.{OwnerKind}
-use Rattle.task_lang.specs.declared.allowed.OwnerKind.TheVariants as owner
-use Rattle.task_lang.specs.Limits.{HasVariables, HasDemands, HasCallees}
+use Rattle.task_lang.specs.Limits.{IsNestedInLimit, IsCountInLimit, HasVariables, HasDemands, HasCallees, AreMostsInRange, AreUsualsInRange, each_in, is_expression_short, is_number_in_range, has_variables, has_demand, has_callee}
 use Rattle.task_lang.specs.Worst.{worst_in}
-use Rattle.task_lang.proofs.Numbers.{and_right}
+use Rattle.tt_base.specs.declared.names.NameEntry.{NameEntry}
 use Rattle.tt_base.specs.declared.names.NameKind.TheVariants as Kind
 use Rattle.tt_base.specs.Names.{count_of}
-use Rattle.tt_world.specs.ConfigRules.{IsBody, IsRoutine, IsTask, IsIsr, IsOsek, IsOisr}
+use Rattle.tt_world.specs.declared.config.ConfigParts.{ConfigParts}
+use Rattle.tt_world.specs.ConfigRules.{IsBody, IsRoutine, IsTask, IsIsr, IsOsek, IsOisr, is_distance}
 use Rattle.tt_rows.specs.declared.row.Row.{Row}
 use Rattle.tt_rows.specs.declared.row.Row.TheVariants as r
 use Rattle.tt_rows.specs.declared.row.NumberedRow.{NumberedRow}
-use Rattle.tt_config.specs.Lines.{lines_where}
-use Rattle.tt_rows.specs.Sound.{AreSound, is_sound_row}
-use Rattle.tt_config.specs.MeetsRules.{MeetsRules}
-use Rattle.tt_config.specs.BodyRules.{MeetsBodyRules, BodiesAreSound}
-use Rattle.tt_config.specs.Structure.{Standing, Opener, standing_of, Open, Body, stack_after}
-use Rattle.tt_config.specs.Names.{names_in}
-use Rattle.tt_config.specs.Bodies.{body_from}
-use Rattle.tt_config.specs.Parts.{demands_of, task_of, isr_of, osek_of, oisr_of, error_hook_of, shutdown_hook_of, each_with_rest, first_or, config_of}
-use Rattle.tt_config.specs.Rules.{is_outside, is_nothing, stack_or, stack_behind, has_number_outside, lines_9, names_undeclared, owner_after, lines_15_from, opens_routine, begins_with_end, lines_16, lines_17_from}
-use Rattle.tt_config.proofs.Heights.{none_line_if, lines_2-step}
-use Rattle.tt_config.proofs.BodyLimits.{AreInBlocks, behind, nested-body_from, counted-body_from, in_range, numbers-body_from}
-use Rattle.tt_config.proofs.BodyExpressions.{expressions-body_from}
-use Rattle.tt_config.proofs.RowLines.{within}
-use Rattle.tt_config.proofs.Named.{named}
-use Rattle.tt_config.proofs.BodyNames.{variables-body_from, demands-body_from, callees-body_from}
-use Rattle.tt_config.proofs.BodyStatements.{allowed-body_from, some-body_from}
+use Rattle.tt_parts.specs.declared.located.At.{At}
+use Rattle.tt_parts.specs.declared.bodies.Owner.{Owner}
+use Rattle.tt_parts.specs.declared.bodies.Owner.TheVariants as owner
+use Rattle.tt_parts.specs.declared.bodies.BodyPart.{BodyPart}
+use Rattle.tt_parts.specs.Located.{each_at, parts}
+use Rattle.tt_parts.specs.Bodies.{bodies_of, owner_in}
+use Rattle.tt_parts.specs.Entries.{demand_in}
+use Rattle.tt_parts.specs.Names.{names_in}
+use Rattle.tt_rules.specs.BodyRules.{AreTellable, IsTellable, has_statement, is_hook, is_light}
+use Rattle.tt_rules.specs.DeclarationRules.{has_numbers_in_range, lines_9}
+use Rattle.tt_rules.specs.Document.{rows_at}
+use Rattle.tt_rules.specs.Laws.{IsBodySound, kind_of}
+use Rattle.tt_rules.specs.RoundRules.{is_within}
+use Rattle.tt_rules.specs.Shapes.{Every, failing}
+use Rattle.tt_rules.specs.StructureRules.{lines_2, lines_3}
+use Rattle.tt_rules.proofs.Each.{all_from_each, each_flat_map, each_map, each_weaker}
+use Rattle.tt_rules.proofs.Kept.{kept_one}
+use Rattle.tt_rules.proofs.SoundBodies.{bodies_sound, none-here, number_passes, shallow-number}
+use Rattle.tt_config.specs.BodyRules.{BodiesAreSound, HasSoundBodies, KeepBodyRules}
+use Rattle.tt_config.specs.Document.{elaborated_of}
+use Rattle.tt_config.specs.Owners.{AreFit, FitsOwner, task_by, task_in, isr_by, isr_in, osek_by, osek_in, oisr_by, oisr_in, error_hook_by, error_hook_in, shutdown_hook_by, shutdown_hook_in, first_body}
+use Rattle.tt_config.specs.Parts.{config_of, config_with}
+use Rattle.tt_config.proofs.BodyTests.{bodies_pass, shallow_expressions, row_short, shallow_variables, row_variables, shallow_demand, row_demand, shallow_callee, row_callee}
+use Rattle.tt_config.proofs.Counted.{named}
+use Rattle.tt_config.proofs.Limits.{bodies_nested, bodies_counted}
+use Rattle.tt_config.proofs.Rows.{EachRow, IsRowFit, IfPart, each_owner, each_part, each_row, rows_fit}
 
--- sound rows that break no rule break none of those on bodies
-pub body_rules : (rows : List NumberedRow) → AreSound rows → MeetsRules rows → length rows < 2 ^ 32 → MeetsBodyRules rows
-body_rules rows sound rules short = record {
-  sound = sound;
-  short = short;
-  rule_2 = rules.rule_2;
-  rule_3 = rules.rule_3;
-  rule_9 = rules.rule_9;
-  rule_14 = rules.rule_14;
-  rule_15 = rules.rule_15;
-  rule_16 = rules.rule_16;
-  rule_17 = rules.rule_17;
-}
+-- ---- demands
 
--- what the rules on bodies say of the last of some rows, with what is open in front of them, the line there and the kind of the owner
-record AreLast (all : List NumberedRow) (stack : List Open) (last : ℕ) (kind : OwnerKind) (rows : List NumberedRow) : Type 0 where
-  pub blocks : AreInBlocks stack last rows
-  pub inside : lines_9 rows ≡ []
-  pub known : lines_where (names_undeclared (names_in all)) rows ≡ []
-  pub allowed : lines_15_from kind rows ≡ []
-  pub some : lines_16 rows ≡ []
-  pub bounded : lines_17_from (names_in all) (demands_of all) rows ≡ []
-  pub sound : list_all (λ (row : NumberedRow). is_sound_row row.row) rows ≡ true
-  pub short : length rows < 2 ^ 32
+abbrev IsDemand : Demand → Type 0
+IsDemand d = (nat_le d.most 10000000 ≡ true) × (nat_le d.usual d.most ≡ true)
 
-all_last : (rows : List NumberedRow) → MeetsBodyRules rows → AreLast rows [] 0 owner.Task rows
-all_last rows rules = record {
-  blocks = record { low = omega arith; formed = rules.rule_2; few = rules.rule_3 };
-  inside = rules.rule_9;
-  known = rules.rule_14;
-  allowed = rules.rule_15;
-  some = rules.rule_16;
-  bounded = rules.rule_17;
-  sound = rules.sound.sound;
-  short = rules.short;
-}
+demand_fits : (row : Row) → has_numbers_in_range row ≡ true → IfPart IsDemand (demand_in row)
+demand_fits (r.Demand name most usual) fit = and_parts (nat_le most 10000000) (nat_le usual most) fit
+demand_fits row fit = tt
 
--- the second of two tests that do not both pass
-second_fails : (a b : Bool) → a ≡ true → a && b ≡ false → b ≡ false
-second_fails true b one both = both
-second_fails false b one both = cc
+-- ---- owners
 
--- a row that stands so, and may stand there, opens a body where nothing is open
-abbrev OpensAlone : List Open → OwnerKind → Standing → Type 0
-OpensAlone stack opener standing = is_nothing (stack_after stack standing) ≡ false → stack_or stack (stack_after stack standing) ≡ Body opener ∷ []
+-- the numbers of an owner are in range
+abbrev IsInRange : Owner → Type 0
+IsInRange (owner.Task stack) = nat_le stack 65535 ≡ true
+IsInRange (owner.Isr level stack distance) = (is_within 1 255 level ≡ true) × ((nat_le stack 65535 ≡ true) × (is_distance distance ≡ true))
+IsInRange (owner.Osek priority auto) = is_within 1 255 priority ≡ true
+IsInRange (owner.Oisr priority) = is_within 1 255 priority ≡ true
+IsInRange owner.ErrorHook = Unit {0}
+IsInRange owner.ShutdownHook = Unit {0}
 
-opens_alone : (stack : List Open) (opener : OwnerKind) → OpensAlone stack opener (Opener opener)
-opens_alone [] opener placed = refl
-opens_alone (inner ∷ outer) opener placed = cc
+owner_fits : (row : Row) → has_numbers_in_range row ≡ true → IfPart IsInRange (owner_in row)
+owner_fits (r.Task name stack) fit = fit
+owner_fits (r.Isr name level stack) fit = let both = and_parts (is_within 1 255 level) (nat_le stack 65535) fit in (both.0, (both.1, refl))
+owner_fits (r.IsrFar name level stack distance) fit =
+    let both = and_parts (is_within 1 255 level) (nat_le stack 65535 && is_within 1 1000000000 distance) fit in
+    (both.0, and_parts (nat_le stack 65535) (is_within 1 1000000000 distance) both.1)
+owner_fits (r.Osek name priority) fit = fit
+owner_fits (r.OsekAuto name priority) fit = fit
+owner_fits (r.Oisr name priority) fit = fit
+owner_fits r.HookError fit = tt
+owner_fits r.HookShutdown fit = tt
+owner_fits row fit = tt
 
--- what each row of the last gives with the rows behind it meets a rule
-abbrev EachGives : List NumberedRow → {A : Type 0} → (A → Type 0) → (Row → List NumberedRow → List A) → Type 0
-EachGives all P part_of =
-    (stack : List Open) (last : ℕ) (kind : OwnerKind) (line : ℕ) (row : Row) (rows : List NumberedRow)
-    → AreLast all stack last kind (record { line = line; row = row } ∷ rows) → All P (part_of row rows)
+fits_owner : (demands : List Demand) (body : List Stmt) (o : Owner) → IsInRange o → is_hook o || nat_le (worst_in demands body) (10 ^ 12) ≡ true → FitsOwner demands body o
+fits_owner demands body (owner.Task stack) range light = (leb-true stack 65535 range, leb-true (worst_in demands body) (10 ^ 12) light)
+fits_owner demands body (owner.Isr level stack distance) range light =
+    (leb-true level 255 (and_parts (nat_le 1 level) (nat_le level 255) range.0).1, (leb-true stack 65535 range.1.0, leb-true (worst_in demands body) (10 ^ 12) light))
+fits_owner demands body (owner.Osek priority auto) range light =
+    (leb-true priority 255 (and_parts (nat_le 1 priority) (nat_le priority 255) range).1, leb-true (worst_in demands body) (10 ^ 12) light)
+fits_owner demands body (owner.Oisr priority) range light =
+    (leb-true priority 255 (and_parts (nat_le 1 priority) (nat_le priority 255) range).1, leb-true (worst_in demands body) (10 ^ 12) light)
+fits_owner demands body owner.ErrorHook range light = tt
+fits_owner demands body owner.ShutdownHook range light = tt
 
-All-one : {A : Type 0} (P : A → Type 0) (x : A) → P x → All P (x ∷ [])
-All-one P x here = All-cons P x [] here (All-nil P)
+-- ---- bodies whose worst case can be told
 
-module _ (all : List NumberedRow) where
-  -- ---- the rows behind a row
+module _ (rows : List NumberedRow) (short : length rows < 2 ^ 32) (is_2 : lines_2 rows ≡ []) (is_3 : lines_3 rows ≡ []) (is_9 : lines_9 rows ≡ []) where
+  abbrev demands : List Demand
+  demands = parts (each_at demand_in rows)
 
-  last-behind : (stack : List Open) (last : ℕ) (kind : OwnerKind) (row : NumberedRow) (rows : List NumberedRow) → AreLast all stack last kind (row ∷ rows)
-      → AreLast all (stack_behind stack row.row) row.line (owner_after kind (standing_of row.row)) rows
-  last-behind stack last kind row rows are = record {
-    blocks = behind are.blocks;
-    inside = (none_line_if (has_number_outside row.row) row (lines_9 rows) are.inside).1;
-    known = (none_line_if (names_undeclared (names_in all) row.row) row (lines_where (names_undeclared (names_in all)) rows) are.known).1;
-    allowed = (none_line_if _ row (lines_15_from (owner_after kind (standing_of row.row)) rows) are.allowed).1;
-    some = (none_line_if (opens_routine row.row && begins_with_end rows) row (lines_16 rows) are.some).1;
-    bounded = (none_line_if _ row (lines_17_from (names_in all) (demands_of all) rows) are.bounded).1;
-    sound = and_right (is_sound_row row.row) _ are.sound;
-    short = omega (arith, are.short);
+  in_range : EachRow (λ row. has_numbers_in_range row ≡ true) rows
+  in_range = each_row has_numbers_in_range rows (kept_one 1 (Every has_numbers_in_range) (rows_at rows) is_9)
+
+  each_demand : Each IsDemand demands
+  each_demand = each_part IsDemand (λ row. has_numbers_in_range row ≡ true) demand_in demand_fits rows in_range
+
+  -- 9. The numbers of demands are in range.
+  pub mosts_in_range : AreMostsInRange demands
+  mosts_in_range =
+      let fits = λ (d : Demand). nat_le d.most 10000000 in
+      all_from_each fits demands (each_weaker IsDemand (λ d. fits d ≡ true) (λ d h. h.0) demands each_demand)
+
+  pub usuals_in_range : AreUsualsInRange demands
+  usuals_in_range =
+      let fits = λ (d : Demand). nat_le d.usual d.most in
+      all_from_each fits demands (each_weaker IsDemand (λ d. fits d ≡ true) (λ d h. h.1) demands each_demand)
+
+  -- 2, 3, 9. The worst case of each body can be told.
+  pub tellable : AreTellable demands (bodies_of (names_in rows) rows)
+  tellable = by (bodies_of (names_in rows) rows) (bodies_nested (names_in rows) rows is_2 is_3) (bodies_counted (names_in rows) rows short)
+      (bodies_pass is_number_in_range (shallow-number kind.Task) (names_in rows) (λ row. has_numbers_in_range row ≡ true) (number_passes (names_in rows) kind.Task) rows is_2 in_range) where
+        by : (xs : List (At BodyPart)) → Each (λ (x : At BodyPart). IsNestedInLimit x.part.body) xs → Each (λ (x : At BodyPart). IsCountInLimit x.part.body) xs
+            → Each (λ (x : At BodyPart). each_in is_number_in_range x.part.body ≡ true) xs → AreTellable demands xs
+        by [] nested counted numbers = tt
+        by (x ∷ xs) nested counted numbers =
+            (record { nested = nested.0; counted = counted.0; numbers = numbers.0; mosts = mosts_in_range }, by xs nested.1 counted.1 numbers.1)
+
+-- ---- bodies that break no rule
+
+-- a body that is one of a configuration, with its owner
+record IsGood (c : ConfigParts) (b : BodyPart) : Type 0 where
+  body : IsBody c (kind_of b.owner) b.body
+  range : IsInRange b.owner
+  some : has_statement b ≡ true
+  light : is_light c.demands b ≡ true
+
+each_every : {A : Type 0} (test : A → Bool) (xs : List (At A)) → failing test xs ≡ [] → Each (λ (x : At A). test x.part ≡ true) xs
+each_every test [] is = tt
+each_every test (x ∷ xs) is = let both = none-here (test x.part) x.line (failing test xs) is in (both.0, each_every test xs both.1)
+
+module _ (c : ConfigParts) where
+  hook : IsBody c kind.Hook []
+  hook = record { nested = omega arith; counted = omega arith; numbers = refl; expressions = refl; variables = refl; demands = refl; callees = refl; allowed = refl }
+
+  first_good : (bodies : List (List Stmt)) → Each (IsBody c kind.Hook) bodies → IsBody c kind.Hook (first_body bodies)
+  first_good [] h = hook
+  first_good (body ∷ bodies) h = h.0
+
+  routine_good : (body : List Stmt) (o : Owner) → IsGood c (record { owner = o; body = body }) → is_hook o ≡ false → IsRoutine c (kind_of o) body (worst_in c.demands body)
+  routine_good body o good is = record {
+    is_body = good.body;
+    some = leb-true 1 (length body) (ap (λ b. b || nat_le 1 (length body)) (sym is) ∙ good.some);
+    worst = refl;
+    bounded = leb-true (worst_in c.demands body) (10 ^ 12) (ap (λ b. b || nat_le (worst_in c.demands body) (10 ^ 12)) (sym is) ∙ good.light);
   }
 
-  -- behind a row that opens a body nothing but that body is open
-  last-opened : (stack : List Open) (last : ℕ) (kind opener : OwnerKind) (row : NumberedRow) (rows : List NumberedRow) → standing_of row.row ≡ Opener opener
-      → AreLast all stack last kind (row ∷ rows) → AreLast all (Body opener ∷ []) row.line opener rows
-  last-opened stack last kind opener row rows is are =
-      let placed = (lines_2-step stack last row rows are.blocks.formed).0 in
-      let alone : stack_behind stack row.row ≡ Body opener ∷ [] = subst (OpensAlone stack opener) (sym is) (opens_alone stack opener) placed in
-      let owned : owner_after kind (standing_of row.row) ≡ opener = ap (owner_after kind) is in
-      subst (λ k. AreLast all (Body opener ∷ []) row.line k rows) owned
-      (subst (λ s. AreLast all s row.line (owner_after kind (standing_of row.row)) rows) alone (last-behind stack last kind row rows are))
+  least : (n : ℕ) → is_within 1 255 n ≡ true → 1 ≤ n
+  least n is = leb-true 1 n (and_parts (nat_le 1 n) (nat_le n 255) is).0
 
-  -- ---- a body, and one that takes ticks
+  task_good : (body : List Stmt) (o : Owner) → IsGood c (record { owner = o; body = body }) → Each (IsTask c) (task_by c.demands body o)
+  task_good body (owner.Task stack) good = (record { routine = routine_good body (owner.Task stack) good refl; stack = leb-true stack 65535 good.range }, tt)
+  task_good body other good = tt
 
-  body_sound : (stack : List Open) (last : ℕ) (kind : OwnerKind) (rows : List NumberedRow) → AreLast all stack last kind rows
-      → IsBody (config_of all) kind (body_from (names_in all) rows)
-  body_sound stack last kind rows are = record {
-    nested = nested-body_from (names_in all) rows stack last are.blocks;
-    counted = counted-body_from (names_in all) rows are.short;
-    numbers = numbers-body_from (names_in all) rows are.inside;
-    expressions = expressions-body_from (names_in all) rows are.sound;
-    variables = subst (λ n. HasVariables n (body_from (names_in all) rows)) (named all).vars (variables-body_from (names_in all) rows are.known);
-    demands = subst (λ n. HasDemands n (body_from (names_in all) rows)) (named all).demands (demands-body_from (names_in all) rows are.known);
-    callees = subst (λ n. HasCallees n (length (config_of all).oseks) (body_from (names_in all) rows)) (named all).modes
-        (subst (λ n. HasCallees (count_of Kind.Mode (names_in all)) n (body_from (names_in all) rows)) (named all).oseks (callees-body_from (names_in all) rows are.known));
-    allowed = allowed-body_from (names_in all) kind stack last rows are.blocks.formed are.allowed;
+  isr_good : (body : List Stmt) (o : Owner) → IsGood c (record { owner = o; body = body }) → Each (IsIsr c) (isr_by c.demands body o)
+  isr_good body (owner.Isr level stack distance) good = (record {
+    routine = routine_good body (owner.Isr level stack distance) good refl;
+    stack = leb-true stack 65535 good.range.1.0;
+    level = least level good.range.0;
+    distance = good.range.1.1;
+  }, tt)
+  isr_good body other good = tt
+
+  osek_good : (body : List Stmt) (o : Owner) → IsGood c (record { owner = o; body = body }) → Each (IsOsek c) (osek_by c.demands body o)
+  osek_good body (owner.Osek priority auto) good = (record { routine = routine_good body (owner.Osek priority auto) good refl; priority = least priority good.range }, tt)
+  osek_good body other good = tt
+
+  oisr_good : (body : List Stmt) (o : Owner) → IsGood c (record { owner = o; body = body }) → Each (IsOisr c) (oisr_by c.demands body o)
+  oisr_good body (owner.Oisr priority) good = (record { routine = routine_good body (owner.Oisr priority) good refl; priority = least priority good.range }, tt)
+  oisr_good body other good = tt
+
+  error_good : (body : List Stmt) (o : Owner) → IsGood c (record { owner = o; body = body }) → Each (IsBody c kind.Hook) (error_hook_by body o)
+  error_good body owner.ErrorHook good = (good.body, tt)
+  error_good body other good = tt
+
+  shutdown_good : (body : List Stmt) (o : Owner) → IsGood c (record { owner = o; body = body }) → Each (IsBody c kind.Hook) (shutdown_hook_by body o)
+  shutdown_good body owner.ShutdownHook good = (good.body, tt)
+  shutdown_good body other good = tt
+
+module _ (rows : List NumberedRow) (rules : KeepBodyRules rows) where
+  abbrev names : List NameEntry
+  names = names_in rows
+
+  abbrev bodies : List (At BodyPart)
+  bodies = bodies_of names rows
+
+  abbrev c : ConfigParts
+  c = config_with (elaborated_of rows)
+
+  fit : EachRow (IsRowFit names) rows
+  fit = rows_fit rows rules.sound rules.rule_9 rules.rule_14
+
+  ranges : Each (λ (x : At BodyPart). IsInRange x.part.owner) bodies
+  ranges = each_owner IsInRange (IsRowFit names) (λ row f. owner_fits row f.numbers) names rows fit
+
+  good_bodies : Each (λ (x : At BodyPart). IsGood c x.part) bodies
+  good_bodies =
+      by bodies (bodies_nested names rows rules.rule_2 rules.rule_3) (bodies_counted names rows rules.short) (bodies_sound names rows rules.rule_2 rules.rule_9 rules.rule_15)
+      (bodies_pass is_expression_short (shallow_expressions names) names (IsRowFit names) (row_short names) rows rules.rule_2 fit)
+      (bodies_pass (has_variables (count_of Kind.Var names)) (shallow_variables names) names (IsRowFit names) (row_variables names) rows rules.rule_2 fit)
+      (bodies_pass (has_demand (count_of Kind.Demand names)) (shallow_demand names) names (IsRowFit names) (row_demand names) rows rules.rule_2 fit)
+      (bodies_pass (has_callee (count_of Kind.Mode names) (count_of Kind.Osek names)) (shallow_callee names) names (IsRowFit names) (row_callee names) rows rules.rule_2 fit)
+      ranges (each_every has_statement bodies rules.rule_16) (each_every (is_light c.demands) bodies rules.rule_17) where
+        by : (xs : List (At BodyPart)) → Each (λ (x : At BodyPart). IsNestedInLimit x.part.body) xs → Each (λ (x : At BodyPart). IsCountInLimit x.part.body) xs
+            → Each (λ (x : At BodyPart). IsBodySound x.part) xs → Each (λ (x : At BodyPart). each_in is_expression_short x.part.body ≡ true) xs
+            → Each (λ (x : At BodyPart). each_in (has_variables (count_of Kind.Var names)) x.part.body ≡ true) xs
+            → Each (λ (x : At BodyPart). each_in (has_demand (count_of Kind.Demand names)) x.part.body ≡ true) xs
+            → Each (λ (x : At BodyPart). each_in (has_callee (count_of Kind.Mode names) (count_of Kind.Osek names)) x.part.body ≡ true) xs
+            → Each (λ (x : At BodyPart). IsInRange x.part.owner) xs → Each (λ (x : At BodyPart). has_statement x.part ≡ true) xs
+            → Each (λ (x : At BodyPart). is_light c.demands x.part ≡ true) xs → Each (λ (x : At BodyPart). IsGood c x.part) xs
+        by [] nested counted own short_ vars dems calls range some light = tt
+        by (x ∷ xs) nested counted own short_ vars dems calls range some light = (
+          record {
+            body = record {
+              nested = nested.0;
+              counted = counted.0;
+              numbers = own.0.numbers;
+              expressions = short_.0;
+              variables = subst (λ n. HasVariables n x.part.body) (named rows).vars vars.0;
+              demands = subst (λ n. HasDemands n x.part.body) (named rows).demands dems.0;
+              callees = subst (λ n. HasCallees n (length c.oseks) x.part.body) (named rows).modes
+                  (subst (λ n. HasCallees (count_of Kind.Mode names) n x.part.body) (named rows).oseks calls.0);
+              allowed = own.0.allowed;
+            };
+            range = range.0;
+            some = some.0;
+            light = light.0;
+          },
+          by xs nested.1 counted.1 own.1 short_.1 vars.1 dems.1 calls.1 range.1 some.1 light.1,
+        )
+
+  good : Each (IsGood c) (parts bodies)
+  good = each_map (IsGood c) (λ (x : At BodyPart). x.part) bodies good_bodies
+
+  pub bodies_are_sound : HasSoundBodies c
+  bodies_are_sound = record {
+    tasks = All-from_recursion (IsTask c) c.tasks (each_flat_map (task_in c.demands) (IsGood c) (IsTask c) (λ b g. task_good c b.body b.owner g) (parts bodies) good);
+    isrs = All-from_recursion (IsIsr c) c.isrs (each_flat_map (isr_in c.demands) (IsGood c) (IsIsr c) (λ b g. isr_good c b.body b.owner g) (parts bodies) good);
+    oseks = All-from_recursion (IsOsek c) c.oseks (each_flat_map (osek_in c.demands) (IsGood c) (IsOsek c) (λ b g. osek_good c b.body b.owner g) (parts bodies) good);
+    oisrs = All-from_recursion (IsOisr c) c.oisrs (each_flat_map (oisr_in c.demands) (IsGood c) (IsOisr c) (λ b g. oisr_good c b.body b.owner g) (parts bodies) good);
+    error_hook = first_good c _ (each_flat_map error_hook_in (IsGood c) (IsBody c kind.Hook) (λ b g. error_good c b.body b.owner g) (parts bodies) good);
+    shutdown_hook = first_good c _ (each_flat_map shutdown_hook_in (IsGood c) (IsBody c kind.Hook) (λ b g. shutdown_good c b.body b.owner g) (parts bodies) good);
   }
 
-  routine_sound : (stack : List Open) (last : ℕ) (kind opener : OwnerKind) (row : NumberedRow) (rows : List NumberedRow) → standing_of row.row ≡ Opener opener
-      → opens_routine row.row ≡ true → AreLast all stack last kind (row ∷ rows)
-      → IsRoutine (config_of all) opener (body_from (names_in all) rows) (worst_in (demands_of all) (body_from (names_in all) rows))
-  routine_sound stack last kind opener row rows is opens are =
-      let inner = last-opened stack last kind opener row rows is are in
-      let begins = none_line_if (opens_routine row.row && begins_with_end rows) row (lines_16 rows) are.some in
-      let worst = none_line_if (opens_routine row.row && nat_lt (10 ^ 12) (worst_in (demands_of all) (body_from (names_in all) rows))) row (lines_17_from (names_in all) (demands_of all) rows) are.bounded in
-      record {
-        is_body = body_sound (Body opener ∷ []) row.line opener rows inner;
-        some = some-body_from (names_in all) opener row.line rows inner.blocks.formed (second_fails (opens_routine row.row) (begins_with_end rows) opens begins.0);
-        worst = refl;
-        bounded = ltb-false (10 ^ 12) (worst_in (demands_of all) (body_from (names_in all) rows)) (second_fails (opens_routine row.row) _ opens worst.0);
-      }
+  -- 2, 3, 9, 17. The numbers of each body's owner have the widths of those of a configuration.
+  pub bodies_fit : AreFit c.demands bodies
+  bodies_fit = by bodies (tellable rows rules.short rules.rule_2 rules.rule_3 rules.rule_9) ranges (each_every (is_light c.demands) bodies rules.rule_17) where
+    by : (xs : List (At BodyPart)) → AreTellable c.demands xs → Each (λ (x : At BodyPart). IsInRange x.part.owner) xs → Each (λ (x : At BodyPart). is_light c.demands x.part ≡ true) xs → AreFit c.demands xs
+    by [] told range light = tt
+    by (x ∷ xs) told range light =
+        (record { tellable = told.0; owner = fits_owner c.demands x.part.body x.part.owner range.0 light.0 }, by xs told.1 range.1 light.1)
 
-  inside_range : (stack : List Open) (last : ℕ) (kind : OwnerKind) (row : NumberedRow) (rows : List NumberedRow) → AreLast all stack last kind (row ∷ rows)
-      → has_number_outside row.row ≡ false
-  inside_range stack last kind row rows are = (none_line_if (has_number_outside row.row) row (lines_9 rows) are.inside).0
-
-  -- ---- what each row gives
-
-  each_sound : {A : Type 0} (P : A → Type 0) (part_of : Row → List NumberedRow → List A)
-      → EachGives all P part_of → (stack : List Open) (last : ℕ) (kind : OwnerKind) (rows : List NumberedRow) → AreLast all stack last kind rows → All P (each_with_rest part_of rows)
-  each_sound P part_of each stack last kind [] are = All-nil P
-  each_sound P part_of each stack last kind (row ∷ rows) are =
-      All-append P (part_of row.row rows) (each_with_rest part_of rows) (each stack last kind row.line row.row rows are)
-      (each_sound P part_of each (stack_behind stack row.row) row.line (owner_after kind (standing_of row.row)) rows (last-behind stack last kind row rows are))
-
-  task_sound : EachGives all (IsTask (config_of all)) (task_of (names_in all) (demands_of all))
-  task_sound stack last kind line (r.Task name words) rows are =
-      let row : NumberedRow = record { line = line; row = r.Task name words } in
-      All-one (IsTask (config_of all)) _ (record {
-        routine = routine_sound stack last kind owner.Task row rows refl refl are;
-        stack = ltb-false 65535 words (inside_range stack last kind row rows are);
-      })
-  task_sound stack last kind line row rows are = All-nil (IsTask (config_of all))
-
-  isr_sound : EachGives all (IsIsr (config_of all)) (isr_of (names_in all) (demands_of all))
-  isr_sound stack last kind line (r.Isr name level words) rows are =
-      let row : NumberedRow = record { line = line; row = r.Isr name level words } in
-      let ranges = or_parts (is_outside 1 255 level) _ (inside_range stack last kind row rows are) in
-      All-one (IsIsr (config_of all)) _ (record {
-        routine = routine_sound stack last kind owner.Isr row rows refl refl are;
-        stack = ltb-false 65535 words ranges.1;
-        level = (within 1 255 level ranges.0).0;
-        distance = refl;
-      })
-  isr_sound stack last kind line (r.IsrFar name level words distance) rows are =
-      let row : NumberedRow = record { line = line; row = r.IsrFar name level words distance } in
-      let ranges = or_parts (is_outside 1 255 level) _ (inside_range stack last kind row rows are) in
-      let others = or_parts (nat_lt 65535 words) _ ranges.1 in
-      All-one (IsIsr (config_of all)) _ (record {
-        routine = routine_sound stack last kind owner.Isr row rows refl refl are;
-        stack = ltb-false 65535 words others.0;
-        level = (within 1 255 level ranges.0).0;
-        distance = in_range 1 1000000000 distance others.1;
-      })
-  isr_sound stack last kind line row rows are = All-nil (IsIsr (config_of all))
-
-  osek_sound : EachGives all (IsOsek (config_of all)) (osek_of (names_in all) (demands_of all))
-  osek_sound stack last kind line (r.Osek name priority) rows are =
-      let row : NumberedRow = record { line = line; row = r.Osek name priority } in
-      All-one (IsOsek (config_of all)) _ (record {
-        routine = routine_sound stack last kind owner.Osek row rows refl refl are;
-        priority = (within 1 255 priority (inside_range stack last kind row rows are)).0;
-      })
-  osek_sound stack last kind line (r.OsekAuto name priority) rows are =
-      let row : NumberedRow = record { line = line; row = r.OsekAuto name priority } in
-      All-one (IsOsek (config_of all)) _ (record {
-        routine = routine_sound stack last kind owner.Osek row rows refl refl are;
-        priority = (within 1 255 priority (inside_range stack last kind row rows are)).0;
-      })
-  osek_sound stack last kind line row rows are = All-nil (IsOsek (config_of all))
-
-  oisr_sound : EachGives all (IsOisr (config_of all)) (oisr_of (names_in all) (demands_of all))
-  oisr_sound stack last kind line (r.Oisr name priority) rows are =
-      let row : NumberedRow = record { line = line; row = r.Oisr name priority } in
-      All-one (IsOisr (config_of all)) _ (record {
-        routine = routine_sound stack last kind owner.Oisr row rows refl refl are;
-        priority = (within 1 255 priority (inside_range stack last kind row rows are)).0;
-      })
-  oisr_sound stack last kind line row rows are = All-nil (IsOisr (config_of all))
-
-  -- the body of a hook
-  hook_sound : (stack : List Open) (last : ℕ) (kind : OwnerKind) (row : NumberedRow) (rows : List NumberedRow) → standing_of row.row ≡ Opener owner.Hook
-      → AreLast all stack last kind (row ∷ rows) → IsBody (config_of all) owner.Hook (body_from (names_in all) rows)
-  hook_sound stack last kind row rows is are =
-      body_sound (Body owner.Hook ∷ []) row.line owner.Hook rows (last-opened stack last kind owner.Hook row rows is are)
-
-  error_hook_sound : EachGives all (IsBody (config_of all) owner.Hook) (error_hook_of (names_in all))
-  error_hook_sound stack last kind line r.HookError rows are =
-      All-one (IsBody (config_of all) owner.Hook) _ (hook_sound stack last kind (record { line = line; row = r.HookError }) rows refl are)
-  error_hook_sound stack last kind line row rows are = All-nil (IsBody (config_of all) owner.Hook)
-
-  shutdown_hook_sound : EachGives all (IsBody (config_of all) owner.Hook) (shutdown_hook_of (names_in all))
-  shutdown_hook_sound stack last kind line r.HookShutdown rows are =
-      All-one (IsBody (config_of all) owner.Hook) _ (hook_sound stack last kind (record { line = line; row = r.HookShutdown }) rows refl are)
-  shutdown_hook_sound stack last kind line row rows are = All-nil (IsBody (config_of all) owner.Hook)
-
-  -- a body with no statement meets the rules
-  nothing_sound : (kind : OwnerKind) → IsBody (config_of all) kind []
-  nothing_sound kind = record {
-    nested = omega arith;
-    counted = omega arith;
-    numbers = refl;
-    expressions = refl;
-    variables = refl;
-    demands = refl;
-    callees = refl;
-    allowed = refl;
-  }
-
-  first_sound : (bodies : List (List Stmt)) → All (IsBody (config_of all) owner.Hook) bodies → IsBody (config_of all) owner.Hook (first_or [] bodies)
-  first_sound [] each = nothing_sound owner.Hook
-  first_sound (body ∷ bodies) each = All-head (IsBody (config_of all) owner.Hook) body bodies each
-
--- ---- the parts
-
-pub tasks_are_sound : (rows : List NumberedRow) → MeetsBodyRules rows → All (IsTask (config_of rows)) (config_of rows).tasks
-tasks_are_sound rows rules =
-    each_sound rows (IsTask (config_of rows)) (task_of (names_in rows) (demands_of rows)) (task_sound rows) [] 0 owner.Task rows (all_last rows rules)
-
-pub isrs_are_sound : (rows : List NumberedRow) → MeetsBodyRules rows → All (IsIsr (config_of rows)) (config_of rows).isrs
-isrs_are_sound rows rules =
-    each_sound rows (IsIsr (config_of rows)) (isr_of (names_in rows) (demands_of rows)) (isr_sound rows) [] 0 owner.Task rows (all_last rows rules)
-
-pub oseks_are_sound : (rows : List NumberedRow) → MeetsBodyRules rows → All (IsOsek (config_of rows)) (config_of rows).oseks
-oseks_are_sound rows rules =
-    each_sound rows (IsOsek (config_of rows)) (osek_of (names_in rows) (demands_of rows)) (osek_sound rows) [] 0 owner.Task rows (all_last rows rules)
-
-pub oisrs_are_sound : (rows : List NumberedRow) → MeetsBodyRules rows → All (IsOisr (config_of rows)) (config_of rows).oisrs
-oisrs_are_sound rows rules =
-    each_sound rows (IsOisr (config_of rows)) (oisr_of (names_in rows) (demands_of rows)) (oisr_sound rows) [] 0 owner.Task rows (all_last rows rules)
-
-pub error_hook_is_sound : (rows : List NumberedRow) → MeetsBodyRules rows → IsBody (config_of rows) owner.Hook (config_of rows).error_hook
-error_hook_is_sound rows rules =
-    first_sound rows (each_with_rest (error_hook_of (names_in rows)) rows)
-    (each_sound rows (IsBody (config_of rows) owner.Hook) (error_hook_of (names_in rows)) (error_hook_sound rows) [] 0 owner.Task rows (all_last rows rules))
-
-pub shutdown_hook_is_sound : (rows : List NumberedRow) → MeetsBodyRules rows → IsBody (config_of rows) owner.Hook (config_of rows).shutdown_hook
-shutdown_hook_is_sound rows rules =
-    first_sound rows (each_with_rest (shutdown_hook_of (names_in rows)) rows)
-    (each_sound rows (IsBody (config_of rows) owner.Hook) (shutdown_hook_of (names_in rows)) (shutdown_hook_sound rows) [] 0 owner.Task rows (all_last rows rules))
-
-pub bodies_are_sound : BodiesAreSound
-bodies_are_sound rows rules = record {
-  tasks = tasks_are_sound rows rules;
-  isrs = isrs_are_sound rows rules;
-  oseks = oseks_are_sound rows rules;
-  oisrs = oisrs_are_sound rows rules;
-  error_hook = error_hook_is_sound rows rules;
-  shutdown_hook = shutdown_hook_is_sound rows rules;
-}
+pub law : BodiesAreSound
+unfolding config_of
+law rows rules = bodies_are_sound rows rules

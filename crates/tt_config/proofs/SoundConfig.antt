@@ -1,15 +1,170 @@
--- Sound rows that break no rule give a configuration that meets the rules of one.
-use Rattle.std.proofs.Common.{◌^◌, ◌<◌, List, length}
-use Rattle.tt_world.specs.ConfigRules.{IsConfig}
+-- Sound rows that break no rule give a configuration and a script that keep the rules of theirs.
+use Rattle.std.proofs.Common.{◌≡◌, ℕ, zero, suc, ◌^◌, ◌<◌, ◌≤◌, Bool, true, List, [], ◌∷◌, ◌++◌, All, None, length, map, arith, ap, subst, sym, ◌∙◌}
+use Rattle.std.specs.Prelude.{◌&&◌, nat_le, nat_lt}
+use Rattle.std.specs.List.{AllByRecursion as Each, list_all}
+use Rattle.std.proofs.lemmas.Bool.{and_parts, and_from, leb-true, lt-ltb}
+use Rattle.std.proofs.lemmas.List.Elements.{All-from_recursion}
+use Rattle.tt_base.specs.declared.names.NameKind.{NameKind}
+use Rattle.tt_base.specs.declared.names.NameKind.TheVariants as Kind
+use Rattle.tt_base.specs.declared.names.NameEntry.{NameEntry}
+use Rattle.tt_base.specs.Names.{count_of}
+use Rattle.tt_world.specs.declared.config.ConfigParts.{ConfigParts}
+use Rattle.tt_world.specs.declared.script.ScriptParts.{ScriptParts}
+use Rattle.tt_world.specs.ConfigRules.{IsConfig, IsMode}
+use Rattle.tt_world.specs.ScriptRules.{IsScript}
+use Rattle.tt_rows.specs.declared.row.Row.{Row}
+use Rattle.tt_rows.specs.declared.row.Row.TheVariants as r
 use Rattle.tt_rows.specs.declared.row.NumberedRow.{NumberedRow}
 use Rattle.tt_rows.specs.Sound.{AreSound}
-use Rattle.tt_config.specs.MeetsRules.{MeetsRules}
-use Rattle.tt_config.specs.BodyRules.{HasSoundBodies}
-use Rattle.tt_config.specs.Parts.{config_of}
-use Rattle.tt_config.proofs.SoundParts.{config_sound}
-use Rattle.tt_config.proofs.SoundBodies.{body_rules, bodies_are_sound}
+use Rattle.tt_parts.specs.declared.located.At.{At}
+use Rattle.tt_parts.specs.declared.entries.Entry.{Entry}
+use Rattle.tt_parts.specs.Located.{each_at, parts}
+use Rattle.tt_parts.specs.Bodies.{bodies_of}
+use Rattle.tt_parts.specs.Entries.{entry_in, rounds_in}
+use Rattle.tt_parts.specs.Names.{names_in, number_named}
+use Rattle.tt_parts.specs.Parts.{declarations_of}
+use Rattle.tt_rules.specs.BodyRules.{is_declared, uses}
+use Rattle.tt_rules.specs.Document.{document_of, first_or_zero}
+use Rattle.tt_rules.specs.Laws.{AreDeclarationsSound}
+use Rattle.tt_rules.specs.Order.{below}
+use Rattle.tt_rules.specs.Table.{AreKept, the_rules}
+use Rattle.tt_rules.specs.Tables.{is_entry_known, mode_with}
+use Rattle.tt_rules.proofs.Each.{all_from_each, each_append, each_map, each_weaker}
+use Rattle.tt_rules.proofs.SoundDeclarations.{declarations_sound}
+use Rattle.tt_rules.proofs.SoundTables.{mode_sound}
+use Rattle.tt_config.specs.declared.document.Elaborated.{Elaborated}
+use Rattle.tt_config.specs.BodyRules.{HasSoundBodies, KeepBodyRules}
+use Rattle.tt_config.specs.Broken.{broken_rule}
+use Rattle.tt_config.specs.Document.{elaborated_of}
+use Rattle.tt_config.specs.Owners.{AreFit}
+use Rattle.tt_config.specs.Parts.{config_of, config_with, script_of, script_with}
+use Rattle.tt_config.proofs.Asked.{none_broken}
+use Rattle.tt_config.proofs.Counted.{few, named}
+use Rattle.tt_config.proofs.Distinct.{levels, osek_priorities, oisr_priorities}
+use Rattle.tt_config.proofs.Known.{number_below}
+use Rattle.tt_config.proofs.Rows.{IsRowFit, IfPart, each_part, rows_fit}
+use Rattle.tt_config.proofs.SoundBodies.{bodies_are_sound, bodies_fit, mosts_in_range, usuals_in_range}
+use Rattle.tt_config.proofs.SoundScript.{rounds_within, script_sound}
 
-pub config_is_sound : (rows : List NumberedRow) → AreSound rows → MeetsRules rows → length rows < 2 ^ 32 → IsConfig (config_of rows)
-config_is_sound rows sound rules short =
-    let bodies : HasSoundBodies (config_of rows) = bodies_are_sound rows (body_rules rows sound rules short) in
-    config_sound rows rules bodies.tasks bodies.isrs bodies.oseks bodies.oisrs bodies.error_hook bodies.shutdown_hook
+-- ---- modes
+
+each_below : (n : ℕ) → Each (λ k. k < n) (below n)
+each_below zero = tt
+each_below (suc n) = each_append (λ k. k < suc n) (below n) (n ∷ []) (each_weaker (λ k. k < n) (λ k. k < suc n) (λ k lt. omega arith) (below n) (each_below n)) (omega arith, tt)
+
+module _ (names : List NameEntry) where
+  abbrev is_known : Entry → Bool
+  is_known = is_entry_known (count_of Kind.Mode names) (count_of Kind.Task names) (count_of Kind.Isr names)
+
+  both_known : (kind other : NameKind) (one two : List ℕ) → is_declared names (uses kind one) && (is_declared names (uses other two) && true) ≡ true
+      → nat_lt (number_named names one) (count_of kind names) && nat_lt (number_named names two) (count_of other names) ≡ true
+  both_known kind other one two known =
+      let both = and_parts (is_declared names (uses kind one)) _ known in
+      and_from (nat_lt (number_named names one) (count_of kind names)) _ (lt-ltb (number_named names one) (count_of kind names) (number_below names kind one both.0))
+      (lt-ltb (number_named names two) (count_of other names) (number_below names other two (and_parts (is_declared names (uses other two)) true both.1).0))
+
+  entry_known : (row : Row) → IsRowFit names row → IfPart (λ x. is_known x ≡ true) (entry_in names row)
+  entry_known (r.AtStringent offset mode task deadline) fit = both_known Kind.Mode Kind.Task mode task fit.known
+  entry_known (r.AtNonstringent offset mode task deadline) fit = both_known Kind.Mode Kind.Task mode task fit.known
+  entry_known (r.AtEnable offset mode isr) fit = both_known Kind.Mode Kind.Isr mode isr fit.known
+  entry_known row fit = tt
+
+-- ---- the whole
+
+module _ (rows : List NumberedRow) (sound : AreSound rows) (none : AreKept the_rules (document_of rows)) where
+  abbrev names : List NameEntry
+  names = names_in rows
+
+  abbrev c : ConfigParts
+  c = config_with (elaborated_of rows)
+
+  -- 14. The rows of tables name what is declared.
+  all_known : list_all (is_entry_known (count_of Kind.Mode names) (length c.tasks) (length c.isrs)) (parts (each_at (entry_in names) rows)) ≡ true
+  all_known =
+      let xs = parts (each_at (entry_in names) rows) in
+      subst (λ n. list_all (is_entry_known (count_of Kind.Mode names) n (length c.isrs)) xs ≡ true) (named rows).tasks
+      (subst (λ n. list_all (is_entry_known (count_of Kind.Mode names) (count_of Kind.Task names) n) xs ≡ true) (named rows).isrs
+      (all_from_each (is_known names) xs (each_part (λ x. is_known names x ≡ true) (IsRowFit names) (entry_in names) (entry_known names) rows (rows_fit rows sound (none 8) (none 13)))))
+
+  modes_sound : All (IsMode c) c.modes
+  modes_sound =
+      let tables = record { enables = none 18; deadlines = none 19; places = none 20; sources = none 21; apart = none 22; few = none 23 } in
+      All-from_recursion (IsMode c) c.modes
+      (each_map (IsMode c) (mode_with (parts (each_at (entry_in names) rows))) (below (count_of Kind.Mode names))
+      (each_weaker (λ k. k < count_of Kind.Mode names) (λ k. IsMode c (mode_with (parts (each_at (entry_in names) rows)) k))
+      (λ k lt. mode_sound c (count_of Kind.Mode names) (each_at (entry_in names) rows) all_known tables k lt) (below (count_of Kind.Mode names)) (each_below (count_of Kind.Mode names))))
+
+  body_rules : length rows < 2 ^ 32 → KeepBodyRules rows
+  body_rules short = record {
+    sound = sound;
+    short = short;
+    rule_2 = none 1;
+    rule_3 = none 2;
+    rule_9 = none 8;
+    rule_14 = none 13;
+    rule_15 = none 14;
+    rule_16 = none 15;
+    rule_17 = none 16;
+  }
+
+  config_sound : length rows < 2 ^ 32 → IsConfig c
+  config_sound short =
+      let declared : AreDeclarationsSound (declarations_of rows) = declarations_sound (declarations_of rows) (none 3) (none 5) (none 6) (none 7) in
+      let bodies : HasSoundBodies c = bodies_are_sound rows (body_rules short) in
+      let located = bodies_of names rows in
+      record {
+        round_long = declared.round_long;
+        round_short = declared.round_short;
+        adjust = declared.adjust;
+        names = declared.names;
+        named = named rows;
+        few = few rows declared;
+        mosts = mosts_in_range rows short (none 1) (none 2) (none 8);
+        usuals = usuals_in_range rows short (none 1) (none 2) (none 8);
+        tasks = bodies.tasks;
+        isrs = bodies.isrs;
+        oseks = bodies.oseks;
+        oisrs = bodies.oisrs;
+        levels = levels c.demands located (none 9);
+        osek_priorities = osek_priorities c.demands located (none 10);
+        oisr_priorities = oisr_priorities c.demands located (none 11);
+        error_hook = bodies.error_hook;
+        shutdown_hook = bodies.shutdown_hook;
+        modes = modes_sound;
+      }
+
+pub config_is_sound : (rows : List NumberedRow) → AreSound rows → length rows < 2 ^ 32 → broken_rule rows ≡ None → IsConfig (config_of rows)
+unfolding config_of
+config_is_sound rows sound short is = config_sound rows sound (none_broken rows is) short
+
+pub script_is_sound : (rows : List NumberedRow) → AreSound rows → broken_rule rows ≡ None → IsScript (config_of rows) (script_of rows)
+unfolding config_of script_of
+script_is_sound rows sound is = script_sound rows (none_broken rows is) sound
+
+-- what is built of rows is their configuration and their script
+module _ (rows : List NumberedRow) (d : Elaborated) (is : d ≡ elaborated_of rows) where
+  pub config_is : (c : ConfigParts) → c ≡ config_with d → c ≡ config_of rows
+  unfolding config_of
+  config_is c built = built ∙ ap config_with is
+
+  pub script_is : (s : ScriptParts) → s ≡ script_with (parts d.declared.names) d.said → s ≡ script_of rows
+  unfolding script_of
+  script_is s built = built ∙ ap (λ (e : Elaborated). script_with (parts e.declared.names) e.said) is
+
+  pub config_fits : (c : ConfigParts) → AreSound rows → length rows < 2 ^ 32 → broken_rule rows ≡ None → c ≡ config_with d → IsConfig c
+  config_fits c sound short none built = subst IsConfig (sym (config_is c built)) (config_is_sound rows sound short none)
+
+  pub script_fits : (c : ConfigParts) (s : ScriptParts) → AreSound rows → broken_rule rows ≡ None → c ≡ config_with d → s ≡ script_with (parts d.declared.names) d.said → IsScript c s
+  script_fits c s sound none built made =
+      subst (λ p. IsScript p s) (sym (config_is c built)) (subst (IsScript (config_of rows)) (sym (script_is s made)) (script_is_sound rows sound none))
+
+  pub bodies_are_fit : AreSound rows → length rows < 2 ^ 32 → broken_rule rows ≡ None → AreFit d.demands d.bodies
+  bodies_are_fit sound short none =
+      subst (λ (e : Elaborated). AreFit e.demands e.bodies) (sym is) (bodies_fit rows (body_rules rows sound (none_broken rows none) short))
+
+  -- 26. The number of rounds has the width of that of a script.
+  pub rounds_fit : broken_rule rows ≡ None → first_or_zero (parts d.said.counts) ≤ 100000
+  rounds_fit none =
+      let rounds = first_or_zero (parts (each_at rounds_in rows)) in
+      subst (λ (e : Elaborated). first_or_zero (parts e.said.counts) ≤ 100000) (sym is)
+      (leb-true rounds 100000 (and_parts (nat_le 1 rounds) (nat_le rounds 100000) (rounds_within rows (none_broken rows none))).1)

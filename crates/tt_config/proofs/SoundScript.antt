@@ -1,113 +1,199 @@
--- The script, where no row breaks a rule on it.
-use Rattle.std.proofs.Common.{◌≡◌, ℕ, ◌^◌, ◌≤◌, ◌<◌, Bool, true, false, List, [], ◌∷◌, ◌++◌, length, refl, arith, subst, if◌then◌else◌}
-use Rattle.std.specs.Prelude.{nat_le, nat_lt}
+-- The script keeps the rules of one, where no line breaks the rules on it.
+use Rattle.std.proofs.Common.{◌≡◌, ℕ, ◌+◌, ◌^◌, ◌<◌, ◌≤◌, Bool, true, false, List, [], ◌∷◌, length, map, Option, Some, None, refl, ap, sym, subst, ◌∙◌, arith, if◌then◌else◌}
+use Rattle.std.specs.Prelude.{◌==◌, ◌&&◌, nat_le, nat_lt, flat_map}
 use Rattle.std.specs.List.{AllByRecursion as Each, list_all}
-use Rattle.std.specs.Str.{bytes_eq}
-use Rattle.std.proofs.lemmas.Bool.{and_parts, not-false, ltb-false, le-leb}
+use Rattle.std.proofs.lemmas.Bool.{and_parts, and_from, le-leb, leb-true, leb-false, lt-ltb, eqb-true, eq-eqb}
 use Rattle.std.proofs.lemmas.List.{length-map}
+use Rattle.tt_base.specs.declared.names.Declared.{Declared}
 use Rattle.tt_base.specs.declared.names.NameKind.{NameKind}
 use Rattle.tt_base.specs.declared.names.NameKind.TheVariants as Kind
 use Rattle.tt_base.specs.declared.names.NameEntry.{NameEntry}
-use Rattle.tt_base.specs.Names.{names_of, count_of}
+use Rattle.tt_base.specs.declared.number.ModeNo.{ModeNo}
+use Rattle.tt_base.specs.Names.{count_of, index_of, is_same_kind, kind_of, number_of}
+use Rattle.tt_world.specs.ScriptRules.{IsScript, ticks_ascend}
 use Rattle.tt_rows.specs.declared.row.Row.{Row}
 use Rattle.tt_rows.specs.declared.row.Row.TheVariants as r
 use Rattle.tt_rows.specs.declared.row.NumberedRow.{NumberedRow}
-use Rattle.tt_rows.specs.Spelling.{items_of, line_of_row}
 use Rattle.tt_rows.specs.Sound.{AreSound, is_sound_item, is_sound_row}
-use Rattle.tt_config.specs.Lines.{lines_where, lines_past, first_line, line_unless}
-use Rattle.tt_config.specs.Names.{names_in, uses, is_declared, used_in}
-use Rattle.tt_config.specs.Bodies.{number_named}
-use Rattle.tt_config.specs.Parts.{config_of, script_of, each_row, first_or, start_in, rounds_in, value_in, time_in, for_each_name}
-use Rattle.tt_config.specs.Rules.{names_undeclared, is_start, is_rounds, is_rounds_outside, is_value_outside, lines_14, lines_25, lines_26, lines_28}
-use Rattle.tt_config.proofs.Each.{each_map, each_from_all, all_from_each, each_always, each_flat_map}
-use Rattle.tt_config.proofs.RowLines.{none_left, none_right, each_part, first_holds, within, some_unless, one_if, length-each_row}
-use Rattle.tt_config.proofs.DeclaredNumbers.{number_below}
-use Rattle.tt_config.proofs.Named.{named}
+use Rattle.tt_rows.specs.Spelling.{items_of}
+use Rattle.tt_parts.specs.declared.located.At.{At}
+use Rattle.tt_parts.specs.declared.entries.Arrival.{Arrival}
+use Rattle.tt_parts.specs.declared.entries.Value.{Value}
+use Rattle.tt_parts.specs.Located.{each_at, parts}
+use Rattle.tt_parts.specs.Entries.{arrival_in, rounds_in, start_in, time_in, value_in}
+use Rattle.tt_parts.specs.Names.{names_in, number_named}
+use Rattle.tt_parts.specs.Parts.{first_line}
+use Rattle.tt_rules.specs.BodyRules.{is_declared, uses}
+use Rattle.tt_rules.specs.Document.{document_of, first_or_zero}
+use Rattle.tt_rules.specs.InputRules.{is_not_after, is_same_source, is_same_thing, rule_25, rule_26, rule_27, rule_28}
+use Rattle.tt_rules.specs.Order.{below}
+use Rattle.tt_rules.specs.RoundRules.{is_within}
+use Rattle.tt_rules.specs.Shapes.{differ_from}
+use Rattle.tt_rules.specs.Table.{AreKept, the_rules}
+use Rattle.tt_rules.proofs.Each.{Pairs, all_from_each, each_always, each_flat_map, each_from_all, each_weaker, pairs_flat_map}
+use Rattle.tt_rules.proofs.Kept.{kept as keeps}
+use Rattle.tt_rules.proofs.Pairs.{pairs_differ}
+use Rattle.tt_rules.proofs.SoundDeclarations.{first-passes}
+use Rattle.tt_rules.proofs.SoundTables.{alone, one}
+use Rattle.tt_config.specs.Document.{elaborated_of}
+use Rattle.tt_config.specs.Lists.{at_number, by_number, given}
+use Rattle.tt_config.specs.Parts.{arrival_by, arrival_place, config_with, first_mode, script_with, value_place}
+use Rattle.tt_config.proofs.Counted.{length-below, named}
+use Rattle.tt_config.proofs.Known.{number_below}
+use Rattle.tt_config.proofs.Rows.{EachRow, IsRowFit, IfPart, each_part, rows_fit}
 
--- ---- the start and the number of rounds
+-- ---- lists by number
 
-start_one : (row : Row) → length (start_in row) ≡ one_if (is_start row)
-start_one (r.Start mode) = refl
-start_one row = refl
+pub length-by_number : {A B : Type 0} (count : ℕ) (place : A → Option (ℕ × B)) (xs : List A) → length (by_number count place xs) ≡ count
+length-by_number count place xs = length-map (below count) (given place xs) ∙ length-below count
 
-start_declared : (names : List NameEntry) (row : Row) → names_undeclared names row ≡ false → Each (λ mode. is_declared names (uses Kind.Mode mode) ≡ true) (start_in row)
-start_declared names (r.Start mode) is = ((and_parts (is_declared names (uses Kind.Mode mode)) true (not-false (list_all (is_declared names) (used_in (r.Start mode))) is)).0, tt)
-start_declared names row is = tt
+all_lists : {X : Type 0} (test : X → Bool) (f : ℕ → X) → ((k : ℕ) → test (f k) ≡ true) → (ks : List ℕ) → list_all test (map f ks) ≡ true
+all_lists test f each [] = refl
+all_lists test f each (k ∷ ks) = and_from (test (f k)) _ (each k) (all_lists test f each ks)
 
-pub start : (rows : List NumberedRow) → lines_14 rows ≡ [] → lines_25 rows ≡ [] → (script_of rows).start.0 < length (config_of rows).modes
-start rows is_14 is_25 =
-    let names = names_in rows in
-    let one = line_unless (lines_where is_start rows) (first_line rows) in
-    let some : 1 ≤ length (each_row start_in rows) =
-    omega (arith, some_unless (lines_where is_start rows) (first_line rows) (none_left one (lines_past 1 is_start rows) is_25), length-each_row start_in is_start start_one rows) in
-    let declared = each_part start_in (names_undeclared names) (λ mode. is_declared names (uses Kind.Mode mode) ≡ true) (start_declared names) rows is_14 in
-    let mode = first_or [] (each_row start_in rows) in
-    let here = first_holds (λ mode. is_declared names (uses Kind.Mode mode) ≡ true) [] (each_row start_in rows) some declared in
-    subst (λ n. number_named names mode < n) (named rows).modes (number_below names Kind.Mode mode here)
+-- ---- the start, the number of rounds and the times
 
-rounds_one : (row : Row) → length (rounds_in row) ≡ one_if (is_rounds row)
-rounds_one (r.Rounds count) = refl
-rounds_one row = refl
+module _ (names : List NameEntry) where
+  start_fits : (row : Row) → IsRowFit names row → IfPart (λ (mode : ModeNo). mode.0 < count_of Kind.Mode names) (start_in names row)
+  start_fits (r.Start mode) fit = number_below names Kind.Mode mode (and_parts (is_declared names (uses Kind.Mode mode)) true fit.known).0
+  start_fits row fit = tt
 
-rounds_fit : (row : Row) → is_rounds_outside row ≡ false → Each (λ n. (1 ≤ n) × (n ≤ 100000)) (rounds_in row)
-rounds_fit (r.Rounds count) is = (within 1 100000 count is, tt)
-rounds_fit row is = tt
+  time_fits : (row : Row) → IsRowFit names row → IfPart (λ time. nat_lt time (10 ^ 12) ≡ true) (time_in row)
+  time_fits (r.Time global) fit = (and_parts (nat_lt global (10 ^ 12)) true (and_parts (list_all is_sound_item (items_of (r.Time global))) _ fit.sound).0).0
+  time_fits row fit = tt
 
-pub rounds : (rows : List NumberedRow) → lines_26 rows ≡ [] → (1 ≤ (script_of rows).rounds) × ((script_of rows).rounds ≤ 100000)
-rounds rows is =
-    let one = line_unless (lines_where is_rounds rows) (first_line rows) in
-    let outside = lines_where is_rounds_outside rows in
-    let more = lines_past 1 is_rounds rows in
-    let some : 1 ≤ length (each_row rounds_in rows) =
-    omega (arith, some_unless (lines_where is_rounds rows) (first_line rows) (none_left one (outside ++ more) is), length-each_row rounds_in is_rounds rounds_one rows) in
-    let fit = each_part rounds_in is_rounds_outside (λ n. (1 ≤ n) × (n ≤ 100000)) rounds_fit rows (none_left outside more (none_right one (outside ++ more) is)) in
-    first_holds (λ n. (1 ≤ n) × (n ≤ 100000)) 0 (each_row rounds_in rows) some fit
+  tick_fits : (row : Row) → IsRowFit names row → IfPart (λ (a : Arrival). nat_lt a.tick (10 ^ 12) ≡ true) (arrival_in names row)
+  tick_fits (r.Arrive source tick) fit =
+      (and_parts (nat_lt tick (10 ^ 12)) true (and_parts _ _ (and_parts (list_all is_sound_item (items_of (r.Arrive source tick))) _ fit.sound).0).1).0
+  tick_fits row fit = tt
 
--- ---- the values of demands
+first_holds : (P : ModeNo → Type 0) (modes : List ModeNo) → 1 ≤ length modes → Each P modes → P (first_mode modes)
+first_holds P [] some h = absurd (omega arith)
+first_holds P (mode ∷ modes) some h = h.0
 
-pub length_for_each : {A : Type 0} (kind : NameKind) (part_of : List ℕ → Row → List A) (rows : List NumberedRow)
-    → length (for_each_name kind part_of rows) ≡ count_of kind (names_in rows)
-length_for_each kind part_of rows = length-map (names_of kind (names_in rows)) (λ name. each_row (part_of name) rows)
+-- ---- values
 
--- what the list of each name has
-pub all_lists : {A : Type 0} (test : List A → Bool) (kind : NameKind) (part_of : List ℕ → Row → List A) (rows : List NumberedRow)
-    → ((name : List ℕ) → test (each_row (part_of name) rows) ≡ true) → list_all test (for_each_name kind part_of rows) ≡ true
-all_lists test kind part_of rows each =
-    all_from_each test (for_each_name kind part_of rows)
-    (each_map (λ xs. test xs ≡ true) (λ name. each_row (part_of name) rows) (names_of kind (names_in rows))
-    (each_always (λ name. test (each_row (part_of name) rows) ≡ true) each (names_of kind (names_in rows))))
+value_small : (k : ℕ) (value : Value) → nat_le value.ticks 10000000 ≡ true → Each (λ n. nat_le n 10000000 ≡ true) (at_number k (value_place value))
+value_small k value is = one (λ n. nat_le n 10000000 ≡ true) (value.demand.0 == k) value.ticks (λ here. is)
 
-each_if : {A : Type 0} (P : A → Type 0) (test : Bool) (x : A) → P x → Each P (if test then x ∷ [] else [])
-each_if P true x h = (h, tt)
-each_if P false x h = tt
+values_small : (count : ℕ) (values : List Value) → list_all (λ (value : Value). nat_le value.ticks 10000000) values ≡ true
+    → list_all (list_all (λ n. nat_le n 10000000)) (by_number count value_place values) ≡ true
+values_small count values is =
+    all_lists (list_all (λ n. nat_le n 10000000)) (given value_place values)
+    (λ k. all_from_each (λ n. nat_le n 10000000) (given value_place values k)
+    (each_flat_map (λ (value : Value). at_number k (value_place value)) (λ (value : Value). nat_le value.ticks 10000000 ≡ true) (λ n. nat_le n 10000000 ≡ true) (value_small k) values
+    (each_from_all (λ (value : Value). nat_le value.ticks 10000000) values is)))
+    (below count)
 
-value_fits : (demand : List ℕ) (row : Row) → is_value_outside row ≡ false → Each (λ value. nat_le value 10000000 ≡ true) (value_in demand row)
-value_fits demand (r.Value name value) is =
-    each_if (λ v. nat_le v 10000000 ≡ true) (bytes_eq name demand) value (le-leb value 10000000 (ltb-false 10000000 value is))
-value_fits demand row is = tt
+-- ---- arrivals
 
-pub values_small : (rows : List NumberedRow) → lines_28 rows ≡ [] → list_all (list_all (λ value. nat_le value 10000000)) (script_of rows).values ≡ true
-values_small rows is =
-    all_lists (list_all (λ value. nat_le value 10000000)) Kind.Demand value_in rows
-    (λ demand. all_from_each (λ value. nat_le value 10000000) (each_row (value_in demand) rows)
-    (each_part (value_in demand) is_value_outside (λ value. nat_le value 10000000 ≡ true) (value_fits demand) rows is))
+ascend : (least : ℕ) (ticks : List ℕ) → Each (λ tick. least ≤ tick) ticks → Each (λ tick. nat_lt tick (10 ^ 12) ≡ true) ticks → Pairs (λ a b. a < b) ticks
+    → ticks_ascend least ticks ≡ true
+ascend least [] low small h = refl
+ascend least (tick ∷ ticks) low small h =
+    and_from (nat_le least tick) _ (le-leb least tick low.0)
+    (and_from (nat_lt tick (10 ^ 12)) _ small.0
+    (ascend (tick + 1) ticks (each_weaker (λ b. tick < b) (λ b. tick + 1 ≤ b) (λ b lt. omega arith) ticks h.0) small.1 h.1))
 
--- ---- times
+-- one arrival of a source above another
+later : (same : Bool) (a b : ℕ) → same && nat_le b a ≡ false → same ≡ true → a < b
+later true a b is yes_ = omega (arith, leb-false b a is)
+later false a b is yes_ = cc
 
-abbrev pub IsSound : NumberedRow → Type 0
-IsSound row = is_sound_row row.row ≡ true
+-- numbers that are one with another are one
+both_are : (k a b : ℕ) → (k == a) ≡ true → (k == b) ≡ true → (a == b) ≡ true
+both_are k a b one_ other = eq-eqb a b (sym (eqb-true k a one_) ∙ eqb-true k b other)
 
-pub each_sound : (rows : List NumberedRow) → AreSound rows → Each IsSound rows
-each_sound rows sound = each_from_all (λ (row : NumberedRow). is_sound_row row.row) rows sound.sound
+turned : (k a : ℕ) → (a == k) ≡ true → (k == a) ≡ true
+turned k a is = eq-eqb k a (sym (eqb-true a k is))
 
-pub items_sound : (row : Row) → is_sound_row row ≡ true → list_all is_sound_item (items_of row) ≡ true
-items_sound row sound = (and_parts (list_all is_sound_item (items_of row)) (nat_le (length (line_of_row row)) 200) sound).0
+module _ (kind : NameKind) (k : ℕ) where
+  -- what is an item of a number, where it is one of a kind
+  in_kind : (P : ℕ → Type 0) (own : Bool) (n tick : ℕ) → (own ≡ true → (n == k) ≡ true → P tick) → Each P (at_number k (if own then Some (n, tick) else None))
+  in_kind P true n tick has = one P (n == k) tick (has refl)
+  in_kind P false n tick has = tt
 
-time_fits : (row : Row) → is_sound_row row ≡ true → Each (λ time. nat_lt time (10 ^ 12) ≡ true) (time_in row)
-time_fits (r.Time global) sound = ((and_parts (nat_lt global (10 ^ 12)) true (items_sound (r.Time global) sound)).0, tt)
-time_fits row sound = tt
+  in_source : (P : ℕ → Type 0) (s : Option Declared) (tick : ℕ) → P tick → Each P (at_number k (arrival_by kind s tick))
+  in_source P None tick has = tt
+  in_source P (Some d) tick has = in_kind P (is_same_kind kind (kind_of d)) (number_of d) tick (λ own here. has)
 
-pub times : (rows : List NumberedRow) → AreSound rows → list_all (λ time. nat_lt time (10 ^ 12)) (script_of rows).times ≡ true
-times rows sound =
-    all_from_each (λ time. nat_lt time (10 ^ 12)) (each_row time_in rows)
-    (each_flat_map (λ (row : NumberedRow). time_in row.row) IsSound (λ time. nat_lt time (10 ^ 12) ≡ true) (λ row. time_fits row.row) rows (each_sound rows sound))
+  single : (s : Option Declared) (tick : ℕ) → Pairs (λ a b. a < b) (at_number k (arrival_by kind s tick))
+  single None tick = tt
+  single (Some d) tick = by (is_same_kind kind (kind_of d)) where
+    by : (own : Bool) → Pairs (λ a b. a < b) (at_number k (if own then Some (number_of d, tick) else None))
+    by true = alone (λ a b. a < b) (number_of d == k) tick
+    by false = tt
+
+  apart : (s t : Option Declared) (a b : ℕ) → is_same_source s t && nat_le b a ≡ false → Each (λ x. Each (λ y. x < y) (at_number k (arrival_by kind t b))) (at_number k (arrival_by kind s a))
+  apart None t a b h = tt
+  apart (Some d) None a b h = in_source (λ x. Each (λ y. x < y) []) (Some d) a tt
+  apart (Some d) (Some e) a b h =
+      in_kind (λ x. Each (λ y. x < y) (at_number k (arrival_by kind (Some e) b))) (is_same_kind kind (kind_of d)) (number_of d) a (λ own here.
+      in_kind (λ y. a < y) (is_same_kind kind (kind_of e)) (number_of e) b (λ other there.
+      later (is_same_thing d e) a b h
+      (and_from (is_same_kind (kind_of d) (kind_of e)) _ (both_are (index_of kind) (index_of (kind_of d)) (index_of (kind_of e)) own other)
+      (both_are k (number_of d) (number_of e) (turned k (number_of d) here) (turned k (number_of e) there)))))
+
+-- 27. The arrivals of each source ascend.
+arrivals_ascend : (kind : NameKind) (count : ℕ) (arrivals : List Arrival) → Each (λ (a : Arrival). nat_lt a.tick (10 ^ 12) ≡ true) arrivals → differ_from is_not_after [] arrivals ≡ true
+    → list_all (ticks_ascend 0) (by_number count (arrival_place kind) arrivals) ≡ true
+arrivals_ascend kind count arrivals small is =
+    all_lists (ticks_ascend 0) (given (arrival_place kind) arrivals)
+    (λ k. ascend 0 (given (arrival_place kind) arrivals k)
+    (each_always (λ tick. 0 ≤ tick) (λ tick. omega arith) (given (arrival_place kind) arrivals k))
+    (each_flat_map (λ (a : Arrival). at_number k (arrival_place kind a)) (λ (a : Arrival). nat_lt a.tick (10 ^ 12) ≡ true) (λ tick. nat_lt tick (10 ^ 12) ≡ true)
+    (λ a lt. in_source kind k (λ tick. nat_lt tick (10 ^ 12) ≡ true) a.source a.tick lt) arrivals small)
+    (pairs_flat_map (λ (a : Arrival). at_number k (arrival_place kind a)) (λ (a b : Arrival). is_not_after a b ≡ false) (λ a b. a < b)
+    (λ a b h. apart kind k a.source b.source a.tick b.tick h) (λ a. single kind k a.source a.tick) arrivals (pairs_differ is_not_after arrivals is)))
+    (below count)
+
+-- ---- the whole
+
+module _ (rows : List NumberedRow) (kept : AreKept the_rules (document_of rows)) where
+  abbrev names : List NameEntry
+  names = names_in rows
+
+  -- 26. The number of rounds is from 1 to 100,000.
+  pub rounds_within : is_within 1 100000 (first_or_zero (parts (each_at rounds_in rows))) ≡ true
+  rounds_within =
+      let ns = parts (each_at rounds_in rows) in
+      let all = and_parts (nat_le 1 (length ns)) _ (keeps (first_line rows) rule_26 (each_at rounds_in rows) (kept 25)) in
+      first-passes (is_within 1 100000) ns (leb-true 1 (length ns) all.0) (and_parts (list_all (is_within 1 100000) ns) _ all.1).0
+
+  module _ (sound : AreSound rows) where
+    fit : EachRow (IsRowFit names) rows
+    fit = rows_fit rows sound (kept 8) (kept 13)
+
+    start_sound : (first_mode (parts (each_at (start_in names) rows))).0 < count_of Kind.Mode names
+    start_sound =
+        let modes = parts (each_at (start_in names) rows) in
+        let some = and_parts (nat_le 1 (length modes)) _ (keeps (first_line rows) rule_25 (each_at (start_in names) rows) (kept 24)) in
+        first_holds (λ mode. mode.0 < count_of Kind.Mode names) modes (leb-true 1 (length modes) some.0)
+        (each_part (λ (mode : ModeNo). mode.0 < count_of Kind.Mode names) (IsRowFit names) (start_in names) (start_fits names) rows fit)
+
+    ticks_small : Each (λ (a : Arrival). nat_lt a.tick (10 ^ 12) ≡ true) (parts (each_at (arrival_in names) rows))
+    ticks_small = each_part (λ (a : Arrival). nat_lt a.tick (10 ^ 12) ≡ true) (IsRowFit names) (arrival_in names) (tick_fits names) rows fit
+
+    not_late : differ_from is_not_after [] (parts (each_at (arrival_in names) rows)) ≡ true
+    not_late = (and_parts (differ_from is_not_after [] (parts (each_at (arrival_in names) rows))) true (keeps 1 rule_27 (each_at (arrival_in names) rows) (kept 26))).0
+
+    pub script_sound : IsScript (config_with (elaborated_of rows)) (script_with names (document_of rows).said)
+    script_sound =
+        let arrivals = parts (each_at (arrival_in names) rows) in
+        let values = parts (each_at (value_in names) rows) in
+        let times = parts (each_at time_in rows) in
+        let rounds = first_or_zero (parts (each_at rounds_in rows)) in
+        let within = and_parts (nat_le 1 rounds) (nat_le rounds 100000) rounds_within in
+        record {
+          start = subst (λ n. (first_mode (parts (each_at (start_in names) rows))).0 < n) (named rows).modes start_sound;
+          some_round = leb-true 1 rounds within.0;
+          few_rounds = leb-true rounds 100000 within.1;
+          values = length-by_number (count_of Kind.Demand names) value_place values ∙ (named rows).demands;
+          values_small = values_small (count_of Kind.Demand names) values
+              (and_parts (list_all (λ (value : Value). nat_le value.ticks 10000000) values) true (keeps 1 rule_28 (each_at (value_in names) rows) (kept 27))).0;
+          isrs = length-by_number (count_of Kind.Isr names) (arrival_place Kind.Isr) arrivals ∙ (named rows).isrs;
+          oisrs = length-by_number (count_of Kind.Oisr names) (arrival_place Kind.Oisr) arrivals ∙ (named rows).oisrs;
+          isrs_ascending = arrivals_ascend Kind.Isr (count_of Kind.Isr names) arrivals ticks_small not_late;
+          oisrs_ascending = arrivals_ascend Kind.Oisr (count_of Kind.Oisr names) arrivals ticks_small not_late;
+          times = all_from_each (λ time. nat_lt time (10 ^ 12)) times (each_part (λ time. nat_lt time (10 ^ 12) ≡ true) (IsRowFit names) time_in (time_fits names) rows fit);
+        }

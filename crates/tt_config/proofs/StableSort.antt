@@ -1,4 +1,4 @@
--- A stable sort gives what the insertion of each element into those behind it does.
+-- A stable sort gives what the insertion of each element into those after it does.
 use Rattle.std.proofs.Common.{◌≡◌, ℕ, suc, ◌<◌, ◌≤◌, Bool, true, false, cond, not, List, [], ◌∷◌, length, get_or, refl, sym, ap, subst, ◌∙◌, arith}
 use Rattle.std.specs.Prelude.{◌&&◌, filter}
 use Rattle.std.specs.Cmp.{IsStrictWeakOrder}
@@ -6,9 +6,9 @@ use Rattle.std.specs.List.{AllByRecursion as Each}
 use Rattle.std.specs.List.Sorted.{IsSortedBy, IsStableBy, ties}
 use Rattle.std.proofs.lemmas.Bool.{false_from_ne_true}
 use Rattle.std.proofs.lemmas.List.Sorted.{sorted_far}
-use Rattle.tt_config.specs.Parts.{inserted, ascending}
-use Rattle.tt_config.proofs.Each.{Pairs}
-use Rattle.tt_config.proofs.Sorting.{InOrder, order_ascending}
+use Rattle.tt_rules.specs.Order.{inserted, ascending}
+use Rattle.tt_rules.proofs.Each.{Pairs}
+use Rattle.tt_rules.proofs.Sorting.{InOrder, order_ascending}
 
 -- ---- tests
 

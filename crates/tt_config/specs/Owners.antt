@@ -1,70 +1,108 @@
--- What has a body, of the rows that were read so far from the last to the first.
-use Rattle.std.specs.Prelude.{ℕ, ℤ, ◌^◌, ◌&&◌, nat_lt, Bool, true, false, List, [], ◌∷◌, Option, Some, None}
-use Rattle.tt_base.specs.declared.names.NameEntry.{NameEntry}
+-- The owners of bodies.
+use Rattle.std.specs.Prelude.{ℕ, ◌^◌, ◌≤◌, Bool, true, List, [], ◌∷◌, ◌++◌, flat_map}
+use Rattle.std.specs.List.{AllByRecursion}
 use Rattle.task_lang.specs.declared.demand.Demand.{Demand}
 use Rattle.task_lang.specs.declared.syntax.Stmt.{Stmt}
-use Rattle.task_lang.specs.Limits.{IsNestedInLimit, IsCountInLimit, AreNumbersInRange, AreMostsInRange}
 use Rattle.task_lang.specs.Worst.{worst_in}
-use Rattle.tt_world.specs.declared.config.ModeDef.{ModeDef}
-use Rattle.tt_world.specs.declared.config.ConfigParts.{ConfigParts}
-use Rattle.tt_rows.specs.declared.row.Row.{Row}
-use Rattle.tt_rows.specs.declared.row.Row.TheVariants as r
-use Rattle.tt_rows.specs.declared.row.NumberedRow.{NumberedRow}
+use Rattle.tt_world.specs.declared.config.TaskDef.{TaskDef}
+use Rattle.tt_world.specs.declared.config.IsrDef.{IsrDef}
+use Rattle.tt_world.specs.declared.config.OsekDef.{OsekDef}
+use Rattle.tt_world.specs.declared.config.OisrDef.{OisrDef}
+use Rattle.tt_parts.specs.declared.located.At.{At}
+use Rattle.tt_parts.specs.declared.bodies.Owner.{Owner}
+use Rattle.tt_parts.specs.declared.bodies.Owner.TheVariants as owner
+use Rattle.tt_parts.specs.declared.bodies.BodyPart.{BodyPart}
+use Rattle.tt_rules.specs.BodyRules.{IsTellable}
 use Rattle.tt_config.specs.declared.owners.Owners.{Owners}
-use Rattle.tt_config.specs.Rules.{opens_routine}
-use Rattle.tt_config.specs.Parts.{task_of, isr_of, isr_with, osek_of, osek_with, oisr_of, error_hook_of, shutdown_hook_of, each_with_rest, first_or}
 
--- the owners that rows declare, each with its body
-abbrev pub owners_of : List NameEntry → List Demand → List NumberedRow → Owners
-owners_of names demands rows = record {
-  tasks = each_with_rest (task_of names demands) rows;
-  isrs = each_with_rest (isr_of names demands) rows;
-  oseks = each_with_rest (osek_of names demands) rows;
-  oisrs = each_with_rest (oisr_of names demands) rows;
-  error_hook = first_or [] (each_with_rest (error_hook_of names) rows);
-  shutdown_hook = first_or [] (each_with_rest (shutdown_hook_of names) rows);
+abbrev pub task_by : List Demand → List Stmt → Owner → List TaskDef
+task_by demands body (owner.Task stack) = record { stack = stack; body = body; budget = worst_in demands body } ∷ []
+task_by demands body other = []
+
+-- a task, with its body and the body's worst case
+abbrev pub task_in : List Demand → BodyPart → List TaskDef
+task_in demands b = task_by demands b.body b.owner
+
+abbrev pub isr_by : List Demand → List Stmt → Owner → List IsrDef
+isr_by demands body (owner.Isr level stack distance) =
+    record { level = level; stack = stack; distance = distance; body = body; budget = worst_in demands body } ∷ []
+isr_by demands body other = []
+
+abbrev pub isr_in : List Demand → BodyPart → List IsrDef
+isr_in demands b = isr_by demands b.body b.owner
+
+abbrev pub osek_by : List Demand → List Stmt → Owner → List OsekDef
+osek_by demands body (owner.Osek priority auto) =
+    record { priority = priority; auto = auto; body = body; budget = worst_in demands body } ∷ []
+osek_by demands body other = []
+
+abbrev pub osek_in : List Demand → BodyPart → List OsekDef
+osek_in demands b = osek_by demands b.body b.owner
+
+abbrev pub oisr_by : List Demand → List Stmt → Owner → List OisrDef
+oisr_by demands body (owner.Oisr priority) = record { priority = priority; body = body; budget = worst_in demands body } ∷ []
+oisr_by demands body other = []
+
+abbrev pub oisr_in : List Demand → BodyPart → List OisrDef
+oisr_in demands b = oisr_by demands b.body b.owner
+
+abbrev pub error_hook_by : List Stmt → Owner → List (List Stmt)
+error_hook_by body owner.ErrorHook = body ∷ []
+error_hook_by body other = []
+
+abbrev pub error_hook_in : BodyPart → List (List Stmt)
+error_hook_in b = error_hook_by b.body b.owner
+
+abbrev pub shutdown_hook_by : List Stmt → Owner → List (List Stmt)
+shutdown_hook_by body owner.ShutdownHook = body ∷ []
+shutdown_hook_by body other = []
+
+abbrev pub shutdown_hook_in : BodyPart → List (List Stmt)
+shutdown_hook_in b = shutdown_hook_by b.body b.owner
+
+-- the owners of some bodies
+abbrev pub owners_of : List Demand → List BodyPart → Owners
+owners_of demands bodies = record {
+  tasks = flat_map (task_in demands) bodies;
+  isrs = flat_map (isr_in demands) bodies;
+  oseks = flat_map (osek_in demands) bodies;
+  oisrs = flat_map (oisr_in demands) bodies;
+  error_hooks = flat_map error_hook_in bodies;
+  shutdown_hooks = flat_map shutdown_hook_in bodies;
 }
 
--- a configuration whose owners are these
-abbrev pub config_with : List NameEntry → ℕ → ℕ → List ℤ → List Demand → Owners → List ModeDef → ConfigParts
-config_with names round adjust vars demands owners modes = record {
-  names = names;
-  round = round;
-  adjust = adjust;
-  vars = vars;
-  demands = demands;
-  tasks = owners.tasks;
-  isrs = owners.isrs;
-  oseks = owners.oseks;
-  oisrs = owners.oisrs;
-  error_hook = owners.error_hook;
-  shutdown_hook = owners.shutdown_hook;
-  modes = modes;
+abbrev pub no_owners : Owners
+no_owners = record { tasks = []; isrs = []; oseks = []; oisrs = []; error_hooks = []; shutdown_hooks = [] }
+
+-- one owner more
+abbrev pub with_owner : List Demand → BodyPart → Owners → Owners
+with_owner demands b owners = record {
+  tasks = owners.tasks ++ task_in demands b;
+  isrs = owners.isrs ++ isr_in demands b;
+  oseks = owners.oseks ++ osek_in demands b;
+  oisrs = owners.oisrs ++ oisr_in demands b;
+  error_hooks = owners.error_hooks ++ error_hook_in b;
+  shutdown_hooks = owners.shutdown_hooks ++ shutdown_hook_in b;
 }
 
--- the owner that a row declares, with its body, in front of others
-abbrev pub owner_then : List Demand → Row → List Stmt → Owners → Owners
-owner_then demands (r.Task name stack) body owners =
-    record owners { tasks = record { stack = stack; body = body; budget = worst_in demands body } ∷ owners.tasks }
-owner_then demands (r.Isr name level stack) body owners = record owners { isrs = isr_with demands level stack None body ∷ owners.isrs }
-owner_then demands (r.IsrFar name level stack distance) body owners =
-    record owners { isrs = isr_with demands level stack (Some distance) body ∷ owners.isrs }
-owner_then demands (r.Osek name priority) body owners = record owners { oseks = osek_with demands priority false body ∷ owners.oseks }
-owner_then demands (r.OsekAuto name priority) body owners = record owners { oseks = osek_with demands priority true body ∷ owners.oseks }
-owner_then demands (r.Oisr name priority) body owners =
-    record owners { oisrs = record { priority = priority; body = body; budget = worst_in demands body } ∷ owners.oisrs }
-owner_then demands r.HookError body owners = record owners { error_hook = body }
-owner_then demands r.HookShutdown body owners = record owners { shutdown_hook = body }
-owner_then demands row body owners = owners
+-- the first of some bodies, the empty one where there is none
+abbrev pub first_body : List (List Stmt) → List Stmt
+first_body [] = []
+first_body (body ∷ others) = body
 
--- a body whose worst case can be told
-pub record IsTellable (demands : List Demand) (body : List Stmt) : Type 0 where
-  pub nested : IsNestedInLimit body
-  pub counted : IsCountInLimit body
-  pub numbers : AreNumbersInRange body
-  pub mosts : AreMostsInRange demands
+-- the numbers of an owner have the widths of those of a configuration
+abbrev pub FitsOwner : List Demand → List Stmt → Owner → Type 0
+FitsOwner demands body (owner.Task stack) = (stack ≤ 65535) × (worst_in demands body ≤ 10 ^ 12)
+FitsOwner demands body (owner.Isr level stack distance) = (level ≤ 255) × ((stack ≤ 65535) × (worst_in demands body ≤ 10 ^ 12))
+FitsOwner demands body (owner.Osek priority auto) = (priority ≤ 255) × (worst_in demands body ≤ 10 ^ 12)
+FitsOwner demands body (owner.Oisr priority) = (priority ≤ 255) × (worst_in demands body ≤ 10 ^ 12)
+FitsOwner demands body owner.ErrorHook = Unit {0}
+FitsOwner demands body owner.ShutdownHook = Unit {0}
 
--- whether the body of a routine, which a row opens, takes more ticks than it may
-abbrev pub is_heavy : List Demand → Row → Option (List Stmt) → Bool
-is_heavy demands row None = false
-is_heavy demands row (Some body) = opens_routine row && nat_lt (10 ^ 12) (worst_in demands body)
+-- a body whose worst case can be told, and an owner whose numbers fit
+pub record IsFit (demands : List Demand) (b : BodyPart) : Type 0 where
+  pub tellable : IsTellable demands b.body
+  pub owner : FitsOwner demands b.body b.owner
+
+abbrev pub AreFit : List Demand → List (At BodyPart) → Type 0
+AreFit demands bodies = AllByRecursion (λ (x : At BodyPart). IsFit demands x.part) bodies

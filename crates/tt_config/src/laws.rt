@@ -1,9 +1,8 @@
-//! Laws of the definitions. Each is the contract of a function with an empty body.
+//! What the rules on bodies say of a configuration. The function states a law, and does nothing.
 
 ghost use Rattle.tt_config.specs.BodyRules.{BodiesAreSound};
 
-/// The bodies of the configuration that sound rows give meet the rules of a configuration, where the rows break none of the
-/// rules on blocks, numbers, used names, allowed rows, empty bodies and worst cases.
+/// Where no line breaks a rule on bodies, the bodies of the configuration that rows give keep its rules.
 pub fn bodies_are_sound()
     ensures { BodiesAreSound }
 {}

@@ -1,10 +1,40 @@
-//! Lists by the number of what they belong to.
+//! Parts without their lines, and lists by the number of what they belong to.
 
-ghost use Rattle.std.specs.Prelude.{◌≡◌, [], ◌∷◌, ◌++◌, IfOk, OnOk, replicate, slice_index_or, slice_set};
+ghost use Rattle.std.specs.Prelude.{◌≡◌, ℕ, [], ◌∷◌, IfOk, OnOk, Option, map, replicate};
+ghost use Rattle.tt_base.specs.declared.names.NameKind.{NameKind};
+ghost use Rattle.tt_base.specs.Names.{count_of};
+ghost use Rattle.tt_config.specs.Lists.{appended, by_number, put_at};
+ghost use Rattle.tt_parts.specs.Located.{parts};
+ghost use Rattle.tt_rules.specs.Shapes.{Answers};
 
 use std::alloc::Global;
 use std::marker::Model;
-use tt_base::{Memory, Series};
+use tt_base::{Memory, NameEntry, NameKind, Series};
+use tt_parts::At;
+
+/// The parts without their lines.
+pub(crate) fn parts<T: Copy + Drop>(alloc: Global, located: &[At<T>]) -> Result<Series<T>, Memory>
+    ensures { IfOk result (λ list. list ≡ parts located.now) }
+{
+    let mut list = Series::new(alloc);
+    for at in located {
+        list.push(at.part)?;
+    }
+    Ok(list)
+}
+
+/// How many names of a kind there are.
+pub(crate) fn count_of(names: &[At<NameEntry>], kind: NameKind) -> usize
+    ensures { result ≡ count_of kind (parts names.now) }
+{
+    let mut count = 0;
+    for at in names {
+        if kind.index() == at.part.kind.index() {
+            count += 1;
+        }
+    }
+    count
+}
 
 /// Lists, each by a number from 0 on.
 #[derive(Debug, Drop)]
@@ -25,7 +55,7 @@ impl<T> Model for Lists<T> {
 
 impl<T: Drop> Lists<T> {
     /// So many empty lists.
-    pub(crate) fn new(alloc: Global, count: usize) -> Result<Lists<T>, Memory>
+    fn new(alloc: Global, count: usize) -> Result<Lists<T>, Memory>
         ensures { IfOk result (λ lists. lists ≡ replicate count []) }
     {
         let mut lists = Vec::new(alloc);
@@ -38,9 +68,8 @@ impl<T: Drop> Lists<T> {
     }
 
     /// Appends an item to the list of a number, where there is one.
-    pub(crate) fn push(&mut self, number: u16, item: T) -> Result<(), Memory>
-        ensures { OnOk result (self.new
-            ≡ slice_set self.old number (slice_index_or self.old number [] ++ item ∷ [])) }
+    fn push(&mut self, number: u16, item: T) -> Result<(), Memory>
+        ensures { OnOk result (self.new ≡ appended number item self.old) }
     {
         match self.lists.get_mut(number as usize) {
             Some(list) => list.push(item),
@@ -48,21 +77,38 @@ impl<T: Drop> Lists<T> {
         }
     }
 
-    /// The lists in order.
-    pub(crate) fn into_series(self, alloc: Global) -> Result<Series<Series<T>>, Memory>
-        ensures { IfOk result (λ series. series ≡ self) }
+    /// Appends an item to the list of its number, where there is an item.
+    fn put(&mut self, place: Option<(u16, T)>) -> Result<(), Memory>
+        ensures { OnOk result (self.new ≡ put_at place self.old) }
     {
-        series_of(alloc, self.lists)
+        match place {
+            None => Ok(()),
+            Some((number, item)) => self.push(number, item),
+        }
+    }
+
+    /// The lists in order.
+    pub(crate) fn into_series(self) -> Series<Series<T>>
+        ensures { result ≡ self }
+    {
+        Series::from_vec(self.lists)
     }
 }
 
-/// The items of a `Vec` as a list.
-pub(crate) fn series_of<T: Drop>(alloc: Global, items: Vec<T>) -> Result<Series<T>, Memory>
-    ensures { IfOk result (λ series. series ≡ items.items) }
+/// For each number below one, what parts give it, in order. Each part gives one number an item, or none.
+pub(crate) fn by_number<T, U: Drop, F: Fn(&T) -> Option<(u16, U)>>(
+    alloc: Global,
+    count: usize,
+    located: &[At<T>],
+    place_of: F,
+) -> Result<Lists<U>, Memory>
+    requires callable { F.IsAlwaysCallable place_of }
+    ensures { IfOk result (λ lists. (place : T → Option (ℕ × U)) → Answers F.Fn place_of place
+        → lists ≡ by_number count place (parts located.now)) }
 {
-    let mut series = Series::new(alloc);
-    for item in items {
-        series.push(item)?;
+    let mut lists = Lists::new(alloc, count)?;
+    for at in located {
+        lists.put(place_of(&at.part))?;
     }
-    Ok(series)
+    Ok(lists)
 }

@@ -38,13 +38,12 @@ use Rattle.tt_rules.proofs.Kept.{kept_one}
 -- ---- rows
 
 -- a block's row has a head
-has_block : Standing → Option Head → Bool
+abbrev pub has_block : Standing → Option Head → Bool
 has_block OfIf head = is_some head
 has_block OfRepeat head = is_some head
 has_block standing head = true
 
-block_head : (names : List NameEntry) (row : Row) → has_block (standing_of row) (head_of names row) ≡ true
-unfolding has_block
+pub block_head : (names : List NameEntry) (row : Row) → has_block (standing_of row) (head_of names row) ≡ true
 block_head names (r.If terms) = refl
 block_head names (r.Repeat turns) = refl
 block_head names row = refl
@@ -54,7 +53,7 @@ kind_or None = kind.Hook
 kind_or (Some owner) = kind_of owner
 
 -- a row that declares an owner opens a body of its kind
-opens_kind : (row : Row) (owner : Owner) → owner_in row ≡ Some owner → standing_of row ≡ Opener (kind_of owner)
+pub opens_kind : (row : Row) (owner : Owner) → owner_in row ≡ Some owner → standing_of row ≡ Opener (kind_of owner)
 opens_kind (r.Task name stack) owner is = ap (λ o. Opener (kind_or o)) is
 opens_kind (r.Isr name level stack) owner is = ap (λ o. Opener (kind_or o)) is
 opens_kind (r.IsrFar name level stack distance) owner is = ap (λ o. Opener (kind_or o)) is
@@ -66,7 +65,7 @@ opens_kind r.HookShutdown owner is = ap (λ o. Opener (kind_or o)) is
 opens_kind row owner is = cc
 
 -- a row stands where it may, and those after it do
-formed : (stack : List Open) (last : ℕ) (row : NumberedRow) (rows : List NumberedRow) → lines_2_from stack last (row ∷ rows) ≡ []
+pub formed : (stack : List Open) (last : ℕ) (row : NumberedRow) (rows : List NumberedRow) → lines_2_from stack last (row ∷ rows) ≡ []
     → (is_misplaced stack (standing_of row.row) ≡ false) × (lines_2_from (stack_then stack (standing_of row.row)) row.line rows ≡ [])
 formed stack last row rows is = by (is_misplaced stack (standing_of row.row)) is where
   by : (b : Bool) → (if b then row.line ∷ [] else lines_2_from (stack_then stack (standing_of row.row)) row.line rows) ≡ []
@@ -77,16 +76,16 @@ formed stack last row rows is = by (is_misplaced stack (standing_of row.row)) is
 -- ---- bodies
 
 -- a test that does not look inside a statement
-record IsShallow (test : Head → Bool) : Type 0 where
-  branches : (expr : Expr) (first second : List Bool) → test (Stmt-F.If expr first second) ≡ test (Stmt-F.If expr [] [])
-  turns : (n : ℕ) (body : List Bool) → test (Stmt-F.Repeat n body) ≡ test (Stmt-F.Repeat n [])
+pub record IsShallow (test : Head → Bool) : Type 0 where
+  pub branches : (expr : Expr) (first second : List Bool) → test (Stmt-F.If expr first second) ≡ test (Stmt-F.If expr [] [])
+  pub turns : (n : ℕ) (body : List Bool) → test (Stmt-F.Repeat n body) ≡ test (Stmt-F.Repeat n [])
 
 module _ (test : OwnerKind → Head → Bool) (shallow : (k : OwnerKind) → IsShallow (test k)) (names : List NameEntry) where
-  abbrev passes : OwnerKind → Option Head → Bool
+  abbrev pub passes : OwnerKind → Option Head → Bool
   passes k None = true
   passes k (Some head) = test k head
 
-  abbrev Passes : OwnerKind → List NumberedRow → Type 0
+  abbrev pub Passes : OwnerKind → List NumberedRow → Type 0
   Passes k [] = Unit {0}
   Passes k (row ∷ rows) = (passes k (head_of names row.row) ≡ true) × Passes (owner_after k (standing_of row.row)) rows
 
@@ -140,7 +139,6 @@ module _ (test : OwnerKind → Head → Bool) (shallow : (k : OwnerKind) → IsS
 
   fits-row : (stack : List Open) (k : OwnerKind) (standing : Standing) (head : Option Head) (rest : List Branches) → is_misplaced stack standing ≡ false
       → has_block standing head ≡ true → passes k head ≡ true → Fits (stack_then stack standing) (owner_after k standing) rest → Fits stack k (row_then standing head rest)
-  unfolding has_block
   fits-row [] k standing head rest ok block is there = tt
   fits-row (inner ∷ outer) k Top head rest ok block is there = cc
   fits-row (inner ∷ outer) k (Opener other) head rest ok block is there = cc
@@ -158,7 +156,7 @@ module _ (test : OwnerKind → Head → Bool) (shallow : (k : OwnerKind) → IsS
       fits-row (inner ∷ outer) k (standing_of row.row) (head_of names row.row) (branches_from names rows) ok.0 (block_head names row.row) pass.0
       (fits (stack_then (inner ∷ outer) (standing_of row.row)) row.line (owner_after k (standing_of row.row)) rows ok.1 pass.1)
 
-  abbrev IsFit : At BodyPart → Type 0
+  abbrev pub IsFit : At BodyPart → Type 0
   IsFit x = each_in (test (kind_of x.part.owner)) x.part.body ≡ true
 
   opened : (stack : List Open) (k own : OwnerKind) (rest : List Branches) → is_misplaced stack (Opener own) ≡ false
@@ -173,7 +171,7 @@ module _ (test : OwnerKind → Head → Bool) (shallow : (k : OwnerKind) → IsS
       let opens = opens_kind row owner is in
       opened stack k (kind_of owner) rest (subst (λ s. is_misplaced stack s ≡ false) opens ok) (subst (λ s. Fits (stack_then stack s) (owner_after k s) rest) opens there)
 
-  fit_bodies : (stack : List Open) (last : ℕ) (k : OwnerKind) (rows : List NumberedRow) → lines_2_from stack last rows ≡ [] → Passes k rows → Each IsFit (bodies_of names rows)
+  pub fit_bodies : (stack : List Open) (last : ℕ) (k : OwnerKind) (rows : List NumberedRow) → lines_2_from stack last rows ≡ [] → Passes k rows → Each IsFit (bodies_of names rows)
   fit_bodies stack last k [] is pass = tt
   fit_bodies stack last k (row ∷ rows) is pass =
       let ok = formed stack last row rows is in
@@ -188,13 +186,13 @@ module _ (test : OwnerKind → Head → Bool) (shallow : (k : OwnerKind) → IsS
 
 -- ---- rules 9 and 15
 
-shallow-number : (k : OwnerKind) → IsShallow is_number_in_range
+pub shallow-number : (k : OwnerKind) → IsShallow is_number_in_range
 shallow-number k = record { branches = λ e first second. refl; turns = λ n body. refl }
 
 shallow-allowed : (k : OwnerKind) → IsShallow (is_allowed k)
 shallow-allowed k = record { branches = λ e first second. refl; turns = λ n body. refl }
 
-number_passes : (names : List NameEntry) (k : OwnerKind) (row : Row) → has_numbers_in_range row ≡ true
+pub number_passes : (names : List NameEntry) (k : OwnerKind) (row : Row) → has_numbers_in_range row ≡ true
     → passes (λ j. is_number_in_range) shallow-number names k (head_of names row) ≡ true
 number_passes names k (r.Work ticks) number = number
 number_passes names k (r.Repeat turns) number = number
@@ -230,7 +228,7 @@ numbers_pass names k (row ∷ rows) all =
     let both = and_parts (has_numbers_in_range row.row) (list_all has_numbers_in_range (parts (rows_at rows))) all in
     (number_passes names k row.row both.0, numbers_pass names (owner_after k (standing_of row.row)) rows both.1)
 
-none-here : (test : Bool) (line : ℕ) (lines : List ℕ) → line_unless test line lines ≡ [] → (test ≡ true) × (lines ≡ [])
+pub none-here : (test : Bool) (line : ℕ) (lines : List ℕ) → line_unless test line lines ≡ [] → (test ≡ true) × (lines ≡ [])
 none-here true line lines is = (refl, is)
 none-here false line lines is = cc
 

@@ -23,7 +23,7 @@ use Rattle.tt_rules.proofs.Pairs.{pairs_differ}
 
 -- ---- the round
 
-first-passes : (test : ℕ → Bool) (ns : List ℕ) → 1 ≤ length ns → list_all test ns ≡ true → test (first_or_zero ns) ≡ true
+pub first-passes : (test : ℕ → Bool) (ns : List ℕ) → 1 ≤ length ns → list_all test ns ≡ true → test (first_or_zero ns) ≡ true
 first-passes test [] some is = absurd (omega arith)
 first-passes test (n ∷ ns) some is = (and_parts (test n) (list_all test ns) is).0
 

@@ -41,11 +41,11 @@ turned a b h = record { differ = λ e. h.differ (sym e); forth = h.back; back = 
 
 -- what is in one place, where a test says so
 module _ {A : Type 0} (P : A → Type 0) where
-  one : (here : Bool) (a : A) → (here ≡ true → P a) → Each P (if here then a ∷ [] else [])
+  pub one : (here : Bool) (a : A) → (here ≡ true → P a) → Each P (if here then a ∷ [] else [])
   one true a has = (has refl, tt)
   one false a has = tt
 
-alone : {A : Type 0} (R : A → A → Type 0) (here : Bool) (a : A) → Pairs R (if here then a ∷ [] else [])
+pub alone : {A : Type 0} (R : A → A → Type 0) (here : Bool) (a : A) → Pairs R (if here then a ∷ [] else [])
 alone R true a = (tt, tt)
 alone R false a = tt
 

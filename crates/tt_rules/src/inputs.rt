@@ -110,33 +110,3 @@ pub fn inputs_broken(alloc: Global, first: u32, said: &Said) -> Result<Option<Br
         ],
     ))
 }
-
-#[cfg(test)]
-mod tests {
-    use super::*;
-    use std::test::Fail;
-    use tt_base::IsrNo;
-
-    fn arrival(line: u32, isr: u16, tick: u64) -> At<Arrival> {
-        At {
-            line,
-            part: Arrival {
-                source: Some(Declared::Isr(IsrNo(isr))),
-                tick,
-            },
-        }
-    }
-
-    #[test]
-    fn arrivals_of_a_source_ascend(rt: HostRuntime) -> Result<(), Fail> {
-        let arrivals = [
-            arrival(2, 0, 5),
-            arrival(3, 1, 5),
-            arrival(4, 0, 6),
-            arrival(5, 1, 5),
-        ];
-        assert_eq!(rt; rule_27(rt.alloc(), &arrivals[..3])?, None);
-        assert_eq!(rt; rule_27(rt.alloc(), &arrivals)?, Some(5));
-        Ok(())
-    }
-}

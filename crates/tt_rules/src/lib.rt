@@ -21,6 +21,6 @@ pub use declarations::declarations_broken;
 pub use inputs::inputs_broken;
 pub use laws::{bodies_are_sound, declarations_are_sound, tables_are_sound};
 pub use names::names_broken;
-pub use round::{limit_of, round_broken};
+pub use round::{adjust_of, first_or_zero, limit_of, round_broken, round_of};
 pub use structure::structure_broken;
 pub use tables::tables_broken;

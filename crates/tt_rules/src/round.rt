@@ -2,7 +2,7 @@
 
 ghost use Rattle.std.specs.Prelude.{◌≡◌, nat_le, ◌*◌};
 ghost use Rattle.tt_parts.specs.Located.{parts};
-ghost use Rattle.tt_rules.specs.Document.{Document, first_or_zero, limit_of};
+ghost use Rattle.tt_rules.specs.Document.{Document, adjust_of, first_or_zero, limit_of, round_of};
 ghost use Rattle.tt_rules.specs.Lines.{least_line};
 ghost use Rattle.tt_rules.specs.RoundRules.{is_within, lines_4, lines_5, lines_6};
 ghost use Rattle.tt_rules.specs.Table.{first_broken, round_rules};
@@ -38,7 +38,7 @@ fn rule_5(declared: &Declarations) -> Option<u32>
 }
 
 /// The first of some numbers, 0 where there is none.
-fn first_or_zero(numbers: &[At<u64>]) -> u64
+pub fn first_or_zero(numbers: &[At<u64>]) -> u64
     ensures { result ≡ first_or_zero (parts numbers.now) }
 {
     match numbers.first() {
@@ -57,7 +57,7 @@ fn is_quarter(round: u64, most: u64) -> bool
 fn rule_6(declared: &Declarations) -> Option<u32>
     ensures { result ≡ least_line (lines_6 declared.now) }
 {
-    let round = first_or_zero(declared.rounds.as_slice());
+    let round = round_of(declared);
     least(&[failing(declared.adjusts.as_slice(), |most| is_quarter(round, *most))])
 }
 
@@ -68,10 +68,23 @@ pub fn round_broken(declared: &Declarations) -> Option<Broken>
     first_some(4, &[rule_4(declared), rule_5(declared), rule_6(declared)])
 }
 
+/// The length of a round, in ticks.
+pub fn round_of(declared: &Declarations) -> u64
+    ensures { result ≡ round_of declared.now }
+{
+    first_or_zero(declared.rounds.as_slice())
+}
+
+/// The greatest correction of a round, in ticks.
+pub fn adjust_of(declared: &Declarations) -> u64
+    ensures { result ≡ adjust_of declared.now }
+{
+    first_or_zero(declared.adjusts.as_slice())
+}
+
 /// The offsets that a table may use: below this, the round's length less the greatest correction.
 pub fn limit_of(declared: &Declarations) -> u64
     ensures { result ≡ limit_of declared.now }
 {
-    let round = first_or_zero(declared.rounds.as_slice());
-    round.saturating_sub(first_or_zero(declared.adjusts.as_slice()))
+    round_of(declared).saturating_sub(adjust_of(declared))
 }

@@ -135,34 +135,3 @@ pub fn structure_broken(alloc: Global, rows: &[NumberedRow]) -> Result<Option<Br
     let second = rule_2(alloc, rows)?;
     Ok(first_some(1, &[rule_1(rows), second, rule_3(rows)]))
 }
-
-#[cfg(test)]
-mod tests {
-    use super::*;
-    use std::test::Fail;
-    use tt_base::Series;
-
-    fn numbered(line: u32, row: Row) -> NumberedRow
-        ensures { result ≡ record { line = line; row = row } }
-    {
-        NumberedRow { line, row }
-    }
-
-    #[test]
-    fn blocks_close_in_order(rt: HostRuntime) -> Result<(), Fail> {
-        let alloc = rt.alloc();
-        let rows = [
-            numbered(1, Row::Header),
-            numbered(2, Row::HookError),
-            numbered(4, Row::If(Series::new(alloc))),
-            numbered(5, Row::Else),
-            numbered(6, Row::End),
-            numbered(7, Row::End),
-            numbered(9, Row::End),
-        ];
-        assert_eq!(rt; rule_2(alloc, &rows[..6])?, None);
-        assert_eq!(rt; rule_2(alloc, &rows[..4])?, Some(5));
-        assert_eq!(rt; rule_2(alloc, &rows)?, Some(9));
-        Ok(())
-    }
-}

@@ -1,5 +1,5 @@
 use Rattle.std.proofs.Common.{sym}
-use Rattle.tt_config.proofs.BodyLimits.{few_rows-last}
+use Rattle.tt_config.proofs.FewRows.{few_rows-last}
 use Rattle.tt_config.proofs.few_rows.rows_are_few.Goals as goal
 
 pub returns-in-Some : goal.returns-in-Some

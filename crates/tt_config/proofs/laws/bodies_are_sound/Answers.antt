@@ -1,5 +1,5 @@
-use Rattle.tt_config.proofs.SoundBodies as sound
+use Rattle.tt_config.proofs.SoundBodies.{law}
 use Rattle.tt_config.proofs.laws.bodies_are_sound.Goals as goal
 
 pub returns : goal.returns
-returns c = sound.bodies_are_sound
+returns c = law

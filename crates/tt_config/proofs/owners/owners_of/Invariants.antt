@@ -1,9 +1,8 @@
-use Rattle.std.proofs.Common.{length}
-use Rattle.tt_config.proofs.OwnersRead.{ReadsOwners}
+use Rattle.std.proofs.Common.{◌≡◌}
+use Rattle.tt_parts.specs.Located.{parts}
+use Rattle.tt_config.specs.Owners.{owners_of}
 use Rattle.tt_config.proofs.owners.owners_of.Given as goal
 
-abbrev pub invariant-loop-row : goal.invariant-loop-row
-invariant-loop-row l = ReadsOwners l.names l.demands l.rows l.left l.blocks l.owners
-
-abbrev pub decreases-loop-row : goal.decreases-loop-row
-decreases-loop-row l = length l.left
+-- the owners of the bodies so far
+abbrev pub invariant-loop-at : goal.invariant-loop-at
+invariant-loop-at l = l.owners ≡ owners_of l.demands (parts l.yielded)

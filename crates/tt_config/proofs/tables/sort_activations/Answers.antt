@@ -3,8 +3,8 @@ use Rattle.std.specs.Cmp.{nat_cmp_total}
 use Rattle.std.specs.Ordering.{nat_cmp, is_lt}
 use Rattle.std.proofs.lemmas.List.Sorted.{ranks_by, answers_always}
 use Rattle.tt_world.specs.declared.config.Activation.{Activation}
-use Rattle.tt_config.specs.Parts.{is_earlier}
-use Rattle.tt_config.proofs.Comparisons.{is_lt-nat_cmp}
+use Rattle.tt_rules.specs.Tables.{is_earlier}
+use Rattle.tt_config.proofs.TableRows.{is_lt-nat_cmp}
 use Rattle.tt_config.proofs.StableSort.{stable_sort, ascending_alike}
 use Rattle.tt_config.proofs.tables.sort_activations.Goals as goal
 

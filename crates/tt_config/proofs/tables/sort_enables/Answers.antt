@@ -3,8 +3,8 @@ use Rattle.std.specs.Cmp.{nat_cmp_total, then_total, on_total}
 use Rattle.std.specs.Ordering.{nat_cmp, is_lt, ordering_then}
 use Rattle.std.proofs.lemmas.List.Sorted.{ranks_by, answers_always}
 use Rattle.tt_world.specs.declared.config.Enable.{Enable}
-use Rattle.tt_config.specs.Parts.{is_enabled_earlier}
-use Rattle.tt_config.proofs.Comparisons.{is_lt-ordering_then}
+use Rattle.tt_rules.specs.Tables.{is_enabled_earlier}
+use Rattle.tt_config.proofs.TableRows.{is_lt-ordering_then}
 use Rattle.tt_config.proofs.StableSort.{stable_sort, ascending_alike}
 use Rattle.tt_config.proofs.tables.sort_enables.Goals as goal
 

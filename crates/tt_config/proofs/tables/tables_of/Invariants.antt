@@ -1,6 +1,7 @@
-use Rattle.std.proofs.Common.{◌≡◌, take}
-use Rattle.tt_config.specs.Tables.{rows_of_modes}
+use Rattle.std.proofs.Common.{◌≡◌, map}
+use Rattle.tt_config.specs.Tables.{mode_of_entries}
 use Rattle.tt_config.proofs.tables.tables_of.Given as goal
 
-abbrev pub invariant-loop-row : goal.invariant-loop-row
-invariant-loop-row l = l.tables.items ≡ rows_of_modes l.names (take l.row-index l.rows)
+-- the tables so far
+abbrev pub invariant-loop-entries : goal.invariant-loop-entries
+invariant-loop-entries l = l.tables ≡ map mode_of_entries l.yielded

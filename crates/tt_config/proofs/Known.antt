@@ -1,0 +1,87 @@
+-- The number of a name that is declared as a kind is below the count of that kind.
+use Rattle.std.proofs.Common.{◌≡◌, ℕ, zero, suc, ◌+◌, ◌<◌, Bool, true, false, cond, List, [], ◌∷◌, length, map, filter, take, Option, Some, None, refl, ap, sym, ◌∙◌, arith}
+use Rattle.std.specs.Prelude.{◌==◌, slice_get, option_and_then, option_map, unwrap_or, ◌||◌}
+use Rattle.std.proofs.lemmas.Bool.{eqb-true, eq-eqb}
+use Rattle.tt_base.specs.declared.names.Declared.{Declared}
+use Rattle.tt_base.specs.declared.names.NameKind.{NameKind}
+use Rattle.tt_base.specs.declared.names.NameKind.TheVariants as Kind
+use Rattle.tt_base.specs.declared.names.NameEntry.{NameEntry}
+use Rattle.tt_base.specs.Names.{count_of, declared, declared_at, find_name, index_of, is_same_kind, kind_of, number_of, place_of}
+use Rattle.tt_parts.specs.Names.{number_named}
+use Rattle.tt_rules.specs.BodyRules.{uses, has_kind, is_declared}
+
+abbrev pub one_if : Bool → ℕ
+one_if true = 1
+one_if false = 0
+
+-- one name more
+pub count-cons : (kind : NameKind) (first : NameEntry) (names : List NameEntry) → count_of kind (first ∷ names) ≡ one_if (is_same_kind kind first.kind) + count_of kind names
+count-cons kind first names = by (is_same_kind kind first.kind) where
+  rest : List NameEntry
+  rest = filter (λ (entry : NameEntry). is_same_kind kind entry.kind) names
+
+  by : (same : Bool) → length (map (λ (entry : NameEntry). entry.name) (cond same (first ∷ rest) rest)) ≡ one_if same + length (map (λ (entry : NameEntry). entry.name) rest)
+  by true = omega arith
+  by false = omega arith
+
+same_itself : (kind : NameKind) → is_same_kind kind kind ≡ true
+same_itself kind = eq-eqb (index_of kind) (index_of kind) refl
+
+kind_of-declared : (kind : NameKind) (number : ℕ) → kind_of (declared kind number) ≡ kind
+kind_of-declared Kind.Mode number = refl
+kind_of-declared Kind.Var number = refl
+kind_of-declared Kind.Demand number = refl
+kind_of-declared Kind.Task number = refl
+kind_of-declared Kind.Isr number = refl
+kind_of-declared Kind.Osek number = refl
+kind_of-declared Kind.Oisr number = refl
+
+number_of-declared : (kind : NameKind) (number : ℕ) → number_of (declared kind number) ≡ number
+number_of-declared Kind.Mode number = refl
+number_of-declared Kind.Var number = refl
+number_of-declared Kind.Demand number = refl
+number_of-declared Kind.Task number = refl
+number_of-declared Kind.Isr number = refl
+number_of-declared Kind.Osek number = refl
+number_of-declared Kind.Oisr number = refl
+
+-- the number of an entry is below the count of its kind
+below : (names : List NameEntry) (place : ℕ) (entry : NameEntry) → slice_get names place ≡ Some entry → count_of entry.kind (take place names) < count_of entry.kind names
+below [] place entry is = cc
+below (first ∷ names) zero entry is =
+    let one : first ≡ entry = cc in
+    let same : is_same_kind entry.kind first.kind ≡ true = ap (λ (e : NameEntry). is_same_kind entry.kind e.kind) one ∙ same_itself entry.kind in
+    let more : count_of entry.kind (first ∷ names) ≡ 1 + count_of entry.kind names = count-cons entry.kind first names ∙ ap (λ b. one_if b + count_of entry.kind names) same in
+    omega (arith, more)
+below (first ∷ names) (suc place) entry is = omega (arith, count-cons entry.kind first names, count-cons entry.kind first (take place names), below names place entry is)
+
+-- how many names have a kind at a place among the kinds
+abbrev count_at : ℕ → List NameEntry → ℕ
+count_at place names = length (map (λ (entry : NameEntry). entry.name) (filter (λ (entry : NameEntry). place == index_of entry.kind) names))
+
+either_same : (a : Bool) → a || a ≡ true → a ≡ true
+either_same true is = refl
+either_same false is = is
+
+module _ (names : List NameEntry) (kind : NameKind) (name : List ℕ) where
+  -- what a name declares that is declared as a kind has a number below its count
+  abbrev IsBelow : Option Declared → Type 0
+  IsBelow which = has_kind (uses kind name) (option_map kind_of which) ≡ true → unwrap_or (option_map number_of which) 0 < count_of kind names
+
+  at_entry : (place : ℕ) (e : Option NameEntry) → slice_get names place ≡ e
+      → IsBelow (option_map (λ (entry : NameEntry). declared entry.kind (count_of entry.kind (take place names))) e)
+  at_entry place None is has = cc
+  at_entry place (Some e) is has =
+      let number = count_of e.kind (take place names) in
+      let same = either_same (is_same_kind (kind_of (declared e.kind number)) kind) has in
+      let index : index_of e.kind ≡ index_of kind =
+      sym (ap index_of (kind_of-declared e.kind number)) ∙ eqb-true (index_of (kind_of (declared e.kind number))) (index_of kind) same in
+      omega (arith, number_of-declared e.kind number, below names place e is, ap (λ n. count_at n names) index)
+
+  at_place : (place : Option ℕ) → IsBelow (option_and_then (declared_at names) place)
+  at_place None has = cc
+  at_place (Some place) has = at_entry place (slice_get names place) refl has
+
+  pub number_below : is_declared names (uses kind name) ≡ true → number_named names name < count_of kind names
+  unfolding find_name
+  number_below has = at_place (place_of name names) has

@@ -1,7 +1,0 @@
-use Rattle.std.proofs.Common.{◌≡◌, [], drop}
-use Rattle.tt_config.specs.Rules.{lines_2_from}
-use Rattle.tt_config.proofs.structure_rules.rule_2.Given as goal
-
--- each row so far stands where it may
-abbrev pub invariant-loop-row : goal.invariant-loop-row
-invariant-loop-row l = lines_2_from l.stack l.last (drop l.row-index l.rows) ≡ lines_2_from [] 0 l.rows

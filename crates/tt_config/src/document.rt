@@ -1,0 +1,103 @@
+//! What the rows of a document say, elaborated, and the first rule that they break.
+
+ghost use Rattle.std.specs.Prelude.{◌≡◌, ◌≤◌, ◌<◌, ◌^◌, [], length, IfOk};
+ghost use Rattle.tt_base.specs.declared.names.NameKind.{NameKind};
+ghost use Rattle.tt_base.specs.Names.{count_of};
+ghost use Rattle.tt_config.specs.Document.{elaborated_of};
+ghost use Rattle.tt_parts.specs.Names.{names_in};
+ghost use Rattle.tt_parts.specs.Parts.{declarations_of};
+ghost use Rattle.tt_rules.specs.Document.{document_of};
+ghost use Rattle.tt_rules.specs.StructureRules.{lines_2, lines_3};
+ghost use Rattle.tt_rules.specs.Table.{first_broken, first_rules, later_rules};
+
+use crate::lists::{count_of, parts};
+use std::alloc::Global;
+use task_lang::Demands;
+use tt_base::{Memory, NameKind, Names, Series};
+use tt_parts::{At, BodyPart, Declarations, Said, bodies_of, names_of, said_in};
+use tt_rows::NumberedRow;
+use tt_rules::{
+    Broken, bodies_broken, declarations_broken, inputs_broken, limit_of, names_broken,
+    round_broken, structure_broken, tables_broken,
+};
+
+/// What the rows of a document say.
+#[derive(Debug, Drop)]
+pub(crate) struct Elaborated {
+    pub declared: Declarations,
+    pub names: Names,
+    pub said: Said,
+    pub demands: Demands,
+    pub bodies: Series<At<BodyPart>>,
+}
+
+/// The first of rules 1 to 8 that is broken. These need no number of a name.
+pub(crate) fn first_broken(
+    alloc: Global,
+    rows: &[NumberedRow],
+    declared: &Declarations,
+) -> Result<Option<Broken>, Memory>
+    requires { declared.now ≡ declarations_of rows.now }
+    ensures { IfOk result (λ broken. broken ≡ first_broken 1 first_rules (document_of rows.now)) }
+{
+    if let Some(broken) = structure_broken(alloc, rows)? {
+        return Ok(Some(broken));
+    }
+    if let Some(broken) = round_broken(declared) {
+        return Ok(Some(broken));
+    }
+    let broken = names_broken(alloc, declared)?;
+    Ok(broken)
+}
+
+/// What rows say, of which no kind has more than 1,024 names.
+pub(crate) fn elaborate(
+    alloc: Global,
+    rows: &[NumberedRow],
+    declared: Declarations,
+) -> Result<Elaborated, Memory>
+    requires declared { declared ≡ declarations_of rows.now }
+    requires few { (kind : NameKind) → count_of kind (names_in rows.now) ≤ 1024 }
+    ensures { IfOk result (λ document. document ≡ elaborated_of rows.now) }
+{
+    let names = names_of(alloc, declared.names.as_slice())?;
+    let said = said_in(alloc, &names, rows)?;
+    let demands = parts(alloc, said.demands.as_slice())?;
+    let bodies = bodies_of(alloc, &names, rows)?;
+    Ok(Elaborated {
+        declared,
+        names,
+        said,
+        demands,
+        bodies,
+    })
+}
+
+/// The first of rules 9 to 28 that is broken, of rows whose blocks are well formed and nested at most 4 deep.
+pub(crate) fn later_broken(
+    alloc: Global,
+    rows: &[NumberedRow],
+    document: &Elaborated,
+) -> Result<Option<Broken>, Memory>
+    requires elaborated { document.now ≡ elaborated_of rows.now }
+    requires short { length rows.now < 2 ^ 32 }
+    requires formed { lines_2 rows.now ≡ [] }
+    requires nested { lines_3 rows.now ≡ [] }
+    requires few { count_of NameKind.Mode (names_in rows.now) ≤ 16 }
+    ensures { IfOk result (λ broken. broken ≡ first_broken 9 later_rules (document_of rows.now)) }
+{
+    let bodies = document.bodies.as_slice();
+    if let Some(broken) = declarations_broken(alloc, rows, bodies)? {
+        return Ok(Some(broken));
+    }
+    if let Some(broken) = bodies_broken(rows, &document.names, &document.demands, bodies) {
+        return Ok(Some(broken));
+    }
+    let limit = limit_of(&document.declared);
+    let modes = count_of(document.declared.names.as_slice(), NameKind::Mode) as u16;
+    if let Some(broken) = tables_broken(alloc, limit, modes, document.said.entries.as_slice())? {
+        return Ok(Some(broken));
+    }
+    let broken = inputs_broken(alloc, document.declared.first, &document.said)?;
+    Ok(broken)
+}
