@@ -3,8 +3,8 @@ use Rattle.std.proofs.Common.{◌≡◌, ◌≢◌, ℕ, zero, suc, ◌+◌, ◌
 use Rattle.std.specs.Prelude.{◌==◌, flat_map}
 use Rattle.std.proofs.lemmas.Bool.{eqb-true}
 use Rattle.std.proofs.lemmas.Bool.Decides.{nat_tests}
-use Rattle.std.proofs.lemmas.Grind.{common_steps, flat_map-append, get_or-set_at, get_or-replicate, length-replicate}
-use Rattle.std.proofs.lemmas.List.{append-nil, ext_get_or, get_or_append_left, get_or_push, get_or-map, get_or-set_other, length-map, length-set, map-append, take_more}
+use Rattle.std.proofs.lemmas.Grind.{flat_map-append, get_or-set_at}
+use Rattle.std.proofs.lemmas.List.{append-nil, ext_get_or, get_or_append_left, get_or_push, get_or-map, get_or-replicate, get_or-set_other, length-replicate, length-map, length-set, map-append, take_more}
 use Rattle.tt_parts.specs.declared.located.At.{At}
 use Rattle.tt_parts.specs.Located.{parts}
 use Rattle.tt_rules.specs.Order.{below}
@@ -14,12 +14,12 @@ use Rattle.tt_config.proofs.Counted.{length-below}
 -- the number at a place below one
 get_or-below : (n k d : ℕ) → k < n → get_or (below n) k d ≡ k
 get_or-below zero k d lt = absurd (omega arith)
-get_or-below (suc n) k d lt = by (k == n) refl where
-  by : (last : Bool) → (k == n) ≡ last → get_or (below n ++ n ∷ []) k d ≡ k
-  by true is = let same : k ≡ n = eqb-true k n is in get_or_push (below n) n d k (length-below n ∙ sym same) ∙ sym same
-  by false is =
+get_or-below (suc n) k d lt = by (k == n) refl (get_or-below n k d) where
+  by : (last : Bool) → (k == n) ≡ last → (k < n → get_or (below n) k d ≡ k) → get_or (below n ++ n ∷ []) k d ≡ k
+  by true is rest = let same : k ≡ n = eqb-true k n is in get_or_push (below n) n d k (length-below n ∙ sym same) ∙ sym same
+  by false is rest =
       let less : k < n = grind (arith, nat_tests) in
-      get_or_append_left (below n) (n ∷ []) d k (omega (arith, length-below n)) ∙ get_or-below n k d less
+      get_or_append_left (below n) (n ∷ []) d k (omega (arith, length-below n)) ∙ rest less
 
 -- what belongs to each number below one, at a number
 get_or-each : {X : Type 0} (f : ℕ → X) (n k : ℕ) (d : X) → k < n → get_or (map f (below n)) k d ≡ f k

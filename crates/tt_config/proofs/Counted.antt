@@ -101,7 +101,7 @@ named rows =
     let names = names_in rows in
     let demands = parts (each_at demand_in rows) in
     record {
-      modes = sym (length-map (below (count_of Kind.Mode names)) (mode_with _) ∙ length-below (count_of Kind.Mode names));
+      modes = sym (length-map (below (count_of Kind.Mode names)) (mode_with (parts (elaborated_of rows).said.entries)) ∙ length-below (count_of Kind.Mode names));
       vars = count_parts Kind.Var var_in var_same rows;
       demands = count_parts Kind.Demand demand_in demand_same rows;
       tasks = count_owners Kind.Task (task_in demands) (task_one demands) names rows;

@@ -177,6 +177,7 @@ in_blocks-more row rows h =
 
 module _ (names : List NameEntry) where
   low-branches : (rows : List NumberedRow) (h : AreInBlocks rows) → AreLow h.stack (branches_from names rows)
+  unfolding in_blocks-more
   low-branches [] h = by h.stack where
     by : (stack : List Open) → AreLow stack []
     by [] = tt
@@ -193,6 +194,7 @@ module _ (names : List NameEntry) where
 
   low-body : (row : NumberedRow) (rows : List NumberedRow) (owner : Owner) → owner_in row.row ≡ Some owner → AreInBlocks (row ∷ rows)
       → IsNestedInLimit (first_branch (branches_from names rows))
+  unfolding in_blocks-more
   low-body row rows owner is h =
       let opens_ = opens_kind row.row owner is in
       low-opened h.stack (kind_of owner) (branches_from names rows) (subst (λ s. is_misplaced h.stack s ≡ false) opens_ (formed h.stack h.last row rows h.formed_).0)

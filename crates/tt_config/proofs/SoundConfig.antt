@@ -1,5 +1,5 @@
 -- Sound rows that break no rule give a configuration and a script that keep the rules of theirs.
-use Rattle.std.proofs.Common.{◌≡◌, ℕ, zero, suc, ◌^◌, ◌<◌, ◌≤◌, Bool, true, List, [], ◌∷◌, ◌++◌, All, None, length, map, arith, ap, subst, sym, ◌∙◌}
+use Rattle.std.proofs.Common.{◌≡◌, ℕ, zero, suc, ◌-◌, ◌^◌, ◌<◌, ◌≤◌, Bool, true, List, [], ◌∷◌, ◌++◌, All, None, length, map, arith, ap, subst, sym, ◌∙◌}
 use Rattle.std.specs.Prelude.{◌&&◌, nat_le, nat_lt}
 use Rattle.std.specs.List.{AllByRecursion as Each, list_all}
 use Rattle.std.proofs.lemmas.Bool.{and_parts, and_from, leb-true, lt-ltb}
@@ -25,7 +25,7 @@ use Rattle.tt_parts.specs.Names.{names_in, number_named}
 use Rattle.tt_parts.specs.Parts.{declarations_of}
 use Rattle.tt_rules.specs.BodyRules.{is_declared, uses}
 use Rattle.tt_rules.specs.Document.{document_of, first_or_zero}
-use Rattle.tt_rules.specs.Laws.{AreDeclarationsSound}
+use Rattle.tt_rules.specs.Laws.{AreDeclarationsSound, AreTablesKept}
 use Rattle.tt_rules.specs.Order.{below}
 use Rattle.tt_rules.specs.Table.{AreKept, the_rules}
 use Rattle.tt_rules.specs.Tables.{is_entry_known, mode_with}
@@ -88,7 +88,7 @@ module _ (rows : List NumberedRow) (sound : AreSound rows) (none : AreKept the_r
 
   modes_sound : All (IsMode c) c.modes
   modes_sound =
-      let tables = record { enables = none 18; deadlines = none 19; places = none 20; sources = none 21; apart = none 22; few = none 23 } in
+      let tables : AreTablesKept (c.round - c.adjust) (count_of Kind.Mode names) (each_at (entry_in names) rows) = record { enables = none 18; deadlines = none 19; places = none 20; sources = none 21; apart = none 22; few = none 23 } in
       All-from_recursion (IsMode c) c.modes
       (each_map (IsMode c) (mode_with (parts (each_at (entry_in names) rows))) (below (count_of Kind.Mode names))
       (each_weaker (λ k. k < count_of Kind.Mode names) (λ k. IsMode c (mode_with (parts (each_at (entry_in names) rows)) k))
