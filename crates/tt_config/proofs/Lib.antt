@@ -12,4 +12,5 @@ pub mod SoundScript
 pub mod StableSort
 pub mod TableRows
 pub mod SoundConfig
+pub mod Elaboration
 pub mod FewRows

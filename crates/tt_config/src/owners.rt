@@ -105,8 +105,9 @@ fn budget_of(body: &Body, demands: &Demands) -> u64
 pub(crate) fn first_body(alloc: Global, bodies: Series<Body>) -> Body
     ensures { result ≡ first_body bodies }
 {
-    for body in bodies.into_vec() {
-        return body;
+    let mut left = bodies.into_vec().into_iter();
+    match left.next() {
+        Some(body) => body,
+        None => Items::new(alloc),
     }
-    Items::new(alloc)
 }
