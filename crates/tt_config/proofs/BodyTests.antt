@@ -1,5 +1,5 @@
 -- Each body passes the tests of a configuration that do not look inside a statement.
-use Rattle.std.proofs.Common.{◌≡◌, ℕ, Bool, true, List, [], ◌∷◌, ◌<◌, refl}
+use Rattle.std.proofs.Common.{◌≡◌, ℕ, Bool, true, List, [], ◌∷◌, refl}
 use Rattle.std.specs.Prelude.{codes, nat_lt}
 use Rattle.std.specs.List.{AllByRecursion as Each, list_all}
 use Rattle.std.proofs.lemmas.Bool.{and_from, and_parts, lt-ltb}
@@ -21,7 +21,7 @@ use Rattle.tt_parts.specs.declared.bodies.BodyPart.{BodyPart}
 use Rattle.tt_parts.specs.Bodies.{Head, bodies_of, head_of}
 use Rattle.tt_parts.specs.Names.{number_named}
 use Rattle.tt_parts.specs.Structure.{standing_of}
-use Rattle.tt_rules.specs.BodyRules.{are_names_declared, is_declared, owner_after, uses}
+use Rattle.tt_rules.specs.BodyRules.{is_declared, owner_after, uses}
 use Rattle.tt_rules.specs.StructureRules.{lines_2}
 use Rattle.tt_rules.proofs.SoundBodies.{IsShallow, Passes, fit_bodies, passes}
 use Rattle.tt_config.proofs.Expressions.{last_sound, reads-expression_of, short-last}

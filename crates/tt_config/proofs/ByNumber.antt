@@ -1,6 +1,6 @@
 -- What parts give each number, with one part more.
-use Rattle.std.proofs.Common.{◌≡◌, ◌≢◌, ℕ, zero, suc, ◌+◌, ◌<◌, Bool, true, false, List, [], ◌∷◌, ◌++◌, length, map, take, get_or, set, replicate, Option, Some, None, refl, ap, sym, ◌∙◌, arith, if◌then◌else◌, subst}
-use Rattle.std.specs.Prelude.{◌==◌, flat_map}
+use Rattle.std.proofs.Common.{◌≡◌, ◌≢◌, ℕ, zero, suc, ◌+◌, ◌<◌, Bool, true, false, List, [], ◌∷◌, ◌++◌, length, map, take, get_or, set, replicate, Option, Some, None, refl, ap, sym, ◌∙◌, arith, if◌then◌else◌}
+use Rattle.std.specs.Prelude.{◌==◌}
 use Rattle.std.proofs.lemmas.Bool.{eqb-true}
 use Rattle.std.proofs.lemmas.Bool.Decides.{nat_tests}
 use Rattle.std.proofs.lemmas.Grind.{flat_map-append, get_or-set_at}
@@ -8,7 +8,7 @@ use Rattle.std.proofs.lemmas.List.{append-nil, ext_get_or, get_or_append_left, g
 use Rattle.tt_parts.specs.declared.located.At.{At}
 use Rattle.tt_parts.specs.Located.{parts}
 use Rattle.tt_rules.specs.Order.{below}
-use Rattle.tt_config.specs.Lists.{appended, at_number, by_number, given, put_at}
+use Rattle.tt_config.specs.Lists.{at_number, by_number, given, put_at}
 use Rattle.tt_config.proofs.Counted.{length-below}
 
 -- the number at a place below one

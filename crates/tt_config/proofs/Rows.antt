@@ -10,7 +10,7 @@ use Rattle.tt_parts.specs.declared.located.At.{At}
 use Rattle.tt_parts.specs.declared.bodies.Owner.{Owner}
 use Rattle.tt_parts.specs.declared.bodies.BodyPart.{BodyPart}
 use Rattle.tt_parts.specs.Located.{at_then, each_at, parts}
-use Rattle.tt_parts.specs.Bodies.{Branches, owner_in, body_of, bodies_of, branches_from}
+use Rattle.tt_parts.specs.Bodies.{owner_in, body_of, bodies_of, branches_from}
 use Rattle.tt_parts.specs.Names.{names_in}
 use Rattle.tt_rules.specs.BodyRules.{are_names_declared, lines_14}
 use Rattle.tt_rules.specs.DeclarationRules.{has_numbers_in_range, lines_9}

@@ -1,7 +1,7 @@
 -- The bodies of a configuration meet its rules.
-use Rattle.std.proofs.Common.{◌≡◌, ℕ, ◌^◌, ◌<◌, ◌≤◌, Bool, true, false, List, [], ◌∷◌, All, length, refl, ap, sym, ◌∙◌, arith, subst}
-use Rattle.std.specs.Prelude.{◌&&◌, ◌||◌, nat_le, flat_map}
-use Rattle.std.specs.List.{AllByRecursion as Each, list_all}
+use Rattle.std.proofs.Common.{◌≡◌, ℕ, ◌^◌, ◌<◌, ◌≤◌, Bool, true, false, List, [], ◌∷◌, length, refl, ap, sym, ◌∙◌, arith, subst}
+use Rattle.std.specs.Prelude.{◌&&◌, ◌||◌, nat_le}
+use Rattle.std.specs.List.{AllByRecursion as Each}
 use Rattle.std.proofs.lemmas.Bool.{and_parts, leb-true}
 use Rattle.std.proofs.lemmas.List.Elements.{All-from_recursion}
 use Rattle.task_lang.specs.declared.allowed.OwnerKind.TheVariants as kind
@@ -25,7 +25,7 @@ use Rattle.tt_parts.specs.Located.{each_at, parts}
 use Rattle.tt_parts.specs.Bodies.{bodies_of, owner_in}
 use Rattle.tt_parts.specs.Entries.{demand_in}
 use Rattle.tt_parts.specs.Names.{names_in}
-use Rattle.tt_rules.specs.BodyRules.{AreTellable, IsTellable, has_statement, is_hook, is_light}
+use Rattle.tt_rules.specs.BodyRules.{AreTellable, has_statement, is_hook, is_light}
 use Rattle.tt_rules.specs.DeclarationRules.{has_numbers_in_range, lines_9}
 use Rattle.tt_rules.specs.Document.{rows_at}
 use Rattle.tt_rules.specs.Laws.{IsBodySound, kind_of}
@@ -158,12 +158,15 @@ module _ (c : ConfigParts) where
   task_good body other good = tt
 
   isr_good : (body : List Stmt) (o : Owner) → IsGood c (record { owner = o; body = body }) → Each (IsIsr c) (isr_by c.demands body o)
-  isr_good body (owner.Isr level stack distance) good = (record {
-    routine = routine_good body (owner.Isr level stack distance) good refl;
-    stack = leb-true stack 65535 good.range.1.0;
-    level = least level good.range.0;
-    distance = good.range.1.1;
-  }, tt)
+  isr_good body (owner.Isr level stack distance) good = (
+    record {
+      routine = routine_good body (owner.Isr level stack distance) good refl;
+      stack = leb-true stack 65535 good.range.1.0;
+      level = least level good.range.0;
+      distance = good.range.1.1;
+    },
+    tt,
+  )
   isr_good body other good = tt
 
   osek_good : (body : List Stmt) (o : Owner) → IsGood c (record { owner = o; body = body }) → Each (IsOsek c) (osek_by c.demands body o)

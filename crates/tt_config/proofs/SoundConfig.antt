@@ -1,5 +1,5 @@
 -- Sound rows that break no rule give a configuration and a script that keep the rules of theirs.
-use Rattle.std.proofs.Common.{◌≡◌, ℕ, zero, suc, ◌-◌, ◌^◌, ◌<◌, ◌≤◌, Bool, true, List, [], ◌∷◌, ◌++◌, All, None, length, map, arith, ap, subst, sym, ◌∙◌}
+use Rattle.std.proofs.Common.{◌≡◌, ℕ, zero, suc, ◌-◌, ◌^◌, ◌<◌, ◌≤◌, Bool, true, List, [], ◌∷◌, All, None, length, arith, ap, subst, sym, ◌∙◌}
 use Rattle.std.specs.Prelude.{◌&&◌, nat_le, nat_lt}
 use Rattle.std.specs.List.{AllByRecursion as Each, list_all}
 use Rattle.std.proofs.lemmas.Bool.{and_parts, and_from, leb-true, lt-ltb}
@@ -16,7 +16,6 @@ use Rattle.tt_rows.specs.declared.row.Row.{Row}
 use Rattle.tt_rows.specs.declared.row.Row.TheVariants as r
 use Rattle.tt_rows.specs.declared.row.NumberedRow.{NumberedRow}
 use Rattle.tt_rows.specs.Sound.{AreSound}
-use Rattle.tt_parts.specs.declared.located.At.{At}
 use Rattle.tt_parts.specs.declared.entries.Entry.{Entry}
 use Rattle.tt_parts.specs.Located.{each_at, parts}
 use Rattle.tt_parts.specs.Bodies.{bodies_of}

@@ -1,8 +1,8 @@
 -- The script keeps the rules of one, where no line breaks the rules on it.
-use Rattle.std.proofs.Common.{◌≡◌, ℕ, ◌+◌, ◌^◌, ◌<◌, ◌≤◌, Bool, true, false, List, [], ◌∷◌, length, map, Option, Some, None, refl, ap, sym, subst, ◌∙◌, arith, if◌then◌else◌}
-use Rattle.std.specs.Prelude.{◌==◌, ◌&&◌, nat_le, nat_lt, flat_map}
+use Rattle.std.proofs.Common.{◌≡◌, ℕ, ◌+◌, ◌^◌, ◌<◌, ◌≤◌, Bool, true, false, List, [], ◌∷◌, length, map, Option, Some, None, refl, sym, subst, ◌∙◌, arith, if◌then◌else◌}
+use Rattle.std.specs.Prelude.{◌==◌, ◌&&◌, nat_le, nat_lt}
 use Rattle.std.specs.List.{AllByRecursion as Each, list_all}
-use Rattle.std.proofs.lemmas.Bool.{and_parts, and_from, le-leb, leb-true, leb-false, lt-ltb, eqb-true, eq-eqb}
+use Rattle.std.proofs.lemmas.Bool.{and_parts, and_from, le-leb, leb-true, leb-false, eqb-true, eq-eqb}
 use Rattle.std.proofs.lemmas.List.{length-map}
 use Rattle.tt_base.specs.declared.names.Declared.{Declared}
 use Rattle.tt_base.specs.declared.names.NameKind.{NameKind}
@@ -14,14 +14,13 @@ use Rattle.tt_world.specs.ScriptRules.{IsScript, ticks_ascend}
 use Rattle.tt_rows.specs.declared.row.Row.{Row}
 use Rattle.tt_rows.specs.declared.row.Row.TheVariants as r
 use Rattle.tt_rows.specs.declared.row.NumberedRow.{NumberedRow}
-use Rattle.tt_rows.specs.Sound.{AreSound, is_sound_item, is_sound_row}
+use Rattle.tt_rows.specs.Sound.{AreSound, is_sound_item}
 use Rattle.tt_rows.specs.Spelling.{items_of}
-use Rattle.tt_parts.specs.declared.located.At.{At}
 use Rattle.tt_parts.specs.declared.entries.Arrival.{Arrival}
 use Rattle.tt_parts.specs.declared.entries.Value.{Value}
 use Rattle.tt_parts.specs.Located.{each_at, parts}
 use Rattle.tt_parts.specs.Entries.{arrival_in, rounds_in, start_in, time_in, value_in}
-use Rattle.tt_parts.specs.Names.{names_in, number_named}
+use Rattle.tt_parts.specs.Names.{names_in}
 use Rattle.tt_parts.specs.Parts.{first_line}
 use Rattle.tt_rules.specs.BodyRules.{is_declared, uses}
 use Rattle.tt_rules.specs.Document.{document_of, first_or_zero}

@@ -1,12 +1,9 @@
 -- The table of each mode, by the entries of that mode.
-use Rattle.std.proofs.Common.{◌≡◌, ℕ, Bool, true, false, cond, List, [], ◌∷◌, ◌++◌, map, Option, Some, Ordering, refl, ap, ◌∙◌, sym, if◌then◌else◌}
+use Rattle.std.proofs.Common.{◌≡◌, ℕ, Bool, true, false, cond, List, [], ◌∷◌, ◌++◌, map, Ordering, refl, ap, ◌∙◌, if◌then◌else◌}
 use Rattle.std.specs.Prelude.{nat_lt, ◌==◌, ◌||◌, ◌&&◌, flat_map}
 use Rattle.std.specs.declared.cmp.Ordering.TheVariants.{Less, Equal, Greater}
 use Rattle.std.specs.Ordering.{nat_cmp, is_lt, ordering_then}
 use Rattle.std.proofs.lemmas.Grind.{flat_map-append}
-use Rattle.tt_world.specs.declared.config.Activation.{Activation}
-use Rattle.tt_world.specs.declared.config.Enable.{Enable}
-use Rattle.tt_world.specs.declared.config.ModeDef.{ModeDef}
 use Rattle.tt_parts.specs.declared.entries.Entry.{Entry}
 use Rattle.tt_parts.specs.declared.entries.Entry.TheVariants as entry
 use Rattle.tt_rules.specs.Order.{ascending, below}

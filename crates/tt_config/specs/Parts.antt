@@ -14,7 +14,7 @@ use Rattle.tt_parts.specs.declared.entries.Arrival.{Arrival}
 use Rattle.tt_parts.specs.declared.entries.Value.{Value}
 use Rattle.tt_parts.specs.declared.said.Said.{Said}
 use Rattle.tt_parts.specs.Located.{parts}
-use Rattle.tt_rules.specs.Document.{document_of, first_or_zero, round_of, adjust_of}
+use Rattle.tt_rules.specs.Document.{first_or_zero, round_of, adjust_of}
 use Rattle.tt_rules.specs.Order.{below}
 use Rattle.tt_rules.specs.Tables.{mode_with}
 use Rattle.tt_config.specs.declared.document.Elaborated.{Elaborated}

@@ -1,9 +1,8 @@
-use Rattle.std.proofs.Common.{◌≡◌, None, ap, refl, sym, ◌∙◌}
+use Rattle.std.proofs.Common.{ap, refl, sym, ◌∙◌}
 use Rattle.tt_base.specs.declared.names.NameKind.TheVariants as Kind
 use Rattle.tt_base.specs.Names.{count_of}
 use Rattle.tt_parts.specs.Located.{parts}
 use Rattle.tt_rules.specs.Document.{document_of, limit_of}
-use Rattle.tt_rules.specs.Table.{first_broken, declaration_rules, body_rules, table_rules}
 use Rattle.tt_config.specs.declared.document.Elaborated.{Elaborated}
 use Rattle.tt_config.proofs.Asked.{later_one, later_two, later_three, later_rest}
 use Rattle.tt_config.proofs.Elaboration.{elaborated_tellable}
