@@ -3,7 +3,7 @@
 ghost use Rattle.std.specs.Prelude.{◌≡◌, ◌≢◌, ◌<◌, ◌≤◌, ◌↔◌, [], All, Any, length, option_map, IsNone, IsTrue, IfSome};
 ghost use Rattle.std.specs.List.{prefix_len};
 ghost use Rattle.arrayvec.specs.ArrayVec.{array_vec_len};
-ghost use Rattle.run_stack.specs.Frames.{Holds, by_level, depth_of, is_lower, last, popped, seen, task_frame, isr_frame, top_of, with_isr, with_last, with_task, with_top, words_of};
+ghost use Rattle.run_stack.specs.Frames.{Holds, by_level, depth_of, is_lower, last, popped, seen, sum_of_words, task_frame, isr_frame, top_of, with_isr, with_last, with_task, with_top, words_of};
 
 use crate::Top;
 use arrayvec::ArrayVec;
@@ -76,6 +76,18 @@ fn insert_by_level(frames: &mut ArrayVec<StackFrame, ISRS>, new: StackFrame)
     frames.insert(place, new);
 }
 
+/// The sum of the words of some frames.
+fn words_in(frames: &[StackFrame]) -> u64
+    requires { length frames.now ≤ ISRS }
+    ensures { result ≡ sum_of_words frames.now }
+{
+    let mut words = 0;
+    for frame in frames {
+        words += u64::from(frame.words);
+    }
+    words
+}
+
 /// Whether one of some frames is of an owner.
 fn has(frames: &[StackFrame], owner: Owner) -> bool
     ensures { IsTrue result ↔ Any (λ f. f.owner ≡ owner) frames.now }
@@ -97,8 +109,7 @@ impl RunStack {
 
     /// Puts the frame of an activated task on those of the other tasks.
     pub fn push_task(&mut self, task: TaskNo, frame: Frame, words: u32)
-        requires room { length self.old.tasks < TASKS }
-        requires new { Holds self.old (Owner.Task task) → ⊥ }
+        requires { length self.old.tasks < TASKS }
         ensures { self.new ≡ with_task (task_frame task frame words) self.old }
     {
         self.words += u64::from(words);
@@ -170,6 +181,14 @@ impl RunStack {
         if let Some(gone) = self.tasks.pop() {
             self.words -= u64::from(gone.words);
         }
+    }
+
+    /// Takes the frames of all tasks away. The routines stay.
+    pub fn clear_tasks(&mut self)
+        ensures { self.new ≡ record { tasks = []; isrs = self.old.isrs } }
+    {
+        self.tasks.clear();
+        self.words = words_in(self.isrs.as_slice());
     }
 
     /// Whether there is a frame of an owner.

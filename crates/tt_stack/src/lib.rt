@@ -1,0 +1,7 @@
+//! The time-triggered part of a run's state: the activations of the present round and the interrupt service routines, as frames on
+//! a stack.
+#![tactic(auto)]
+
+mod state;
+
+pub use state::TtStack;

@@ -1,0 +1,262 @@
+//! The stack with what its frames stand for.
+
+ghost use Rattle.std.specs.Prelude.{◌≡◌, ◌≢◌, ◌≤◌, ◌<◌, ◌+◌, ◌↔◌, List, [], ◌∷◌, ◌++◌, length, map, max, replicate, true, IfSome, IsSome, IsTrue, None, option_to_list, slice_index_or};
+ghost use Rattle.task_lang.specs.Tick.{supply_of, state_of, ticks};
+ghost use Rattle.task_machine.specs.Standing.{body_of, left_of, work_in_front, IsSound as IsSoundFrame};
+ghost use Rattle.tt_world.specs.declared.config.IsrDef.{IsrDef};
+ghost use Rattle.tt_world.specs.ConfigRules.{are_distinct};
+ghost use Rattle.tt_world.specs.Runners.{is_done, job_at};
+ghost use Rattle.tt_stack.specs.Stacked.{with_job, with_isr, isr_body, runner_in, running, left_in, leaving_in, count_unfinished, depth_in};
+
+use arrayvec::ArrayVec;
+use run_stack::RunStack;
+use std::marker::Model;
+use task_machine::{Codes, Env, Frame, Progress, advance};
+use tt_base::{IsrNo, Ledger, Owner, Steps, TaskNo};
+use tt_world::{IsrDef, Runner};
+
+/// The unfinished activations of the present round and the unfinished time-triggered routines, as frames on a stack. It takes no
+/// memory beside its own. Contracts see the activations of the round and what is left of each, and what is left of each routine.
+#[derive(Drop)]
+pub struct TtStack {
+    codes: Codes,
+    /// The program number of the first routine. Those of the others follow.
+    first: u16,
+    /// The levels of the routines, by number.
+    levels: ArrayVec<u8, 16>,
+    stack: RunStack,
+    /// The entry number of each frame of a task, in the order of the stack.
+    entries: ArrayVec<usize, 64>,
+    /// How many activations the round has had.
+    reached: usize,
+}
+
+impl Model for TtStack {
+    ghost use Rattle.std.specs.Coded.{codes as code_rules};
+    ghost use Rattle.task_lang.specs.contracts.syntax.Stmt as stmt;
+    ghost use Rattle.tt_stack.specs.Stacked.{Stacked};
+    ghost use Rattle.tt_stack.specs.Kept.{stacked, AreKept};
+
+    ghost Value = { Stacked };
+
+    ghost coded = { Prim.hlevel (code_rules, stmt.the_row.coded) };
+
+    ghost view = { λ s. stacked s.codes s.first s.levels.items s.stack s.entries.items s.reached };
+
+    ghost invariant = { λ s. AreKept s.codes s.first s.levels.items s.stack s.entries.items s.reached };
+}
+
+/// The levels of some routines, by number.
+fn levels_of(isrs: &[IsrDef]) -> ArrayVec<u8, 16>
+    requires { length isrs.now ≤ 16 }
+    ensures { result.items ≡ map (λ (isr : IsrDef). isr.level) isrs.now }
+{
+    let mut levels = ArrayVec::new();
+    for isr in isrs {
+        levels.push(isr.level);
+    }
+    levels
+}
+
+impl TtStack {
+    /// Before the first round: no activation, and no routine is unfinished. The program of a task has the number of the task; those
+    /// of the routines follow from the first one on.
+    pub fn new(codes: Codes, isrs: &[IsrDef], first: u16) -> TtStack
+        requires few { length isrs.now ≤ 16 }
+        requires distinct { are_distinct (map (λ (isr : IsrDef). isr.level) isrs.now) ≡ true }
+        requires enough { first + length isrs.now ≤ length codes }
+        ensures { result ≡ record {
+          codes = codes;
+          first = first;
+          levels = map (λ (isr : IsrDef). isr.level) isrs.now;
+          jobs = [];
+          isrs = replicate (length isrs.now) [];
+        } }
+    {
+        TtStack {
+            codes,
+            first,
+            levels: levels_of(isrs),
+            stack: RunStack::new(),
+            entries: ArrayVec::new(),
+            reached: 0,
+        }
+    }
+
+    /// The codes of all programs.
+    pub fn codes(&self) -> &Codes
+        ensures { result.now ≡ self.now.codes }
+    {
+        &self.codes
+    }
+
+    /// The next activation of the round, of a task, begins with its whole body, and takes so many words of stack.
+    pub fn activate(&mut self, task: TaskNo, words: u32)
+        requires exists { task.0 < self.old.first }
+        requires room { count_unfinished self.old.jobs < 64 }
+        requires in_count { length self.old.jobs < usize.MAX }
+        ensures { self.new ≡ with_job (body_of self.old.codes task.0) self.old }
+    {
+        let frame = Frame::start(&self.codes, task.0);
+        if !frame.ended() {
+            self.stack.push_task(task, frame, words);
+            self.entries.push(self.reached);
+        }
+        self.reached += 1;
+    }
+
+    /// A routine begins with its whole body, and takes so many words of stack.
+    pub fn accept(&mut self, isr: IsrNo, words: u32)
+        requires exists { isr.0 < length self.old.levels }
+        requires finished { is_done (slice_index_or self.old.isrs isr.0 []) ≡ true }
+        ensures { self.new ≡ with_isr isr.0 (isr_body self.old isr.0) self.old }
+    {
+        let program = self.codes.number_after(self.first, isr.0);
+        let frame = Frame::start(&self.codes, program);
+        if !frame.ended() {
+            let level = self.levels[usize::from(isr.0)];
+            self.stack.accept_isr(isr, level, frame, words);
+        }
+    }
+
+    /// Who runs: the unfinished routine of the highest level, else the last activation that has statements left. None where nothing
+    /// is unfinished.
+    pub fn runner(&self) -> Option<Runner>
+        ensures { result ≡ runner_in self.now }
+    {
+        let top = self.stack.top()?;
+        match top.owner {
+            Owner::Isr(isr) => Some(Runner::Isr(isr)),
+            _ => {
+                let entry = self.entries.as_slice().last()?;
+                Some(Runner::Job(*entry))
+            }
+        }
+    }
+
+    /// The ticks left of the `work` at the front of the one that runs; 0 where another statement is there, or nobody runs.
+    pub fn work_left(&self) -> u64
+        ensures { result ≡ work_in_front (left_in self.now (running self.now)) }
+    {
+        match self.top() {
+            Some(frame) => frame.work_left(),
+            None => 0,
+        }
+    }
+
+    /// Takes k ticks of the one that runs: one, or at most as many as the `work` at its front has left. Where nothing is left then, it
+    /// has ended. It counts one step and takes no memory.
+    pub fn advance<L: Ledger>(&mut self, k: u64, env: &mut Env, steps: &mut Steps<L>) -> Progress
+        requires runs { IsSome (runner_in self.old) }
+        requires some { 1 ≤ k }
+        requires within { k ≤ max 1 (work_in_front (left_in self.old (running self.old))) }
+
+        // Only what is left of that one changes.
+        ensures others { let who = running self.old in
+            self.new ≡ leaving_in self.old who (left_in self.new who) }
+
+        // The list, the variables, the cursors and the effect are those of k ticks of the list.
+        ensures ticks { let who = running self.old in
+            state_of (left_in self.new who) env.new.vars env.new.cursors (option_to_list result.effect)
+            ≡ ticks (supply_of env.old.demands env.old.values) k
+            (state_of (left_in self.old who) env.old.vars env.old.cursors []) }
+        ensures demands { env.new.demands ≡ env.old.demands }
+        ensures values { env.new.values ≡ env.old.values }
+        ensures ended { IsTrue result.ended ↔ (left_in self.new (running self.old) ≡ []) }
+        ensures counted { steps.new ≡ steps.old + 1 }
+    {
+        match self.top() {
+            Some(frame) => {
+                let mut frame = frame;
+                let progress = advance(&mut frame, &self.codes, k, env, steps);
+                self.leave(frame);
+                progress
+            }
+            None => Progress {
+                effect: None,
+                ended: true,
+            },
+        }
+    }
+
+    /// Whether nothing is left of the activation at a place of the round. Of one that is not there nothing is left.
+    pub fn is_job_done(&self, place: usize) -> bool
+        ensures { result ≡ is_done (job_at self.now.jobs place).left }
+    {
+        !self.entries.as_slice().contains(&place)
+    }
+
+    /// Whether a routine is finished. Of one that is not there nothing is left.
+    pub fn is_isr_done(&self, isr: IsrNo) -> bool
+        ensures { result ≡ is_done (slice_index_or self.now.isrs isr.0 []) }
+    {
+        !self.stack.holds(Owner::Isr(isr))
+    }
+
+    /// How many activations the round has had.
+    pub fn reached(&self) -> usize
+        ensures { result ≡ length self.now.jobs }
+    {
+        self.reached
+    }
+
+    /// A round has ended: its activations are gone, also those that are unfinished. The routines stay.
+    pub fn clear_jobs(&mut self)
+        ensures { self.new ≡ record self.old { jobs = [] } }
+    {
+        self.stack.clear_tasks();
+        self.entries.clear();
+        self.reached = 0;
+    }
+
+    /// How many activations and routines are unfinished.
+    pub fn depth(&self) -> usize
+        ensures { result ≡ depth_in self.now }
+    {
+        self.stack.depth()
+    }
+
+    /// The sum of the words of stack of all that are unfinished.
+    pub fn words(&self) -> u64 {
+        self.stack.words()
+    }
+
+    /// The frame of the one that runs.
+    fn top(&self) -> Option<Frame>
+        ensures runs { IsSome result ↔ IsSome (runner_in self.now) }
+        ensures sound { IfSome result (IsSoundFrame self.now.codes) }
+        ensures left { IfSome result (λ frame. left_of self.now.codes frame ≡ left_in self.now (running self.now)) }
+        ensures some { left_in self.now (running self.now) ≡ [] → result ≡ None }
+    {
+        Some(self.stack.top()?.frame)
+    }
+
+    /// The one that runs stands there now, or has ended.
+    fn leave(&mut self, frame: Frame)
+        requires runs { IsSome (runner_in self.old) }
+        requires sound { IsSoundFrame self.old.codes frame }
+        ensures { self.new ≡ leaving_in self.old (running self.old) (left_of self.old.codes frame) }
+    {
+        if frame.ended() {
+            self.take_off();
+        } else {
+            self.stack.set_top(frame);
+        }
+    }
+
+    /// Nothing is left of the one that runs.
+    fn take_off(&mut self)
+        requires runs { IsSome (runner_in self.old) }
+        ensures { self.new ≡ leaving_in self.old (running self.old) [] }
+    {
+        if let Some(top) = self.stack.top() {
+            self.stack.pop();
+            match top.owner {
+                Owner::Isr(_) => {}
+                _ => {
+                    let _entry = self.entries.pop();
+                }
+            }
+        }
+    }
+}
