@@ -31,28 +31,33 @@ All-more : {X : Type 0} (P : X → Type 0) (x : X) (xs : List X) → P x → All
 All-more P x xs p all zero d within = p
 All-more P x xs p all (suc k) d within = all k d (omega arith)
 
-All-front : {X : Type 0} (P : X → Type 0) (xs ys : List X) → All P (xs ++ ys) → All P xs
+-- what holds of a list holds of its front
+pub All-front : {X : Type 0} (P : X → Type 0) (xs ys : List X) → All P (xs ++ ys) → All P xs
 All-front P xs ys all k d within =
     subst P (get_or-append xs ys d k within) (all k d (omega (arith, length-append xs ys)))
 
-All-last : {X : Type 0} (P : X → Type 0) (xs : List X) (y : X) → All P (xs ++ y ∷ []) → P y
+-- and of its last item
+pub All-last : {X : Type 0} (P : X → Type 0) (xs : List X) (y : X) → All P (xs ++ y ∷ []) → P y
 All-last P xs y all =
     subst P (get_or-append_seam xs y [] y) (all (length xs) y (omega (arith, length-append xs (y ∷ []))))
 
-AllPairs-rest : {X : Type 0} (R : X → X → Type 0) (x : X) (xs : List X) → AllPairs R (x ∷ xs) → AllPairs R xs
+-- what holds of all pairs of a list holds of those after the first item
+pub AllPairs-rest : {X : Type 0} (R : X → X → Type 0) (x : X) (xs : List X) → AllPairs R (x ∷ xs) → AllPairs R xs
 AllPairs-rest R x xs pairs i j d before within = pairs (suc i) (suc j) d (omega arith) (omega arith)
 
-AllPairs-first : {X : Type 0} (R : X → X → Type 0) (x : X) (xs : List X) → AllPairs R (x ∷ xs) → All (R x) xs
+-- the first item, and each after it
+pub AllPairs-first : {X : Type 0} (R : X → X → Type 0) (x : X) (xs : List X) → AllPairs R (x ∷ xs) → All (R x) xs
 AllPairs-first R x xs pairs k d within = pairs 0 (suc k) d (omega arith) (omega arith)
 
-AllPairs-front : {X : Type 0} (R : X → X → Type 0) (xs ys : List X) → AllPairs R (xs ++ ys) → AllPairs R xs
+-- what holds of all pairs of a list holds of those of its front
+pub AllPairs-front : {X : Type 0} (R : X → X → Type 0) (xs ys : List X) → AllPairs R (xs ++ ys) → AllPairs R xs
 AllPairs-front R xs ys pairs i j d before within =
     let longer : length (xs ++ ys) ≡ length xs + length ys = length-append xs ys in
     subst (λ x. R x (get_or xs j d)) (get_or-append xs ys d i (omega arith))
     (subst (λ y. R (get_or (xs ++ ys) i d) y) (get_or-append xs ys d j within) (pairs i j d before (omega arith)))
 
 -- each of a list stands in R to the one after it
-AllPairs-last : {X : Type 0} (R : X → X → Type 0) (xs : List X) (y : X) → AllPairs R (xs ++ y ∷ [])
+pub AllPairs-last : {X : Type 0} (R : X → X → Type 0) (xs : List X) (y : X) → AllPairs R (xs ++ y ∷ [])
     → (k : ℕ) (d : X) → k < length xs → R (get_or xs k d) y
 AllPairs-last R xs y pairs k d within =
     let longer : length (xs ++ y ∷ []) ≡ length xs + 1 = length-append xs (y ∷ []) in

@@ -1,0 +1,6 @@
+pub mod Frames
+pub mod Highest
+pub mod Jobs
+pub mod Pairs
+pub mod Running
+pub mod Written

@@ -1,5 +1,5 @@
 -- What the frames on the stack stand for, and what they keep.
-use Rattle.std.specs.Prelude.{◌≡◌, ◌≢◌, ℕ, ◌+◌, ◌≤◌, ◌<◌, true, List, [], ◌∷◌, length, map, replicate, All, AllPairs, slice_index_or, slice_set}
+use Rattle.std.specs.Prelude.{◌≡◌, ◌≢◌, ℕ, ◌+◌, ◌-◌, ◌≤◌, ◌<◌, true, List, [], ◌∷◌, length, map, replicate, take, Option, Some, option_map, All, AllPairs, slice_index_or, slice_set}
 use Rattle.std.specs.List.{zip}
 use Rattle.tt_base.specs.declared.event.Owner.{Owner}
 use Rattle.tt_base.specs.declared.event.Owner.TheVariants as By
@@ -11,6 +11,8 @@ use Rattle.run_stack.specs.Frames.{Frames, IsByLevel}
 use Rattle.run_stack.specs.declared.stack.StackFrame.{StackFrame}
 use Rattle.tt_world.specs.ConfigRules.{are_distinct}
 use Rattle.tt_world.specs.World.{Job}
+use Rattle.tt_world.specs.declared.world.Runner.{Runner}
+use Rattle.tt_world.specs.declared.world.Runner.TheVariants as runner
 use Rattle.tt_stack.specs.Stacked.{Stacked}
 
 -- ---- what is left of each number
@@ -62,6 +64,18 @@ stacked codes first levels frames entries reached = record {
   jobs = jobs_from 0 (lefts_of reached (task_lefts codes entries frames.tasks));
   isrs = lefts_of (length levels) (routine_lefts codes frames.isrs);
 }
+
+-- ---- the top
+
+-- who runs, where the frame on top has this owner and the last entry is this one
+abbrev pub runner_for : Owner → Option ℕ → Option Runner
+runner_for (By.Isr isr) last = Some (runner.Isr isr)
+runner_for _ last = option_map (λ (place : ℕ). runner.Job place) last
+
+-- the entries where a frame of this owner is taken off
+abbrev pub entries_after : Owner → List ℕ → List ℕ
+entries_after (By.Isr isr) entries = entries
+entries_after _ entries = take (length entries - 1) entries
 
 -- ---- what is kept
 

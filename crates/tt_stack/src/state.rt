@@ -1,11 +1,12 @@
 //! The stack with what its frames stand for.
 
-ghost use Rattle.std.specs.Prelude.{◌≡◌, ◌≢◌, ◌≤◌, ◌<◌, ◌+◌, ◌↔◌, List, [], ◌∷◌, ◌++◌, length, map, max, replicate, true, IfSome, IsSome, IsTrue, None, option_to_list, slice_index_or};
+ghost use Rattle.std.specs.Prelude.{◌≡◌, ◌≢◌, ◌≤◌, ◌<◌, ◌+◌, ◌-◌, ◌↔◌, List, [], ◌∷◌, ◌++◌, length, map, max, replicate, true, IfSome, IsSome, IsTrue, None, option_to_list, slice_get, slice_index_or};
 ghost use Rattle.task_lang.specs.Tick.{supply_of, state_of, ticks};
 ghost use Rattle.task_machine.specs.Standing.{body_of, left_of, work_in_front, IsSound as IsSoundFrame};
 ghost use Rattle.tt_world.specs.declared.config.IsrDef.{IsrDef};
 ghost use Rattle.tt_world.specs.ConfigRules.{are_distinct};
 ghost use Rattle.tt_world.specs.Runners.{is_done, job_at};
+ghost use Rattle.tt_stack.specs.Kept.{entries_after, runner_for};
 ghost use Rattle.tt_stack.specs.Stacked.{with_job, with_isr, isr_body, runner_in, running, left_in, leaving_in, count_unfinished, depth_in};
 
 use arrayvec::ArrayVec;
@@ -58,6 +59,35 @@ fn levels_of(isrs: &[IsrDef]) -> ArrayVec<u8, 16>
     levels
 }
 
+/// The last of some entries.
+fn last_of(entries: &[usize]) -> Option<usize>
+    ensures { result ≡ slice_get entries.now (length entries.now - 1) }
+{
+    entries.last().copied()
+}
+
+/// Who runs, where the frame on top has this owner and the last entry is this one.
+fn runner_for(owner: Owner, last: Option<usize>) -> Option<Runner>
+    ensures { result ≡ runner_for owner last }
+{
+    match owner {
+        Owner::Isr(isr) => Some(Runner::Isr(isr)),
+        _ => last.map(Runner::Job),
+    }
+}
+
+/// The last entry goes where a frame of a task does.
+fn take_off(entries: &mut ArrayVec<usize, 64>, owner: Owner)
+    ensures { entries.new.items ≡ entries_after owner entries.old.items }
+{
+    match owner {
+        Owner::Isr(_) => {}
+        _ => {
+            let _entry = entries.pop();
+        }
+    }
+}
+
 impl TtStack {
     /// Before the first round: no activation, and no routine is unfinished. The program of a task has the number of the task; those
     /// of the routines follow from the first one on.
@@ -98,11 +128,11 @@ impl TtStack {
         ensures { self.new ≡ with_job (body_of self.old.codes task.0) self.old }
     {
         let frame = Frame::start(&self.codes, task.0);
-        if !frame.ended() {
-            self.stack.push_task(task, frame, words);
-            self.entries.push(self.reached);
+        if frame.ended() {
+            self.count();
+        } else {
+            self.begin_task(task, frame, words);
         }
-        self.reached += 1;
     }
 
     /// A routine begins with its whole body, and takes so many words of stack.
@@ -113,10 +143,10 @@ impl TtStack {
     {
         let program = self.codes.number_after(self.first, isr.0);
         let frame = Frame::start(&self.codes, program);
-        if !frame.ended() {
-            let level = self.levels[usize::from(isr.0)];
-            self.stack.accept_isr(isr, level, frame, words);
+        if frame.ended() {
+            return;
         }
+        self.begin_isr(isr, frame, words);
     }
 
     /// Who runs: the unfinished routine of the highest level, else the last activation that has statements left. None where nothing
@@ -124,13 +154,9 @@ impl TtStack {
     pub fn runner(&self) -> Option<Runner>
         ensures { result ≡ runner_in self.now }
     {
-        let top = self.stack.top()?;
-        match top.owner {
-            Owner::Isr(isr) => Some(Runner::Isr(isr)),
-            _ => {
-                let entry = self.entries.as_slice().last()?;
-                Some(Runner::Job(*entry))
-            }
+        match self.stack.top() {
+            Some(top) => runner_for(top.owner, last_of(self.entries.as_slice())),
+            None => None,
         }
     }
 
@@ -226,9 +252,45 @@ impl TtStack {
         ensures runs { IsSome result ↔ IsSome (runner_in self.now) }
         ensures sound { IfSome result (IsSoundFrame self.now.codes) }
         ensures left { IfSome result (λ frame. left_of self.now.codes frame ≡ left_in self.now (running self.now)) }
-        ensures some { left_in self.now (running self.now) ≡ [] → result ≡ None }
+        ensures some { IfSome result (λ frame. left_of self.now.codes frame ≢ []) }
     {
-        Some(self.stack.top()?.frame)
+        match self.stack.top() {
+            Some(top) => Some(top.frame),
+            None => None,
+        }
+    }
+
+    /// An activation of which nothing is left.
+    fn count(&mut self)
+        requires in_count { length self.old.jobs < usize.MAX }
+        ensures { self.new ≡ with_job [] self.old }
+    {
+        self.reached += 1;
+    }
+
+    /// An activation that stands there.
+    fn begin_task(&mut self, task: TaskNo, frame: Frame, words: u32)
+        requires room { count_unfinished self.old.jobs < 64 }
+        requires in_count { length self.old.jobs < usize.MAX }
+        requires sound { IsSoundFrame self.old.codes frame }
+        requires some { left_of self.old.codes frame ≢ [] }
+        ensures { self.new ≡ with_job (left_of self.old.codes frame) self.old }
+    {
+        self.stack.push_task(task, frame, words);
+        self.entries.push(self.reached);
+        self.reached += 1;
+    }
+
+    /// A routine that stands there.
+    fn begin_isr(&mut self, isr: IsrNo, frame: Frame, words: u32)
+        requires exists { isr.0 < length self.old.levels }
+        requires finished { is_done (slice_index_or self.old.isrs isr.0 []) ≡ true }
+        requires sound { IsSoundFrame self.old.codes frame }
+        requires some { left_of self.old.codes frame ≢ [] }
+        ensures { self.new ≡ with_isr isr.0 (left_of self.old.codes frame) self.old }
+    {
+        let level = self.levels[usize::from(isr.0)];
+        self.stack.accept_isr(isr, level, frame, words);
     }
 
     /// The one that runs stands there now, or has ended.
@@ -251,12 +313,7 @@ impl TtStack {
     {
         if let Some(top) = self.stack.top() {
             self.stack.pop();
-            match top.owner {
-                Owner::Isr(_) => {}
-                _ => {
-                    let _entry = self.entries.pop();
-                }
-            }
+            take_off(&mut self.entries, top.owner);
         }
     }
 }
