@@ -55,3 +55,10 @@ module _ {A B : Type 0} where
   All-from_map f P [] all = All-nil (λ (x : A). P (f x))
   All-from_map f P (x ∷ xs) all =
       All-cons (λ (x : A). P (f x)) x xs (All-head P (f x) (map f xs) all) (All-from_map f P xs (All-tail P (f x) (map f xs) all))
+
+  pub All-from_zip : (P : A → Type 0) (xs : List A) (ys : List B) → length xs ≡ length ys → All (λ (p : A × B). P p.0) (zip xs ys) → All P xs
+  All-from_zip P [] ys same all = All-nil P
+  All-from_zip P (x ∷ xs) [] same all = absurd (omega arith)
+  All-from_zip P (x ∷ xs) (y ∷ ys) same all =
+      All-cons P x xs (All-head (λ (p : A × B). P p.0) (x, y) (zip xs ys) all)
+      (All-from_zip P xs ys (omega arith) (All-tail (λ (p : A × B). P p.0) (x, y) (zip xs ys) all))
