@@ -4,4 +4,5 @@ pub mod Highest
 pub mod Jobs
 pub mod Pairs
 pub mod Running
+pub mod Seen
 pub mod Written

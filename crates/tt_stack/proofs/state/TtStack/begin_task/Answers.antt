@@ -1,18 +1,48 @@
-use Rattle.std.proofs.Common.{◌≡◌, length, List, []}
-use Rattle.tt_stack.proofs.Frames.{isr_top}
+use Rattle.std.proofs.Common.{◌≡◌, ◌≢◌, ◌+◌, [], ap, ◌∙◌, length, subst, sym, arith}
+use Rattle.task_machine.specs.Standing.{left_of, IsSound}
+use Rattle.run_stack.specs.Frames.{task_frame, with_task}
+use Rattle.tt_stack.specs.Kept.{stacked}
+use Rattle.tt_stack.specs.Stacked.{Stacked, count_unfinished, with_job}
+use Rattle.tt_stack.proofs.Calls.{count_tasks, length_jobs_is, task_begun, task_kept}
+use Rattle.tt_stack.proofs.Seen.{codes_are}
 use Rattle.tt_stack.proofs.state.TtStack.begin_task.Goals as goal
 
 pub push_task-requires : goal.push_task-requires
-push_task-requires c = ?
+push_task-requires c =
+    let i = c.self.inside in
+    let same = count_tasks i.codes i.first i.levels.items i.reached i.stack i.entries.items c.self.invariant in
+    let all = ap (λ (s : Stacked). count_unfinished s.jobs) c.self.view_is in
+    omega (arith, same, all, c.requires.room)
 
 pub push-requires : goal.push-requires
-push-requires c = ?
+push-requires c =
+    let i = c.self.inside in
+    let same = count_tasks i.codes i.first i.levels.items i.reached i.stack i.entries.items c.self.invariant in
+    let all = ap (λ (s : Stacked). count_unfinished s.jobs) c.self.view_is in
+    (omega arith, omega (arith, same, all, c.requires.room, c.self.invariant.as_many))
 
 pub overflow_add-self : goal.overflow_add-self
-overflow_add-self c = ?
+overflow_add-self c =
+    let i = c.self.inside in
+    let same = length_jobs_is i.codes i.first i.levels.items i.reached i.stack i.entries.items c.self.invariant in
+    let all = ap (λ (s : Stacked). length s.jobs) c.self.view_is in
+    omega (arith, same, all, c.requires.in_count)
 
 pub invariant_of-self : goal.invariant_of-self
-invariant_of-self c = ?
+invariant_of-self c =
+    let i = c.self.inside in
+    let codes = codes_are i.codes i.first i.levels.items i.reached i.stack i.entries.items c.self.invariant c.args.self.now c.self.view_is in
+    rw (c.push_task.ensures, c.push.ensures.items)
+    (task_kept i.codes i.first i.levels.items i.reached i.stack i.entries.items c.self.invariant c.args.task c.args.frame c.args.words
+    (subst (λ l. IsSound l c.args.frame) (sym codes) c.requires.sound) (subst (λ l. left_of l c.args.frame ≢ []) (sym codes) c.requires.some))
 
 pub returns : goal.returns
-returns c = ?
+returns c =
+    let i = c.self.inside in
+    let codes = codes_are i.codes i.first i.levels.items i.reached i.stack i.entries.items c.self.invariant c.args.self.now c.self.view_is in
+    ap (λ s. stacked i.codes i.first i.levels.items s c.push.new.self.items (i.reached + 1)) c.push_task.ensures
+    ∙ ap (λ es. stacked i.codes i.first i.levels.items (with_task (task_frame c.args.task c.args.frame c.args.words) i.stack) es (i.reached + 1)) c.push.ensures.items
+    ∙ task_begun i.codes i.first i.levels.items i.reached i.stack i.entries.items c.self.invariant c.args.task c.args.frame c.args.words
+    (subst (λ l. IsSound l c.args.frame) (sym codes) c.requires.sound) (subst (λ l. left_of l c.args.frame ≢ []) (sym codes) c.requires.some)
+    ∙ ap (with_job (left_of i.codes c.args.frame)) c.self.view_is
+    ∙ ap (λ l. with_job (left_of l c.args.frame) c.args.self.now) codes

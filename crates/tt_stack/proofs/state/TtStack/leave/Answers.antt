@@ -1,12 +1,30 @@
-use Rattle.std.proofs.Common.{◌≡◌, length, List, []}
-use Rattle.tt_stack.proofs.Frames.{isr_top}
+use Rattle.std.proofs.Common.{◌≡◌, ◌≢◌, IsTrue, true, false, [], ap, sym, ◌∙◌, subst}
+use Rattle.task_machine.specs.Standing.{left_of, IsSound}
+use Rattle.run_stack.specs.Frames.{with_top}
+use Rattle.tt_stack.specs.Kept.{stacked}
+use Rattle.tt_stack.specs.Stacked.{leaving_in, running}
+use Rattle.tt_stack.proofs.Seen.{codes_are, moved_now, run_now}
 use Rattle.tt_stack.proofs.state.TtStack.leave.Goals as goal
 
 pub set_top-requires : goal.set_top-requires
-set_top-requires c = ?
+set_top-requires c =
+    let i = c.self.inside in
+    let (top, r) = run_now i.codes i.first i.levels.items i.reached i.stack i.entries.items c.self.invariant c.args.self.now c.self.view_is c.requires.runs in
+    r.deep
 
 pub invariant_of-self : goal.invariant_of-self
-invariant_of-self c = ?
+invariant_of-self c =
+    let i = c.self.inside in
+    let (top, r) = run_now i.codes i.first i.levels.items i.reached i.stack i.entries.items c.self.invariant c.args.self.now c.self.view_is c.requires.runs in
+    let codes = codes_are i.codes i.first i.levels.items i.reached i.stack i.entries.items c.self.invariant c.args.self.now c.self.view_is in
+    let some : left_of c.args.self.now.codes c.args.frame ≢ [] =
+    λ none. let over : true ≡ false = sym ((c.ended.ensures.nothing c.args.self.now.codes c.requires.sound).1 none) ∙ c.if-ended.false in cc in
+    rw c.set_top.ensures
+    (r.moved_kept c.args.frame (subst (λ l. IsSound l c.args.frame) (sym codes) c.requires.sound) (subst (λ l. left_of l c.args.frame ≢ []) (sym codes) some))
 
 pub returns-else-ended : goal.returns-else-ended
-returns-else-ended c = ?
+returns-else-ended c =
+    let i = c.self.inside in
+    let (top, r) = run_now i.codes i.first i.levels.items i.reached i.stack i.entries.items c.self.invariant c.args.self.now c.self.view_is c.requires.runs in
+    ap (λ s. stacked i.codes i.first i.levels.items s i.entries.items i.reached) c.set_top.ensures
+    ∙ moved_now i.codes i.first i.levels.items i.reached i.stack i.entries.items c.self.invariant c.args.self.now c.self.view_is top r c.args.frame

@@ -1,0 +1,92 @@
+-- The one that runs, as it is seen.
+use Rattle.std.proofs.Common.{◌≡◌, ◌≢◌, ◌↔◌, IsTrue, IsSome, ℕ, zero, suc, ◌+◌, ◌-◌, ◌<◌, List, [], ◌∷◌, length, Option, None, Some, refl, sym, ap, ◌∙◌, subst, arith}
+use Rattle.std.specs.Prelude.{option_map, slice_get, slice_index_or, slice_set, unwrap_or}
+use Rattle.std.proofs.lemmas.List.{get_or-set_same}
+use Rattle.task_lang.specs.declared.syntax.Stmt.{Stmt}
+use Rattle.task_machine.specs.declared.frame.Frame.{Frame}
+use Rattle.task_machine.specs.Standing.{left_of, IsSound}
+use Rattle.run_stack.specs.declared.top.Top.{Top}
+use Rattle.run_stack.specs.Frames.{Frames, depth_of, popped, seen, top_of, with_top}
+use Rattle.tt_world.specs.declared.world.Runner.{Runner}
+use Rattle.tt_world.specs.declared.world.Runner.TheVariants as runner
+use Rattle.tt_world.specs.World.{Job}
+use Rattle.tt_world.specs.Runners.{job_at, no_job, with_left}
+use Rattle.tt_world.proofs.JobLists.{at_set}
+use Rattle.tt_stack.specs.Stacked.{Stacked, leaving_in, left_in, runner_in, running}
+use Rattle.tt_stack.specs.Kept.{AreKept, entries_after, runner_for, stacked}
+use Rattle.tt_stack.proofs.Running.{Running, Shape, none_at, running_at, running_now, shape}
+
+-- ---- what is left of a runner, once it was changed
+
+there : {X : Type 0} (left : X → List Stmt) (d : X) → left d ≡ [] → (xs : List X) (n : ℕ) → left (slice_index_or xs n d) ≢ [] → n < length xs
+there left d none [] n some = absurd (some none)
+there left d none (x ∷ xs) zero some = omega arith
+there left d none (x ∷ xs) (suc n) some = let within = there left d none xs n some in omega (arith, within)
+
+pub left_then : (s : Stacked) (who : Runner) (left : List Stmt) → left_in s who ≢ [] → left_in (leaving_in s who left) who ≡ left
+left_then s (runner.Isr isr) left some = get_or-set_same s.isrs isr.0 left [] (there (λ (l : List Stmt). l) [] refl s.isrs isr.0 some)
+left_then s (runner.Job place) left some =
+    ap (λ (j : Job). j.left) (at_set s.jobs place left (there (λ (j : Job). j.left) no_job refl s.jobs place some))
+left_then s (runner.Oisr oisr) left some = absurd (some refl)
+left_then s (runner.Osek task) left some = absurd (some refl)
+left_then s runner.Nobody left some = absurd (some refl)
+
+some_is : (o : Option Runner) (who : Runner) → o ≡ Some who → IsSome o
+some_is None who is = cc
+some_is (Some r) who is = refl
+
+none_is : (o : Option Runner) → o ≡ None → IsSome o → ⊥
+none_is None is some = cc
+none_is (Some r) is some = cc
+
+pub none_none : (s : Stacked) → IsSome (runner_in s) → runner_in s ≡ None → ⊥
+none_none s some none = none_is (runner_in s) none some
+
+module _ (codes : List (List Stmt)) (first : ℕ) (levels : List ℕ) (reached : ℕ) (s : Frames) (entries : List ℕ)
+    (k : AreKept codes first levels s entries reached) (now : Stacked) (is : stacked codes first levels s entries reached ≡ now) where
+  abbrev Run : Top → Type 0
+  Run top = Running codes first levels reached s entries top
+
+  pub codes_are : codes ≡ now.codes
+  codes_are = ap (λ (v : Stacked). v.codes) is
+
+  pub run_at : (top : Top) → option_map seen (top_of s) ≡ Some top → Run top
+  run_at top so = running_at codes first levels reached s entries (shape s entries k.as_many) k top so
+
+  pub none_then : option_map seen (top_of s) ≡ None → runner_in now ≡ None
+  none_then so = ap runner_in (sym is) ∙ none_at codes first levels reached s entries (shape s entries k.as_many) so
+
+  pub run_now : IsSome (runner_in now) → (top : Top) × Run top
+  run_now runs = running_now codes first levels reached s entries (shape s entries k.as_many) k (subst (λ v. IsSome (runner_in v)) (sym is) runs)
+
+  module _ (top : Top) (r : Run top) where
+    pub runner_is : runner_in now ≡ Some r.who
+    runner_is = ap runner_in (sym is) ∙ r.is
+
+    pub runs : IsSome (runner_in now)
+    runs = some_is (runner_in now) r.who runner_is
+
+    running_is : running now ≡ r.who
+    running_is = ap (λ o. unwrap_or o runner.Nobody) runner_is
+
+    pub left_now : left_of now.codes top.frame ≡ left_in now (running now)
+    left_now =
+        ap (λ (c : List (List Stmt)). left_of c top.frame) (sym codes_are) ∙ r.left
+        ∙ ap (λ (v : Stacked). left_in v r.who) is ∙ ap (left_in now) (sym running_is)
+
+    pub sound_now : IsSound now.codes top.frame
+    sound_now = subst (λ c. IsSound c top.frame) codes_are r.sound
+
+    pub some_now : left_of now.codes top.frame ≢ []
+    some_now = subst (λ c. left_of c top.frame ≢ []) codes_are r.some
+
+    leaving_now : (left : List Stmt) → leaving_in (stacked codes first levels s entries reached) r.who left ≡ leaving_in now (running now) left
+    leaving_now left = ap (λ (v : Stacked). leaving_in v r.who left) is ∙ ap (λ (w : Runner). leaving_in now w left) (sym running_is)
+
+    pub moved_now : (frame : Frame) → stacked codes first levels (with_top frame s) entries reached ≡ leaving_in now (running now) (left_of now.codes frame)
+    moved_now frame =
+        r.moved frame ∙ leaving_now (left_of codes frame)
+        ∙ ap (λ (c : List (List Stmt)). leaving_in now (running now) (left_of c frame)) codes_are
+
+    pub ended_now : stacked codes first levels (popped s) (entries_after top.owner entries) reached ≡ leaving_in now (running now) []
+    ended_now = r.ended ∙ leaving_now []
