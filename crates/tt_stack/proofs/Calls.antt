@@ -1,9 +1,9 @@
 -- What each call makes of what is seen.
-use Rattle.std.proofs.Common.{◌≡◌, ◌≢◌, ◌↔◌, IsTrue, ℕ, zero, suc, ◌+◌, ◌<◌, ◌≤◌, ◌⊎◌, inl, inr, ⊎_elim, Bool, true, false, List, [], ◌∷◌, ◌++◌, length, refl, sym, ap, ◌∙◌, subst, arith, replicate, eq-eqb, nat_eq}
-use Rattle.std.specs.Prelude.{All, AllPairs, Any, not, ◌&&◌, ◌||◌, ◌==◌, slice_index_or, slice_set}
+use Rattle.std.proofs.Common.{◌≡◌, ◌≢◌, ◌↔◌, IsTrue, ℕ, zero, suc, ◌+◌, ◌<◌, inr, ⊎_elim, Bool, true, false, List, [], ◌∷◌, ◌++◌, length, refl, sym, ap, ◌∙◌, subst, arith, replicate, eq-eqb, nat_eq}
+use Rattle.std.specs.Prelude.{All, Any, not, ◌&&◌, ◌||◌, ◌==◌, slice_index_or, slice_set}
 use Rattle.std.specs.List.{list_any}
 use Rattle.std.proofs.Math.Seq.{set-append_seam}
-use Rattle.std.proofs.lemmas.Bool.{cases_eq, eqb-false, ne_eqb}
+use Rattle.std.proofs.lemmas.Bool.{eqb-false, ne_eqb}
 use Rattle.std.proofs.lemmas.List.{length-append, length-map, set-get_or}
 use Rattle.std.proofs.lemmas.List.Elements.{All-map, All-push, All-weaker, All-contains_itself}
 use Rattle.std.proofs.lemmas.List.Folds.{list_any-from_Any, list_any_none}
@@ -13,10 +13,9 @@ use Rattle.task_machine.specs.declared.frame.Frame.{Frame}
 use Rattle.task_machine.specs.Standing.{left_of, IsSound}
 use Rattle.tt_base.specs.declared.number.TaskNo.{TaskNo}
 use Rattle.tt_base.specs.declared.number.IsrNo.{IsrNo}
-use Rattle.tt_base.specs.declared.event.Owner.{Owner}
 use Rattle.tt_base.specs.declared.event.Owner.TheVariants as By
 use Rattle.run_stack.specs.declared.stack.StackFrame.{StackFrame}
-use Rattle.run_stack.specs.Frames.{Frames, Holds, by_level, depth_of, isr_frame, task_frame, with_isr as with_isr_frame, with_task}
+use Rattle.run_stack.specs.Frames.{Frames, Holds, depth_of, isr_frame, task_frame, with_isr as with_isr_frame, with_task}
 use Rattle.run_stack.proofs.Lists.{All-by_level, order-by_level}
 use Rattle.tt_world.specs.ConfigRules.{are_distinct}
 use Rattle.tt_world.specs.World.{Job}

@@ -1,23 +1,20 @@
 -- The frames on the stack, and what is left as they stand.
-use Rattle.std.proofs.Common.{◌≡◌, ◌≢◌, ℕ, zero, suc, ◌+◌, ◌-◌, ◌<◌, ◌≤◌, ⊎_elim, Bool, true, false, cond, List, [], ◌∷◌, ◌++◌, length, map, take, Option, None, Some, refl, sym, ap, ◌∙◌, subst, arith, replicate}
-use Rattle.std.specs.Prelude.{All, AllPairs, not, option_map, slice_get, slice_index_or, slice_set}
-use Rattle.std.proofs.lemmas.List.{length-map, length-append, get_or-set_same, get_or-set_other, length-set, set-set}
-use Rattle.std.proofs.lemmas.List.Elements.{All-map, All-head, All-tail}
+use Rattle.std.proofs.Common.{◌≡◌, ◌≢◌, ℕ, ◌+◌, ◌<◌, ⊎_elim, Bool, true, false, cond, List, [], ◌∷◌, ◌++◌, length, None, Some, refl, sym, ap, ◌∙◌, subst, arith, replicate}
+use Rattle.std.specs.Prelude.{All, not, slice_index_or, slice_set}
+use Rattle.std.proofs.lemmas.List.{length-map, get_or-set_same, get_or-set_other, length-set, set-set}
+use Rattle.std.proofs.lemmas.List.Elements.{All-map, All-tail}
 use Rattle.task_lang.specs.declared.syntax.Stmt.{Stmt}
-use Rattle.task_machine.specs.Standing.{left_of, IsSound}
-use Rattle.tt_base.specs.declared.event.Owner.TheVariants as By
+use Rattle.task_machine.specs.Standing.{left_of}
 use Rattle.run_stack.specs.declared.stack.StackFrame.{StackFrame}
 use Rattle.run_stack.specs.Frames.{IsByLevel, by_level, is_lower}
-use Rattle.run_stack.proofs.Lists.{All-front, All-last, AllPairs-front, AllPairs-last}
-use Rattle.tt_world.specs.World.{Job}
-use Rattle.tt_world.specs.Runners.{is_done, highest, unfinished, last_unfinished, with_left}
-use Rattle.tt_stack.specs.Stacked.{Stacked}
-use Rattle.tt_stack.specs.Kept.{Left, written, lefts_of, jobs_from, routine_number, routine_left, routine_lefts, bodies_left, task_lefts, IsOn, IsOfTask, IsOfRoutine, DoAscend}
+use Rattle.run_stack.proofs.Lists.{All-front, All-last, AllPairs-last}
+use Rattle.tt_world.specs.Runners.{is_done, highest, unfinished, last_unfinished}
+use Rattle.tt_stack.specs.Kept.{Left, written, lefts_of, jobs_from, routine_number, routine_left, routine_lefts, bodies_left, task_lefts, IsOfTask, IsOfRoutine, DoAscend}
 use Rattle.tt_stack.proofs.Highest.{none_of, top_of}
-use Rattle.tt_stack.proofs.Jobs.{none_last, last_is, jobs_set}
-use Rattle.tt_stack.proofs.Pairs.{All-zip_first, All-zip_second, AllPairs-zip, AllPairs-map, All-from_map, length-zip, zip-push, map-push}
+use Rattle.tt_stack.proofs.Jobs.{none_last, last_is}
+use Rattle.tt_stack.proofs.Pairs.{All-zip_first, All-zip_second, AllPairs-zip, AllPairs-map, All-from_map, zip-push, map-push}
 use Rattle.std.specs.List.{range_with_len, zip}
-use Rattle.tt_stack.proofs.Written.{at, IsNotIn, AreGiven, written-push, written_other, written_comm, written_or, length-lefts_of, at_none, gone, finished_not_in, nothing_left}
+use Rattle.tt_stack.proofs.Written.{at, IsNotIn, AreGiven, written-push, written_comm, written_or, length-lefts_of, at_none, gone, finished_not_in}
 
 pub not_done : (left : List Stmt) → left ≢ [] → is_done left ≡ false
 not_done [] some = absurd (some refl)

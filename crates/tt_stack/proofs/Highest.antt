@@ -1,11 +1,10 @@
 -- The highest level among those that have something left.
-use Rattle.std.proofs.Common.{◌≡◌, ◌≢◌, ℕ, zero, suc, ◌+◌, ◌<◌, ◌≤◌, ⊎_elim, Bool, true, false, cond, List, [], ◌∷◌, length, Option, None, Some, refl, sym, ap, ◌∙◌, subst, arith, nat_lt, IfSome}
-use Rattle.std.specs.Prelude.{not, filter, slice_index_or}
+use Rattle.std.proofs.Common.{◌≡◌, ◌≢◌, ℕ, zero, suc, ◌+◌, ◌<◌, ◌≤◌, ⊎_elim, Bool, true, false, cond, List, [], ◌∷◌, Option, None, Some, refl, sym, ap, ◌∙◌, subst, arith, nat_lt, IfSome}
+use Rattle.std.specs.Prelude.{filter, slice_index_or}
 use Rattle.std.specs.List.{range_with_len}
 use Rattle.std.proofs.lemmas.Bool.{cases_eq}
 use Rattle.std.proofs.lemmas.Bool.Decides.{nat_tests}
-use Rattle.task_lang.specs.declared.syntax.Stmt.{Stmt}
-use Rattle.tt_world.specs.Runners.{is_done, unfinished, higher, highest}
+use Rattle.tt_world.specs.Runners.{higher, highest}
 
 abbrev level_of : List ℕ → ℕ → ℕ
 level_of levels n = slice_index_or levels n 0

@@ -1,6 +1,6 @@
 -- Who runs, and what each call makes of the stack.
-use Rattle.std.proofs.Common.{◌≡◌, ◌≢◌, ℕ, zero, suc, ◌+◌, ◌-◌, ◌<◌, ◌≤◌, List, [], ◌∷◌, ◌++◌, length, map, take, Option, None, Some, refl, sym, ap, ◌∙◌, subst, arith, IsSome}
-use Rattle.std.specs.Prelude.{All, AllPairs, option_map, slice_get, slice_index_or, slice_set}
+use Rattle.std.proofs.Common.{◌≡◌, ◌≢◌, ℕ, ◌+◌, ◌-◌, ◌<◌, List, [], ◌∷◌, ◌++◌, length, take, Option, None, Some, refl, sym, ap, ◌∙◌, subst, arith, IsSome}
+use Rattle.std.specs.Prelude.{option_map, slice_get, slice_set}
 use Rattle.std.proofs.Math.Seq.{take-append_seam}
 use Rattle.std.proofs.lemmas.List.{length-append, get_or-set_same, set-set}
 use Rattle.std.proofs.lemmas.List.Elements.{All-push}
@@ -8,18 +8,16 @@ use Rattle.std.proofs.lemmas.List.Quantifiers.{all_pairs_push}
 use Rattle.task_lang.specs.declared.syntax.Stmt.{Stmt}
 use Rattle.task_machine.specs.declared.frame.Frame.{Frame}
 use Rattle.task_machine.specs.Standing.{left_of, IsSound}
-use Rattle.tt_base.specs.declared.event.Owner.{Owner}
-use Rattle.tt_base.specs.declared.event.Owner.TheVariants as By
 use Rattle.run_stack.specs.declared.stack.StackFrame.{StackFrame}
 use Rattle.run_stack.specs.declared.top.Top.{Top}
-use Rattle.run_stack.specs.Frames.{Frames, IsByLevel, by_top, last, depth_of, popped, seen, standing_at, top_of, with_top, with_last, without_last}
+use Rattle.run_stack.specs.Frames.{Frames, by_top, depth_of, popped, seen, standing_at, top_of, with_top}
 use Rattle.run_stack.proofs.Lists.{All-front, All-last, AllPairs-front, AllPairs-last, ends, last_is, with_last_is, without_last_is}
 use Rattle.tt_world.specs.declared.world.Runner.{Runner}
 use Rattle.tt_world.specs.declared.world.Runner.TheVariants as runner
 use Rattle.tt_world.specs.World.{Job}
-use Rattle.tt_world.specs.Runners.{last_unfinished, with_left}
-use Rattle.tt_stack.specs.Stacked.{Stacked, first_of, runner_in, isr_runner, task_runner, left_in, leaving_in}
-use Rattle.tt_stack.specs.Kept.{lefts_of, jobs_from, routine_number, task_lefts, stacked, runner_for, entries_after, AreKept, IsOn, IsOfTask, IsOfRoutine}
+use Rattle.tt_world.specs.Runners.{with_left}
+use Rattle.tt_stack.specs.Stacked.{Stacked, first_of, runner_in, task_runner, left_in, leaving_in}
+use Rattle.tt_stack.specs.Kept.{lefts_of, jobs_from, routine_number, task_lefts, stacked, runner_for, entries_after, AreKept, IsOfTask, IsOfRoutine}
 use Rattle.tt_stack.proofs.Frames.{entries_apart, isr_gone, isr_left, isr_moved, isr_none, isr_top, isrs_of, task_none, task_top, tasks_push}
 use Rattle.tt_stack.proofs.Jobs.{job_left, jobs_set}
 use Rattle.tt_stack.proofs.Written.{at, IsNotIn, gone, length-lefts_of}

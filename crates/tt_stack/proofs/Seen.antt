@@ -1,20 +1,20 @@
 -- The one that runs, as it is seen.
-use Rattle.std.proofs.Common.{◌≡◌, ◌≢◌, ◌↔◌, IsTrue, IsSome, ℕ, zero, suc, ◌+◌, ◌-◌, ◌<◌, List, [], ◌∷◌, length, Option, None, Some, refl, sym, ap, ◌∙◌, subst, arith}
-use Rattle.std.specs.Prelude.{option_map, slice_get, slice_index_or, slice_set, unwrap_or}
+use Rattle.std.proofs.Common.{◌≡◌, ◌≢◌, IsSome, ℕ, zero, suc, ◌<◌, List, [], ◌∷◌, length, Option, None, Some, refl, sym, ap, ◌∙◌, subst, arith}
+use Rattle.std.specs.Prelude.{option_map, slice_index_or, unwrap_or}
 use Rattle.std.proofs.lemmas.List.{get_or-set_same}
 use Rattle.task_lang.specs.declared.syntax.Stmt.{Stmt}
 use Rattle.task_machine.specs.declared.frame.Frame.{Frame}
 use Rattle.task_machine.specs.Standing.{left_of, IsSound}
 use Rattle.run_stack.specs.declared.top.Top.{Top}
-use Rattle.run_stack.specs.Frames.{Frames, depth_of, popped, seen, top_of, with_top}
+use Rattle.run_stack.specs.Frames.{Frames, popped, seen, top_of, with_top}
 use Rattle.tt_world.specs.declared.world.Runner.{Runner}
 use Rattle.tt_world.specs.declared.world.Runner.TheVariants as runner
 use Rattle.tt_world.specs.World.{Job}
-use Rattle.tt_world.specs.Runners.{job_at, no_job, with_left}
+use Rattle.tt_world.specs.Runners.{no_job}
 use Rattle.tt_world.proofs.JobLists.{at_set}
 use Rattle.tt_stack.specs.Stacked.{Stacked, leaving_in, left_in, runner_in, running}
-use Rattle.tt_stack.specs.Kept.{AreKept, entries_after, runner_for, stacked}
-use Rattle.tt_stack.proofs.Running.{Running, Shape, none_at, running_at, running_now, shape}
+use Rattle.tt_stack.specs.Kept.{AreKept, entries_after, stacked}
+use Rattle.tt_stack.proofs.Running.{Running, none_at, running_at, running_now, shape}
 
 -- ---- what is left of a runner, once it was changed
 

@@ -1,4 +1,4 @@
-use Rattle.std.proofs.Common.{◌≡◌, ◌≢◌, ◌+◌, [], ap, ◌∙◌, length, subst, sym, arith}
+use Rattle.std.proofs.Common.{◌≢◌, ◌+◌, [], ap, ◌∙◌, length, subst, sym, arith}
 use Rattle.task_machine.specs.Standing.{left_of, IsSound}
 use Rattle.run_stack.specs.Frames.{task_frame, with_task}
 use Rattle.tt_stack.specs.Kept.{stacked}

@@ -1,8 +1,6 @@
-use Rattle.std.proofs.Common.{◌≡◌, ◌≢◌, IsTrue, true, false, [], ap, sym, ◌∙◌, subst}
+use Rattle.std.proofs.Common.{◌≡◌, ◌≢◌, true, false, [], ap, sym, ◌∙◌, subst}
 use Rattle.task_machine.specs.Standing.{left_of, IsSound}
-use Rattle.run_stack.specs.Frames.{with_top}
 use Rattle.tt_stack.specs.Kept.{stacked}
-use Rattle.tt_stack.specs.Stacked.{leaving_in, running}
 use Rattle.tt_stack.proofs.Seen.{codes_are, moved_now, run_now}
 use Rattle.tt_stack.proofs.state.TtStack.leave.Goals as goal
 

@@ -3,8 +3,6 @@ use Rattle.tt_stack.specs.Kept.{lefts_of, task_lefts}
 use Rattle.tt_stack.specs.Stacked.{Stacked}
 use Rattle.tt_stack.proofs.Jobs.{length-jobs}
 use Rattle.tt_stack.proofs.Written.{length-lefts_of}
-use Rattle.tt_stack.proofs.Highest.{top_of}
-use Rattle.tt_stack.proofs.Pairs.{map-push}
 use Rattle.tt_stack.proofs.state.TtStack.reached.Goals as goal
 
 pub returns : goal.returns
