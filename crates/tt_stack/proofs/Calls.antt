@@ -22,6 +22,7 @@ use Rattle.tt_world.specs.World.{Job}
 use Rattle.tt_world.specs.Runners.{is_done, job_at}
 use Rattle.tt_stack.specs.Stacked.{Stacked, count_left, count_unfinished, depth_in, with_isr, with_job}
 use Rattle.tt_stack.specs.Kept.{Left, written, lefts_of, jobs_from, routine_number, routine_lefts, bodies_left, task_lefts, stacked, AreKept, IsOfTask, IsOfRoutine}
+use Rattle.tt_stack.specs.declared.state.TtStack.TheInside.{Inside}
 use Rattle.tt_stack.proofs.Frames.{done_is, isrs_insert, isrs_of, left_at, level_is, level_of, not_among, number_within, routines_given, tasks_given, tasks_push}
 use Rattle.tt_stack.proofs.Jobs.{count_jobs, job, job_left, jobs_push, length-jobs}
 use Rattle.tt_stack.proofs.Pairs.{All-from_zip, All-zip_first, length-zip}
@@ -38,27 +39,50 @@ neither : (a b : Bool) → not (a || b) ≡ true → (a ≡ false) × (not b ≡
 neither true b is = cc
 neither false b is = (refl, is)
 
-none_equal : (xs : List ℕ) (n i : ℕ) → not (list_any (λ (other : ℕ). other == n) xs) ≡ true → i < length xs → slice_index_or xs i 0 ≢ n
+none_equal : (xs : List ℕ) (n i : ℕ) → not (list_any (λ (other : ℕ). other == n) xs) ≡ true → i < length xs
+    → slice_index_or xs i 0 ≢ n
 none_equal [] n i none within = absurd (omega arith)
-none_equal (x ∷ xs) n zero none within = eqb-false x n (neither (x == n) (list_any (λ (other : ℕ). other == n) xs) none).0
+none_equal (x ∷ xs) n zero none within =
+    eqb-false x n (neither (x == n) (list_any (λ (other : ℕ). other == n) xs) none).0
 none_equal (x ∷ xs) n (suc i) none within =
     none_equal xs n i (neither (x == n) (list_any (λ (other : ℕ). other == n) xs) none).1 (omega arith)
 
 -- levels of two numbers are two
-distinct_levels : (levels : List ℕ) (i j : ℕ) → are_distinct levels ≡ true → i < length levels → j < length levels → i ≢ j
+distinct_levels : (levels : List ℕ) (i j : ℕ) → are_distinct levels ≡ true → i < length levels → j < length levels
+    → i ≢ j
     → slice_index_or levels i 0 ≢ slice_index_or levels j 0
 distinct_levels [] i j distinct a b apart = absurd (omega arith)
 distinct_levels (x ∷ xs) zero zero distinct a b apart = absurd (apart refl)
 distinct_levels (x ∷ xs) zero (suc j) distinct a b apart =
-    λ e. none_equal xs x j (both (not (list_any (λ (other : ℕ). other == x) xs)) (are_distinct xs) distinct).0 (omega arith) (sym e)
+    λ e. none_equal xs x j (both (not (list_any (λ (other : ℕ). other == x) xs)) (are_distinct xs) distinct).0
+    (omega arith) (sym e)
 distinct_levels (x ∷ xs) (suc i) zero distinct a b apart =
     none_equal xs x i (both (not (list_any (λ (other : ℕ). other == x) xs)) (are_distinct xs) distinct).0 (omega arith)
 distinct_levels (x ∷ xs) (suc i) (suc j) distinct a b apart =
-    distinct_levels xs i j (both (not (list_any (λ (other : ℕ). other == x) xs)) (are_distinct xs) distinct).1 (omega arith) (omega arith)
+    distinct_levels xs i j (both (not (list_any (λ (other : ℕ). other == x) xs)) (are_distinct xs) distinct).1
+    (omega arith) (omega arith)
     (λ e. apart (omega (arith, e)))
 
-module _ (codes : List (List Stmt)) (first : ℕ) (levels : List ℕ) (reached : ℕ) (s : Frames) (entries : List ℕ)
-    (k : AreKept codes first levels s entries reached) where
+module _ (inside : Inside)
+    (k : AreKept inside.codes inside.first inside.levels.items inside.stack inside.entries.items inside.reached) where
+  abbrev codes : List (List Stmt)
+  codes = inside.codes
+
+  abbrev first : ℕ
+  first = inside.first
+
+  abbrev levels : List ℕ
+  levels = inside.levels.items
+
+  abbrev reached : ℕ
+  reached = inside.reached
+
+  abbrev s : Frames
+  s = inside.stack
+
+  abbrev entries : List ℕ
+  entries = inside.entries.items
+
   abbrev view : Stacked
   view = stacked codes first levels s entries reached
 
@@ -96,15 +120,20 @@ module _ (codes : List (List Stmt)) (first : ℕ) (levels : List ℕ) (reached :
       let next : reached + 1 ≡ suc reached = omega arith in
       ap (λ (n : ℕ). written (replicate n []) given) next
       ∙ ap (λ (l : List (List Stmt)). written l given) (none_more reached)
-      ∙ written_more (replicate reached []) given [] (subst (λ n. All (λ (one : Left). one.0 < n) given) (sym (length-none reached)) given_tasks.below)
+      ∙ written_more (replicate reached []) given []
+      (subst (λ n. All (λ (one : Left). one.0 < n) given) (sym (length-none reached)) given_tasks.below)
 
   more_in_count : All (λ (n : ℕ). n < reached + 1) entries
-  more_in_count = All-weaker (λ (n : ℕ). n < reached) (λ (n : ℕ). n < reached + 1) (λ n less. omega (arith, less)) entries k.in_count
+  more_in_count =
+      All-weaker (λ (n : ℕ). n < reached) (λ (n : ℕ). n < reached + 1)
+      (λ n less. omega (arith, less)) entries k.in_count
 
   with_jobs : List Job → Stacked
-  with_jobs jobs = record { codes = codes; first = first; levels = levels; jobs = jobs; isrs = isrs_of codes levels s.isrs }
+  with_jobs jobs =
+      record { codes = codes; first = first; levels = levels; jobs = jobs; isrs = isrs_of codes levels s.isrs }
 
-  at_end : (left : List Stmt) → jobs_from 0 (lefts_of reached given ++ left ∷ []) ≡ view.jobs ++ job (length view.jobs) left ∷ []
+  at_end : (left : List Stmt) → jobs_from 0 (lefts_of reached given ++ left ∷ [])
+      ≡ view.jobs ++ job (length view.jobs) left ∷ []
   at_end left =
       let lefts = lefts_of reached given in
       let same : 0 + length lefts ≡ length (jobs_from 0 lefts) = omega (arith, length-jobs 0 lefts) in
@@ -126,7 +155,8 @@ module _ (codes : List (List Stmt)) (first : ℕ) (levels : List ℕ) (reached :
   unfolding with_jobs
   counted = ap with_jobs (ap (λ (l : List (List Stmt)). jobs_from 0 l) lefts_more ∙ at_end [])
 
-  module _ (task : TaskNo) (frame : Frame) (words : ℕ) (sound : IsSound codes frame) (some : left_of codes frame ≢ []) where
+  module _ (task : TaskNo) (frame : Frame) (words : ℕ) (sound : IsSound codes frame)
+      (some : left_of codes frame ≢ []) where
     abbrev new_task : StackFrame
     new_task = task_frame task frame words
 
@@ -134,7 +164,8 @@ module _ (codes : List (List Stmt)) (first : ℕ) (levels : List ℕ) (reached :
     task_kept = record {
       enough = k.enough;
       distinct = k.distinct;
-      tasks = All-push (IsOfTask codes) s.tasks new_task k.tasks (record { on = record { sound = sound; some = some }; task = task; owner = refl });
+      tasks = All-push (IsOfTask codes) s.tasks new_task k.tasks
+          (record { on = record { sound = sound; some = some }; task = task; owner = refl });
       isrs = k.isrs;
       by_level = k.by_level;
       as_many = omega (arith, k.as_many, length-append entries (reached ∷ []), length-append s.tasks (new_task ∷ []));
@@ -142,7 +173,8 @@ module _ (codes : List (List Stmt)) (first : ℕ) (levels : List ℕ) (reached :
       in_count = All-push (λ (n : ℕ). n < reached + 1) entries reached more_in_count (omega arith);
     }
 
-    pub task_begun : stacked codes first levels (with_task new_task s) (entries ++ reached ∷ []) (reached + 1) ≡ with_job (left_of codes frame) view
+    pub task_begun : stacked codes first levels (with_task new_task s) (entries ++ reached ∷ []) (reached + 1)
+        ≡ with_job (left_of codes frame) view
     unfolding with_jobs
     task_begun =
         let left = left_of codes frame in
@@ -179,7 +211,8 @@ module _ (codes : List (List Stmt)) (first : ℕ) (levels : List ℕ) (reached :
         not_task isr any.1 (subst (IsOfTask codes) any.3 (k.tasks any.0 any.1 any.2)) any.4)
         (λ (any : Any (λ (f : StackFrame). f.owner ≡ By.Isr isr) s.isrs).
         let others = not_among codes levels s.isrs isr.0 k.isrs k.by_level done in
-        subst (λ (f : StackFrame). routine_number f.owner ≢ isr.0) any.3 (others any.0 any.1 any.2) (ap routine_number any.4))
+        subst (λ (f : StackFrame). routine_number f.owner ≢ isr.0) any.3 (others any.0 any.1 any.2)
+        (ap routine_number any.4))
         held
 
     is_held : is_done (at view.isrs isr.0) ≡ false → Holds s (By.Isr isr)
@@ -194,7 +227,8 @@ module _ (codes : List (List Stmt)) (first : ℕ) (levels : List ℕ) (reached :
         own : (f : StackFrame) → IsOfRoutine codes levels f → f.owner ≡ By.Isr (record { 0 = routine_number f.owner })
         own f r = r.owner ∙ ap (λ o. By.Isr (record { 0 = routine_number o })) (sym r.owner)
 
-        every : All (λ (one : Left). Any (λ (f : StackFrame). f.owner ≡ By.Isr (record { 0 = one.0 })) s.isrs) (routine_lefts codes s.isrs)
+        every : All (λ (one : Left). Any (λ (f : StackFrame). f.owner ≡ By.Isr (record { 0 = one.0 })) s.isrs)
+            (routine_lefts codes s.isrs)
         every =
             All-map (λ (one : Left). Any (λ (f : StackFrame). f.owner ≡ By.Isr (record { 0 = one.0 })) s.isrs)
             (λ (f : StackFrame). (routine_number f.owner, left_of codes f.frame)) s.isrs
@@ -202,7 +236,8 @@ module _ (codes : List (List Stmt)) (first : ℕ) (levels : List ℕ) (reached :
             let f = slice_index_or s.isrs i d in
             (here.0, f, here.1, here.2, own f (k.isrs i d l)))
 
-    by_held : (held : Bool) → IsTrue held ↔ Holds s (By.Isr isr) → (done : Bool) → is_done (at view.isrs isr.0) ≡ done → not held ≡ done
+    by_held : (held : Bool) → IsTrue held ↔ Holds s (By.Isr isr) → (done : Bool) → is_done (at view.isrs isr.0) ≡ done
+        → not held ≡ done
     by_held true same true is = absurd (not_held is (same.0 refl))
     by_held true same false is = refl
     by_held false same true is = refl
@@ -221,7 +256,8 @@ module _ (codes : List (List Stmt)) (first : ℕ) (levels : List ℕ) (reached :
       pub new_level : All (λ (f : StackFrame). f.level ≢ level_of codes levels isr.0) s.isrs
       new_level = λ i d l e.
           let f = slice_index_or s.isrs i d in
-          distinct_levels levels (routine_number f.owner) isr.0 k.distinct (number_within codes levels f (k.isrs i d l)) exists
+          distinct_levels levels (routine_number f.owner) isr.0 k.distinct
+          (number_within codes levels f (k.isrs i d l)) exists
           (not_among codes levels s.isrs isr.0 k.isrs k.by_level finished i d l)
           (sym (level_is codes levels f (k.isrs i d l)) ∙ e)
 
@@ -235,18 +271,26 @@ module _ (codes : List (List Stmt)) (first : ℕ) (levels : List ℕ) (reached :
           distinct = k.distinct;
           tasks = k.tasks;
           isrs = All-by_level (IsOfRoutine codes levels) new_isr s.isrs
-              (record { on = record { sound = sound; some = some }; isr = isr; owner = refl; exists = exists; level = refl }) k.isrs;
+              (record {
+                on = record { sound = sound; some = some };
+                isr = isr;
+                owner = refl;
+                exists = exists;
+                level = refl;
+              }) k.isrs;
           by_level = order-by_level new_isr s.isrs new_level k.by_level;
           as_many = k.as_many;
           ascend = k.ascend;
           in_count = k.in_count;
         }
 
-        pub isr_begun : stacked codes first levels (with_isr_frame new_isr s) entries reached ≡ with_isr isr.0 (left_of codes frame) view
+        pub isr_begun : stacked codes first levels (with_isr_frame new_isr s) entries reached
+            ≡ with_isr isr.0 (left_of codes frame) view
         unfolding with_isrs
         isr_begun =
             ap with_isrs (isrs_insert codes levels (replicate (length levels) []) new_isr s.isrs
-            (finished_not_in (length levels) (routine_lefts codes s.isrs) isr.0 (routines_given codes levels s.isrs k.isrs k.by_level) finished))
+            (finished_not_in (length levels) (routine_lefts codes s.isrs) isr.0
+            (routines_given codes levels s.isrs k.isrs k.by_level) finished))
 
   -- ---- whether nothing is left of an activation
 
@@ -274,9 +318,11 @@ module _ (codes : List (List Stmt)) (first : ℕ) (levels : List ℕ) (reached :
         let n = slice_index_or entries i d in
         list_any-from_Any (λ (entry : ℕ). nat_eq entry n) entries (here.0, n, here.1, here.2, eq-eqb n n refl))))
 
-    by_found : (done : Bool) → is_done (at (lefts_of reached given) place) ≡ done → not (list_any is_place entries) ≡ done
+    by_found : (done : Bool) → is_done (at (lefts_of reached given) place) ≡ done → not (list_any is_place entries)
+        ≡ done
     by_found true is = ap not (not_found is)
     by_found false is = ap not (is_found is)
 
     pub found_is : not (list_any is_place entries) ≡ is_done (job_at view.jobs place).left
-    found_is = by_found (is_done (at (lefts_of reached given) place)) refl ∙ sym (ap is_done (job_left 0 (lefts_of reached given) place))
+    found_is = by_found (is_done (at (lefts_of reached given) place)) refl
+        ∙ sym (ap is_done (job_left 0 (lefts_of reached given) place))

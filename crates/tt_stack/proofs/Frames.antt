@@ -40,7 +40,8 @@ module _ (codes : List (List Stmt)) where
         (λ i j d before within e. let less = ascend i j d before within in omega (arith, less, e));
   }
 
-  pub tasks_push : (reached : ℕ) (before : List ℕ) (e : ℕ) (front : List StackFrame) (f : StackFrame) → length before ≡ length front
+  pub tasks_push : (reached : ℕ) (before : List ℕ) (e : ℕ) (front : List StackFrame) (f : StackFrame) → length before
+      ≡ length front
       → lefts_of reached (task_lefts codes (before ++ e ∷ []) (front ++ f ∷ []))
       ≡ slice_set (lefts_of reached (task_lefts codes before front)) e (left_at f)
   tasks_push reached before e front f same =
@@ -56,21 +57,26 @@ module _ (codes : List (List Stmt)) where
       All-zip_first (λ (n : ℕ). n ≢ e) before (bodies_left codes front)
       (λ k d l same. let less = AllPairs-last (λ (a b : ℕ). a < b) before e ascend k d l in omega (arith, less, same))
 
-  pub task_top : (reached : ℕ) (before : List ℕ) (e : ℕ) (front : List StackFrame) (f : StackFrame) → length before ≡ length front
+  pub task_top : (reached : ℕ) (before : List ℕ) (e : ℕ) (front : List StackFrame) (f : StackFrame) → length before
+      ≡ length front
       → DoAscend (before ++ e ∷ []) → e < reached → left_at f ≢ []
-      → last_unfinished 0 (jobs_from 0 (lefts_of reached (task_lefts codes (before ++ e ∷ []) (front ++ f ∷ [])))) ≡ Some e
+      → last_unfinished 0 (jobs_from 0 (lefts_of reached (task_lefts codes (before ++ e ∷ []) (front ++ f ∷ []))))
+      ≡ Some e
   task_top reached before e front f same ascend below some =
       let given = task_lefts codes before front in
       let lefts = lefts_of reached given in
       let within : e < length lefts = subst (λ n. e < n) (sym (length-lefts_of reached given)) below in
       let now = slice_set lefts e (left_at f) in
-      let here : is_done (at now e) ≡ false = ap is_done (get_or-set_same lefts e (left_at f) [] within) ∙ not_done (left_at f) some in
+      let here : is_done (at now e) ≡ false =
+      ap is_done (get_or-set_same lefts e (left_at f) [] within) ∙ not_done (left_at f) some in
       let earlier : All (λ (one : Left). one.0 < e) given =
-      All-zip_first (λ (n : ℕ). n < e) before (bodies_left codes front) (AllPairs-last (λ (a b : ℕ). a < b) before e ascend) in
+      All-zip_first (λ (n : ℕ). n < e) before (bodies_left codes front)
+      (AllPairs-last (λ (a b : ℕ). a < b) before e ascend) in
       let after : (k : ℕ) → e < k → is_done (at now k) ≡ true =
       λ k later.
       ap is_done (get_or-set_other lefts e k (left_at f) [] (λ (s : k ≡ e). omega (arith, s)))
-      ∙ ⊎_elim (λ (s : at lefts k ≡ at (replicate reached []) k). ap is_done (s ∙ at_none reached k)) (λ (q : k < e). absurd (omega arith))
+      ∙ ⊎_elim (λ (s : at lefts k ≡ at (replicate reached []) k). ap is_done (s ∙ at_none reached k))
+      (λ (q : k < e). absurd (omega arith))
       (written_or (λ (n : ℕ). n < e) (replicate reached []) given k earlier) in
       let zero_more : 0 + e ≡ e = omega arith in
       ap (λ (l : List (List Stmt)). last_unfinished 0 (jobs_from 0 l)) (tasks_push reached before e front f same)
@@ -95,11 +101,15 @@ module _ (codes : List (List Stmt)) where
     pub number_within : (f : StackFrame) → IsOfRoutine codes levels f → routine_number f.owner < length levels
     number_within f r = subst (λ n. n < length levels) (sym (ap routine_number r.owner)) r.exists
 
-    pub routines_given : (fs : List StackFrame) → All (IsOfRoutine codes levels) fs → IsByLevel fs → AreGiven (length levels) (routine_lefts codes fs)
+    pub routines_given : (fs : List StackFrame) → All (IsOfRoutine codes levels) fs → IsByLevel fs
+        → AreGiven (length levels) (routine_lefts codes fs)
     routines_given fs all order = record {
-      below = All-map (λ (one : Left). one.0 < length levels) (routine_left codes) fs (λ k d l. number_within _ (all k d l));
-      some = All-map (λ (one : Left). is_done one.1 ≡ false) (routine_left codes) fs (λ k d l. not_done _ (all k d l).on.some);
-      distinct = AllPairs-map (routine_left codes) (λ (one other : Left). one.0 ≢ other.0) fs (λ i j d before within same.
+      below = All-map (λ (one : Left). one.0 < length levels) (routine_left codes) fs
+          (λ k d l. number_within _ (all k d l));
+      some = All-map (λ (one : Left). is_done one.1 ≡ false) (routine_left codes) fs
+          (λ k d l. not_done _ (all k d l).on.some);
+      distinct = AllPairs-map (routine_left codes) (λ (one other : Left). one.0 ≢ other.0) fs
+          (λ i j d before within same.
           let less = order i j d before within in
           let a = level_is (slice_index_or fs i d) (all i d (omega arith)) in
           let b = level_is (slice_index_or fs j d) (all j d within) in
@@ -113,13 +123,15 @@ module _ (codes : List (List Stmt)) where
         ap (λ (given : List Left). lefts_of (length levels) given) (map-push (routine_left codes) front f)
         ∙ written-push (replicate (length levels) []) (routine_lefts codes front) (routine_left codes f)
 
-    module _ (front : List StackFrame) (f : StackFrame) (all : All (IsOfRoutine codes levels) (front ++ f ∷ [])) (order : IsByLevel (front ++ f ∷ [])) where
+    module _ (front : List StackFrame) (f : StackFrame) (all : All (IsOfRoutine codes levels) (front ++ f ∷ []))
+        (order : IsByLevel (front ++ f ∷ [])) where
       last_routine : IsOfRoutine codes levels f
       last_routine = All-last (IsOfRoutine codes levels) front f all
 
       lower : All (λ (one : Left). level_of one.0 < level_of (routine_number f.owner)) (routine_lefts codes front)
       lower =
-          All-map (λ (one : Left). level_of one.0 < level_of (routine_number f.owner)) (routine_left codes) front (λ k d l.
+          All-map (λ (one : Left). level_of one.0 < level_of (routine_number f.owner)) (routine_left codes) front
+          (λ k d l.
           let less = AllPairs-last (λ (a b : StackFrame). a.level < b.level) front f order k d l in
           let a = level_is (slice_index_or front k d) (All-front (IsOfRoutine codes levels) front (f ∷ []) all k d l) in
           let b = level_is f last_routine in
@@ -127,10 +139,12 @@ module _ (codes : List (List Stmt)) where
 
       -- the routines before the last are others
       pub routines_apart : IsNotIn (routine_number f.owner) (routine_lefts codes front)
-      routines_apart = λ k d l same. let less = lower k d l in let alike = ap level_of same in omega (arith, less, alike)
+      routines_apart = λ k d l same. let less = lower k d l in let alike =
+          ap level_of same in omega (arith, less, alike)
 
       within : routine_number f.owner < length (isrs_of front)
-      within = subst (λ n. routine_number f.owner < n) (sym (length-lefts_of (length levels) (routine_lefts codes front))) (number_within f last_routine)
+      within = subst (λ n. routine_number f.owner < n)
+          (sym (length-lefts_of (length levels) (routine_lefts codes front))) (number_within f last_routine)
 
       pub isr_left : at (isrs_of (front ++ f ∷ [])) (routine_number f.owner) ≡ left_at f
       isr_left =
@@ -144,15 +158,18 @@ module _ (codes : List (List Stmt)) where
           let now = slice_set lefts n (left_at f) in
           let passes : ℕ → Bool = λ k. not (is_done (at now k)) in
           let here : passes n ≡ true =
-          ap (λ (l : List Stmt). not (is_done l)) (get_or-set_same lefts n (left_at f) [] within) ∙ ap not (not_done (left_at f) last_routine.on.some) in
+          ap (λ (l : List Stmt). not (is_done l)) (get_or-set_same lefts n (left_at f) [] within)
+          ∙ ap not (not_done (left_at f) last_routine.on.some) in
           let others : (k : ℕ) → passes k ≡ true → k ≢ n → level_of k < level_of n =
           λ k p apart. ⊎_elim
           (λ (s : at lefts k ≡ at (replicate (length levels) []) k).
           let done : passes k ≡ false =
-          ap (λ (l : List Stmt). not (is_done l)) (get_or-set_other lefts n k (left_at f) [] apart ∙ s ∙ at_none (length levels) k) in
+          ap (λ (l : List Stmt). not (is_done l))
+          (get_or-set_other lefts n k (left_at f) [] apart ∙ s ∙ at_none (length levels) k) in
           let f : true ≡ false = sym p ∙ done in absurd cc)
           (λ (q : level_of k < level_of n). q)
-          (written_or (λ (k : ℕ). level_of k < level_of n) (replicate (length levels) []) (routine_lefts codes front) k lower) in
+          (written_or (λ (k : ℕ). level_of k < level_of n) (replicate (length levels) [])
+          (routine_lefts codes front) k lower) in
           ap (λ (l : List (List Stmt)). highest levels (unfinished l)) (isrs_push front f)
           ∙ top_of levels passes n here others 0 (length now) (omega arith)
           (subst (λ m. n < 0 + m) (sym (length-set lefts n (left_at f))) (omega (arith, within)))
@@ -162,7 +179,8 @@ module _ (codes : List (List Stmt)) where
           gone (length levels) (routine_lefts codes front) (routine_number f.owner) (left_at f) routines_apart
           ∙ ap (λ (l : List (List Stmt)). slice_set l (routine_number f.owner) []) (sym (isrs_push front f))
 
-      pub isr_moved : (g : StackFrame) → g.owner ≡ f.owner → isrs_of (front ++ g ∷ []) ≡ slice_set (isrs_of (front ++ f ∷ [])) (routine_number f.owner) (left_at g)
+      pub isr_moved : (g : StackFrame) → g.owner ≡ f.owner → isrs_of (front ++ g ∷ [])
+          ≡ slice_set (isrs_of (front ++ f ∷ [])) (routine_number f.owner) (left_at g)
       isr_moved g owner =
           isrs_push front g
           ∙ ap (λ o. slice_set (isrs_of front) (routine_number o) (left_at g)) owner
@@ -172,11 +190,13 @@ module _ (codes : List (List Stmt)) where
     pub isr_none : highest levels (unfinished (isrs_of [])) ≡ None
     isr_none =
         none_of levels (λ (k : ℕ). not (is_done (at (replicate (length levels) []) k)))
-        (λ n. ap (λ (l : List Stmt). not (is_done l)) (at_none (length levels) n)) (range_with_len 0 (length (isrs_of [])))
+        (λ n. ap (λ (l : List Stmt). not (is_done l)) (at_none (length levels) n))
+        (range_with_len 0 (length (isrs_of [])))
 
     -- ---- a routine that begins
 
-    pub not_among : (fs : List StackFrame) (n : ℕ) → All (IsOfRoutine codes levels) fs → IsByLevel fs → is_done (at (isrs_of fs) n) ≡ true
+    pub not_among : (fs : List StackFrame) (n : ℕ) → All (IsOfRoutine codes levels) fs → IsByLevel fs
+        → is_done (at (isrs_of fs) n) ≡ true
         → All (λ (f : StackFrame). routine_number f.owner ≢ n) fs
     not_among fs n all order done =
         All-from_map (routine_left codes) (λ (one : Left). one.0 ≢ n) fs
@@ -189,12 +209,16 @@ module _ (codes : List (List Stmt)) where
         → written lefts (routine_lefts codes (cond b (f ∷ by_level new fs) (new ∷ f ∷ fs)))
         ≡ slice_set (written lefts (routine_lefts codes (f ∷ fs))) (routine_number new.owner) (left_at new)
     insert_step lefts new f fs true apart rest = rest
-    insert_step lefts new f fs false apart rest = written_comm lefts (routine_lefts codes (f ∷ fs)) (routine_number new.owner) (left_at new) apart
+    insert_step lefts new f fs false apart rest =
+        written_comm lefts (routine_lefts codes (f ∷ fs)) (routine_number new.owner) (left_at new) apart
 
-    pub isrs_insert : (lefts : List (List Stmt)) (new : StackFrame) (fs : List StackFrame) → IsNotIn (routine_number new.owner) (routine_lefts codes fs)
-        → written lefts (routine_lefts codes (by_level new fs)) ≡ slice_set (written lefts (routine_lefts codes fs)) (routine_number new.owner) (left_at new)
+    pub isrs_insert : (lefts : List (List Stmt)) (new : StackFrame) (fs : List StackFrame)
+        → IsNotIn (routine_number new.owner) (routine_lefts codes fs)
+        → written lefts (routine_lefts codes (by_level new fs))
+        ≡ slice_set (written lefts (routine_lefts codes fs)) (routine_number new.owner) (left_at new)
     isrs_insert lefts new [] apart = refl
     isrs_insert lefts new (f ∷ fs) apart =
         insert_step lefts new f fs (is_lower new.level f) apart
         (isrs_insert (slice_set lefts (routine_number f.owner) (left_at f)) new fs
-        (All-tail (λ (one : Left). one.0 ≢ routine_number new.owner) (routine_left codes f) (routine_lefts codes fs) apart))
+        (All-tail (λ (one : Left). one.0 ≢ routine_number new.owner) (routine_left codes f)
+        (routine_lefts codes fs) apart))

@@ -12,7 +12,8 @@ use Rattle.tt_stack.proofs.Written.{at, one_left}
 abbrev pub job : ℕ → List Stmt → Job
 job entry left = record { entry = entry; left = left }
 
-pub job_left : (from : ℕ) (lefts : List (List Stmt)) (place : ℕ) → (job_at (jobs_from from lefts) place).left ≡ at lefts place
+pub job_left : (from : ℕ) (lefts : List (List Stmt)) (place : ℕ) → (job_at (jobs_from from lefts) place).left
+    ≡ at lefts place
 job_left from [] place = refl
 job_left from (x ∷ xs) zero = refl
 job_left from (x ∷ xs) (suc place) = job_left (from + 1) xs place
@@ -32,7 +33,8 @@ pub jobs_push : (from : ℕ) (lefts : List (List Stmt)) (left : List Stmt)
 jobs_push from [] left = let same : from ≡ from + 0 = omega arith in ap (λ n. job n left ∷ []) same
 jobs_push from (x ∷ xs) left =
     let same : from + 1 + length xs ≡ from + length (x ∷ xs) = omega arith in
-    ap (λ (js : List Job). job from x ∷ js) (jobs_push (from + 1) xs left ∙ ap (λ n. jobs_from (from + 1) xs ++ job n left ∷ []) same)
+    ap (λ (js : List Job). job from x ∷ js)
+    (jobs_push (from + 1) xs left ∙ ap (λ n. jobs_from (from + 1) xs ++ job n left ∷ []) same)
 
 pub count_jobs : (from : ℕ) (lefts : List (List Stmt)) → count_unfinished (jobs_from from lefts) ≡ count_left lefts
 count_jobs from [] = refl
@@ -43,7 +45,8 @@ count_jobs from (x ∷ xs) =
 
 -- ---- the last that has statements left
 
-pub none_last : (place from : ℕ) (lefts : List (List Stmt)) → ((n : ℕ) → is_done (at lefts n) ≡ true) → last_unfinished place (jobs_from from lefts) ≡ None
+pub none_last : (place from : ℕ) (lefts : List (List Stmt)) → ((n : ℕ) → is_done (at lefts n) ≡ true)
+    → last_unfinished place (jobs_from from lefts) ≡ None
 unfolding last_unfinished
 none_last place from [] done = refl
 none_last place from (x ∷ xs) done =
@@ -55,7 +58,8 @@ pub last_is : (place from : ℕ) (lefts : List (List Stmt)) (n : ℕ) → n < le
 unfolding last_unfinished
 last_is place from [] n within some after = absurd (omega arith)
 last_is place from (x ∷ xs) zero within some after =
-    ap (λ o. or_else o (cond (is_done x) None (Some place))) (none_last (place + 1) (from + 1) xs (λ n. after (suc n) (omega arith)))
+    ap (λ o. or_else o (cond (is_done x) None (Some place)))
+    (none_last (place + 1) (from + 1) xs (λ n. after (suc n) (omega arith)))
     ∙ ap (λ b. cond b None (Some place)) some ∙ (let e : place ≡ place + 0 = omega arith in ap Some e)
 last_is place from (x ∷ xs) (suc n) within some after =
     let e : (place + 1) + n ≡ place + suc n = omega arith in

@@ -14,19 +14,23 @@ module _ {A B : Type 0} where
   All-zip_first P [] ys all = All-nil (λ (p : A × B). P p.0)
   All-zip_first P (x ∷ xs) [] all = All-nil (λ (p : A × B). P p.0)
   All-zip_first P (x ∷ xs) (y ∷ ys) all =
-      All-cons (λ (p : A × B). P p.0) (x, y) (zip xs ys) (All-head P x xs all) (All-zip_first P xs ys (All-tail P x xs all))
+      All-cons (λ (p : A × B). P p.0) (x, y) (zip xs ys) (All-head P x xs all)
+      (All-zip_first P xs ys (All-tail P x xs all))
 
   pub All-zip_second : (P : B → Type 0) (xs : List A) (ys : List B) → All P ys → All (λ (p : A × B). P p.1) (zip xs ys)
   All-zip_second P [] ys all = All-nil (λ (p : A × B). P p.1)
   All-zip_second P (x ∷ xs) [] all = All-nil (λ (p : A × B). P p.1)
   All-zip_second P (x ∷ xs) (y ∷ ys) all =
-      All-cons (λ (p : A × B). P p.1) (x, y) (zip xs ys) (All-head P y ys all) (All-zip_second P xs ys (All-tail P y ys all))
+      All-cons (λ (p : A × B). P p.1) (x, y) (zip xs ys) (All-head P y ys all)
+      (All-zip_second P xs ys (All-tail P y ys all))
 
-  pub AllPairs-zip : (R : A → A → Type 0) (xs : List A) (ys : List B) → AllPairs R xs → AllPairs (λ (p q : A × B). R p.0 q.0) (zip xs ys)
+  pub AllPairs-zip : (R : A → A → Type 0) (xs : List A) (ys : List B) → AllPairs R xs
+      → AllPairs (λ (p q : A × B). R p.0 q.0) (zip xs ys)
   AllPairs-zip R [] ys pairs = AllPairs-nil (λ (p q : A × B). R p.0 q.0)
   AllPairs-zip R (x ∷ xs) [] pairs = AllPairs-nil (λ (p q : A × B). R p.0 q.0)
   AllPairs-zip R (x ∷ xs) (y ∷ ys) pairs =
-      AllPairs-cons (λ (p q : A × B). R p.0 q.0) (x, y) (zip xs ys) (All-zip_first (R x) xs ys (AllPairs-first R x xs pairs))
+      AllPairs-cons (λ (p q : A × B). R p.0 q.0) (x, y) (zip xs ys)
+      (All-zip_first (R x) xs ys (AllPairs-first R x xs pairs))
       (AllPairs-zip R xs ys (AllPairs-rest R x xs pairs))
 
   pub length-zip : (xs : List A) (ys : List B) → length xs ≡ length ys → length (zip xs ys) ≡ length ys
@@ -35,13 +39,15 @@ module _ {A B : Type 0} where
   length-zip (x ∷ xs) [] same = absurd (omega arith)
   length-zip (x ∷ xs) (y ∷ ys) same = let rest = length-zip xs ys (omega arith) in omega (arith, rest)
 
-  pub zip-push : (xs : List A) (x : A) (ys : List B) (y : B) → length xs ≡ length ys → zip (xs ++ x ∷ []) (ys ++ y ∷ []) ≡ zip xs ys ++ (x, y) ∷ []
+  pub zip-push : (xs : List A) (x : A) (ys : List B) (y : B) → length xs ≡ length ys
+      → zip (xs ++ x ∷ []) (ys ++ y ∷ []) ≡ zip xs ys ++ (x, y) ∷ []
   zip-push [] x [] y same = refl
   zip-push [] x (z ∷ ys) y same = absurd (omega arith)
   zip-push (z ∷ xs) x [] y same = absurd (omega arith)
   zip-push (z ∷ xs) x (w ∷ ys) y same = ap (λ (l : List (A × B)). (z, w) ∷ l) (zip-push xs x ys y (omega arith))
 
-  pub AllPairs-map : (f : A → B) (R : B → B → Type 0) (xs : List A) → AllPairs (λ (x y : A). R (f x) (f y)) xs → AllPairs R (map f xs)
+  pub AllPairs-map : (f : A → B) (R : B → B → Type 0) (xs : List A) → AllPairs (λ (x y : A). R (f x) (f y)) xs
+      → AllPairs R (map f xs)
   AllPairs-map f R [] pairs = AllPairs-nil R
   AllPairs-map f R (x ∷ xs) pairs =
       AllPairs-cons R (f x) (map f xs) (All-map (R (f x)) f xs (AllPairs-first (λ (x y : A). R (f x) (f y)) x xs pairs))
@@ -54,9 +60,11 @@ module _ {A B : Type 0} where
   pub All-from_map : (f : A → B) (P : B → Type 0) (xs : List A) → All P (map f xs) → All (λ (x : A). P (f x)) xs
   All-from_map f P [] all = All-nil (λ (x : A). P (f x))
   All-from_map f P (x ∷ xs) all =
-      All-cons (λ (x : A). P (f x)) x xs (All-head P (f x) (map f xs) all) (All-from_map f P xs (All-tail P (f x) (map f xs) all))
+      All-cons (λ (x : A). P (f x)) x xs (All-head P (f x) (map f xs) all)
+      (All-from_map f P xs (All-tail P (f x) (map f xs) all))
 
-  pub All-from_zip : (P : A → Type 0) (xs : List A) (ys : List B) → length xs ≡ length ys → All (λ (p : A × B). P p.0) (zip xs ys) → All P xs
+  pub All-from_zip : (P : A → Type 0) (xs : List A) (ys : List B) → length xs ≡ length ys
+      → All (λ (p : A × B). P p.0) (zip xs ys) → All P xs
   All-from_zip P [] ys same all = All-nil P
   All-from_zip P (x ∷ xs) [] same all = absurd (omega arith)
   All-from_zip P (x ∷ xs) (y ∷ ys) same all =

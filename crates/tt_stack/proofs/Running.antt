@@ -30,9 +30,11 @@ pub data Shape : Frames → List ℕ → Type 0 where
   Empty : Shape (frames_of [] []) []
   Task_on_top : (front : List StackFrame) (f : StackFrame) (before : List ℕ) (e : ℕ) → length before ≡ length front
       → Shape (frames_of (front ++ f ∷ []) []) (before ++ e ∷ [])
-  Isr_on_top : (tasks front : List StackFrame) (f : StackFrame) (entries : List ℕ) → Shape (frames_of tasks (front ++ f ∷ [])) entries
+  Isr_on_top : (tasks front : List StackFrame) (f : StackFrame) (entries : List ℕ)
+      → Shape (frames_of tasks (front ++ f ∷ [])) entries
 
-shape_of : (tasks isrs : List StackFrame) (entries : List ℕ) → length entries ≡ length tasks → Shape (frames_of tasks isrs) entries
+shape_of : (tasks isrs : List StackFrame) (entries : List ℕ) → length entries ≡ length tasks
+    → Shape (frames_of tasks isrs) entries
 shape_of tasks (x ∷ xs) entries same =
     let (front, f, is) = ends x xs in
     subst (λ isrs. Shape (frames_of tasks isrs) entries) (sym is) (Isr_on_top tasks front f entries)
@@ -45,7 +47,8 @@ shape_of (x ∷ xs) [] (n ∷ ns) same =
     let a : length (x ∷ xs) ≡ length front + 1 = ap length is ∙ length-append front (f ∷ []) in
     let b : length (n ∷ ns) ≡ length before + 1 = ap length so ∙ length-append before (e ∷ []) in
     subst (λ tasks. Shape (frames_of tasks []) (n ∷ ns)) (sym is)
-    (subst (λ entries. Shape (frames_of (front ++ f ∷ []) []) entries) (sym so) (Task_on_top front f before e (omega (arith, same, a, b))))
+    (subst (λ entries. Shape (frames_of (front ++ f ∷ []) []) entries) (sym so)
+    (Task_on_top front f before e (omega (arith, same, a, b))))
 
 pub shape : (s : Frames) (entries : List ℕ) → length entries ≡ length s.tasks → Shape s entries
 shape s entries same = shape_of s.tasks s.isrs entries same
@@ -90,32 +93,43 @@ module _ (codes : List (List Stmt)) (first : ℕ) (levels : List ℕ) (reached :
     pub left : left_of codes top.frame ≡ left_in (view s entries) who
     pub deep : 0 < depth_of s
     pub moved_kept : (frame : Frame) → IsSound codes frame → left_of codes frame ≢ [] → Kept (with_top frame s) entries
-    pub moved : (frame : Frame) → view (with_top frame s) entries ≡ leaving_in (view s entries) who (left_of codes frame)
+    pub moved : (frame : Frame) → view (with_top frame s) entries
+        ≡ leaving_in (view s entries) who (left_of codes frame)
     pub ended_kept : Kept (popped s) (entries_after top.owner entries)
     pub ended : view (popped s) (entries_after top.owner entries) ≡ leaving_in (view s entries) who []
 
   -- ---- a routine runs
 
-  module _ (tasks front : List StackFrame) (f : StackFrame) (entries : List ℕ) (k : Kept (frames_of tasks (front ++ f ∷ [])) entries) where
+  module _ (tasks front : List StackFrame) (f : StackFrame) (entries : List ℕ)
+      (k : Kept (frames_of tasks (front ++ f ∷ [])) entries) where
     the_routine : IsOfRoutine codes levels f
     the_routine = All-last (IsOfRoutine codes levels) front f k.isrs
 
     with_isrs : List (List Stmt) → Stacked
     with_isrs isrs = record { codes = codes; first = first; levels = levels; jobs = jobs_of tasks entries; isrs = isrs }
 
-    isr_moved_is : (frame : Frame) → with_top frame (frames_of tasks (front ++ f ∷ [])) ≡ frames_of tasks (front ++ standing_at frame f ∷ [])
+    isr_moved_is : (frame : Frame) → with_top frame (frames_of tasks (front ++ f ∷ []))
+        ≡ frames_of tasks (front ++ standing_at frame f ∷ [])
     isr_moved_is frame = top_some front f _ _ ∙ ap (frames_of tasks) (with_last_is frame front f)
 
     isr_popped_is : popped (frames_of tasks (front ++ f ∷ [])) ≡ frames_of tasks front
     isr_popped_is = top_some front f _ _ ∙ ap (frames_of tasks) (without_last_is front f)
 
-    moved_isr_kept : (frame : Frame) → IsSound codes frame → left_of codes frame ≢ [] → Kept (frames_of tasks (front ++ standing_at frame f ∷ [])) entries
+    moved_isr_kept : (frame : Frame) → IsSound codes frame → left_of codes frame ≢ []
+        → Kept (frames_of tasks (front ++ standing_at frame f ∷ [])) entries
     moved_isr_kept frame sound some = record {
       enough = k.enough;
       distinct = k.distinct;
       tasks = k.tasks;
-      isrs = All-push (IsOfRoutine codes levels) front (standing_at frame f) (All-front (IsOfRoutine codes levels) front (f ∷ []) k.isrs)
-          (record { on = record { sound = sound; some = some }; isr = the_routine.isr; owner = the_routine.owner; exists = the_routine.exists; level = the_routine.level });
+      isrs = All-push (IsOfRoutine codes levels) front (standing_at frame f)
+          (All-front (IsOfRoutine codes levels) front (f ∷ []) k.isrs)
+          (record {
+            on = record { sound = sound; some = some };
+            isr = the_routine.isr;
+            owner = the_routine.owner;
+            exists = the_routine.exists;
+            level = the_routine.level;
+          });
       by_level = all_pairs_push (λ (a b : StackFrame). a.level < b.level) front (standing_at frame f)
           (AllPairs-front (λ (a b : StackFrame). a.level < b.level) front (f ∷ []) k.by_level)
           (AllPairs-last (λ (a b : StackFrame). a.level < b.level) front f k.by_level);
@@ -140,7 +154,8 @@ module _ (codes : List (List Stmt)) (first : ℕ) (levels : List ℕ) (reached :
     unfolding with_isrs
     running_isr = record {
       who = runner.Isr (record { 0 = routine_number f.owner });
-      is = ap (λ o. first_of (option_map (λ (n : ℕ). runner.Isr (record { 0 = n })) o) (task_runner (view (frames_of tasks (front ++ f ∷ [])) entries)))
+      is = ap (λ o. first_of (option_map (λ (n : ℕ). runner.Isr (record { 0 = n })) o)
+          (task_runner (view (frames_of tasks (front ++ f ∷ [])) entries)))
           (isr_top codes levels front f k.isrs k.by_level);
       code = ap (λ o. runner_for o (slice_get entries (length entries - 1))) the_routine.owner
           ∙ ap (λ o. Some (runner.Isr (record { 0 = routine_number o }))) (sym the_routine.owner);
@@ -148,7 +163,8 @@ module _ (codes : List (List Stmt)) (first : ℕ) (levels : List ℕ) (reached :
       some = the_routine.on.some;
       left = sym (isr_left codes levels front f k.isrs k.by_level);
       deep = omega (arith, length-append front (f ∷ []));
-      moved_kept = λ frame sound some. subst (λ s. Kept s entries) (sym (isr_moved_is frame)) (moved_isr_kept frame sound some);
+      moved_kept =
+          λ frame sound some. subst (λ s. Kept s entries) (sym (isr_moved_is frame)) (moved_isr_kept frame sound some);
       moved = λ frame. ap (λ s. view s entries) (isr_moved_is frame)
           ∙ ap with_isrs (isr_moved codes levels front f k.isrs k.by_level (standing_at frame f) refl);
       ended_kept = subst (λ s. Kept s (entries_after f.owner entries)) (sym isr_popped_is)
@@ -169,7 +185,8 @@ module _ (codes : List (List Stmt)) (first : ℕ) (levels : List ℕ) (reached :
     below = All-last (λ (n : ℕ). n < reached) before e k.in_count
 
     with_jobs : List Job → Stacked
-    with_jobs jobs = record { codes = codes; first = first; levels = levels; jobs = jobs; isrs = isrs_of codes levels [] }
+    with_jobs jobs =
+        record { codes = codes; first = first; levels = levels; jobs = jobs; isrs = isrs_of codes levels [] }
 
     lefts_before : List (List Stmt)
     lefts_before = lefts_of reached (task_lefts codes before front)
@@ -177,28 +194,35 @@ module _ (codes : List (List Stmt)) (first : ℕ) (levels : List ℕ) (reached :
     apart : IsNotIn e (task_lefts codes before front)
     apart = entries_apart codes before e front k.ascend
 
-    push_is : (g : StackFrame) → jobs_of (front ++ g ∷ []) (before ++ e ∷ []) ≡ jobs_from 0 (slice_set lefts_before e (left_of codes g.frame))
+    push_is : (g : StackFrame) → jobs_of (front ++ g ∷ []) (before ++ e ∷ [])
+        ≡ jobs_from 0 (slice_set lefts_before e (left_of codes g.frame))
     unfolding lefts_before
     push_is g = ap (λ (l : List (List Stmt)). jobs_from 0 l) (tasks_push codes reached before e front g same)
 
     -- what was left is written over
     over : (left : List Stmt) → jobs_from 0 (slice_set (slice_set lefts_before e (left_of codes f.frame)) e left)
         ≡ with_left (jobs_of (front ++ f ∷ []) (before ++ e ∷ [])) e left
-    over left = jobs_set 0 (slice_set lefts_before e (left_of codes f.frame)) e left ∙ ap (λ (js : List Job). with_left js e left) (sym (push_is f))
+    over left =
+        jobs_set 0 (slice_set lefts_before e (left_of codes f.frame)) e left
+        ∙ ap (λ (js : List Job). with_left js e left) (sym (push_is f))
 
-    moved_jobs : (g : StackFrame) → jobs_of (front ++ g ∷ []) (before ++ e ∷ []) ≡ with_left (jobs_of (front ++ f ∷ []) (before ++ e ∷ [])) e (left_of codes g.frame)
+    moved_jobs : (g : StackFrame) → jobs_of (front ++ g ∷ []) (before ++ e ∷ [])
+        ≡ with_left (jobs_of (front ++ f ∷ []) (before ++ e ∷ [])) e (left_of codes g.frame)
     moved_jobs g =
         push_is g
-        ∙ ap (λ (l : List (List Stmt)). jobs_from 0 l) (sym (set-set lefts_before e (left_of codes f.frame) (left_of codes g.frame)))
+        ∙ ap (λ (l : List (List Stmt)). jobs_from 0 l)
+        (sym (set-set lefts_before e (left_of codes f.frame) (left_of codes g.frame)))
         ∙ over (left_of codes g.frame)
 
     ended_jobs : jobs_of front before ≡ with_left (jobs_of (front ++ f ∷ []) (before ++ e ∷ [])) e []
     unfolding lefts_before
     ended_jobs =
-        ap (λ (l : List (List Stmt)). jobs_from 0 l) (gone reached (task_lefts codes before front) e (left_of codes f.frame) apart)
+        ap (λ (l : List (List Stmt)). jobs_from 0 l)
+        (gone reached (task_lefts codes before front) e (left_of codes f.frame) apart)
         ∙ over []
 
-    moved_task_kept : (frame : Frame) → IsSound codes frame → left_of codes frame ≢ [] → Kept (frames_of (front ++ standing_at frame f ∷ []) []) (before ++ e ∷ [])
+    moved_task_kept : (frame : Frame) → IsSound codes frame → left_of codes frame ≢ []
+        → Kept (frames_of (front ++ standing_at frame f ∷ []) []) (before ++ e ∷ [])
     moved_task_kept frame sound some = record {
       enough = k.enough;
       distinct = k.distinct;
@@ -230,9 +254,11 @@ module _ (codes : List (List Stmt)) (first : ℕ) (levels : List ℕ) (reached :
     unfolding with_jobs
     running_task = record {
       who = runner.Job e;
-      is = ap (λ o. first_of (option_map (λ (n : ℕ). runner.Isr (record { 0 = n })) o) (task_runner (view (frames_of (front ++ f ∷ []) []) (before ++ e ∷ []))))
+      is = ap (λ o. first_of (option_map (λ (n : ℕ). runner.Isr (record { 0 = n })) o)
+          (task_runner (view (frames_of (front ++ f ∷ []) []) (before ++ e ∷ []))))
           (isr_none codes levels)
-          ∙ ap (option_map (λ (n : ℕ). runner.Job n)) (task_top codes reached before e front f same k.ascend below the_task.on.some);
+          ∙ ap (option_map (λ (n : ℕ). runner.Job n))
+          (task_top codes reached before e front f same k.ascend below the_task.on.some);
       code = ap (λ o. runner_for o (slice_get (before ++ e ∷ []) (length (before ++ e ∷ []) - 1))) the_task.owner
           ∙ ap (option_map (λ (n : ℕ). runner.Job n)) (last_entry before e);
       sound = the_task.on.sound;
@@ -242,13 +268,19 @@ module _ (codes : List (List Stmt)) (first : ℕ) (levels : List ℕ) (reached :
           ∙ get_or-set_same (lefts_of reached (task_lefts codes before front)) e (left_of codes f.frame) []
           (subst (λ n. e < n) (sym (length-lefts_of reached (task_lefts codes before front))) below));
       deep = omega (arith, length-append front (f ∷ []));
-      moved_kept = λ frame sound some. subst (λ (ts : List StackFrame). Kept (frames_of ts []) (before ++ e ∷ [])) (sym (with_last_is frame front f))
+      moved_kept =
+          λ frame sound some. subst (λ (ts : List StackFrame). Kept (frames_of ts []) (before ++ e ∷ []))
+          (sym (with_last_is frame front f))
           (moved_task_kept frame sound some);
-      moved = λ frame. ap (λ (ts : List StackFrame). view (frames_of ts []) (before ++ e ∷ [])) (with_last_is frame front f)
+      moved = λ frame. ap (λ (ts : List StackFrame). view (frames_of ts []) (before ++ e ∷ []))
+          (with_last_is frame front f)
           ∙ ap with_jobs (moved_jobs (standing_at frame f));
-      ended_kept = subst (λ (ts : List StackFrame). Kept (frames_of ts []) (entries_after f.owner (before ++ e ∷ []))) (sym (without_last_is front f))
+      ended_kept =
+          subst (λ (ts : List StackFrame). Kept (frames_of ts []) (entries_after f.owner (before ++ e ∷ [])))
+          (sym (without_last_is front f))
           (subst (λ (es : List ℕ). Kept (frames_of front []) es) (sym entries_are) popped_task_kept);
-      ended = ap (λ (ts : List StackFrame). view (frames_of ts []) (entries_after f.owner (before ++ e ∷ []))) (without_last_is front f)
+      ended = ap (λ (ts : List StackFrame). view (frames_of ts []) (entries_after f.owner (before ++ e ∷ [])))
+          (without_last_is front f)
           ∙ ap (λ (es : List ℕ). view (frames_of front []) es) entries_are
           ∙ ap with_jobs ended_jobs;
     }
@@ -257,25 +289,31 @@ module _ (codes : List (List Stmt)) (first : ℕ) (levels : List ℕ) (reached :
 
   none_runs : runner_in (view (frames_of [] []) []) ≡ None
   none_runs =
-      ap (λ o. first_of (option_map (λ (n : ℕ). runner.Isr (record { 0 = n })) o) (task_runner (view (frames_of [] []) []))) (isr_none codes levels)
+      ap (λ o. first_of (option_map (λ (n : ℕ). runner.Isr (record { 0 = n })) o)
+      (task_runner (view (frames_of [] []) []))) (isr_none codes levels)
       ∙ ap (option_map (λ (n : ℕ). runner.Job n)) (task_none codes reached)
 
-  seen_is : (s : Frames) (entries : List ℕ) (f : StackFrame) (top : Top) → top_of s ≡ Some f → option_map seen (top_of s) ≡ Some top
+  seen_is : (s : Frames) (entries : List ℕ) (f : StackFrame) (top : Top) → top_of s ≡ Some f
+      → option_map seen (top_of s) ≡ Some top
       → Running s entries (seen f) → Running s entries top
   seen_is s entries f top is so r = let same : seen f ≡ top = cc in subst (Running s entries) same r
 
-  pub running_at : (s : Frames) (entries : List ℕ) → Shape s entries → Kept s entries → (top : Top) → option_map seen (top_of s) ≡ Some top
+  pub running_at : (s : Frames) (entries : List ℕ) → Shape s entries → Kept s entries → (top : Top)
+      → option_map seen (top_of s) ≡ Some top
       → Running s entries top
   running_at _ _ Empty k top is = absurd cc
   running_at _ _ (Task_on_top front f before e same) k top is =
-      seen_is (frames_of (front ++ f ∷ []) []) (before ++ e ∷ []) f top (last_is front f) is (running_task front f before e same k)
+      seen_is (frames_of (front ++ f ∷ []) []) (before ++ e ∷ []) f top (last_is front f) is
+      (running_task front f before e same k)
   running_at _ _ (Isr_on_top tasks front f entries) k top is =
-      seen_is (frames_of tasks (front ++ f ∷ [])) entries f top (top_some front f _ _ ∙ last_is front f) is (running_isr tasks front f entries k)
+      seen_is (frames_of tasks (front ++ f ∷ [])) entries f top (top_some front f _ _ ∙ last_is front f) is
+      (running_isr tasks front f entries k)
 
   some_top : (s : Frames) (f : StackFrame) → top_of s ≡ Some f → option_map seen (top_of s) ≡ None → ⊥
   some_top s f is none = cc
 
-  pub none_at : (s : Frames) (entries : List ℕ) → Shape s entries → option_map seen (top_of s) ≡ None → runner_in (view s entries) ≡ None
+  pub none_at : (s : Frames) (entries : List ℕ) → Shape s entries → option_map seen (top_of s) ≡ None
+      → runner_in (view s entries) ≡ None
   none_at _ _ Empty is = none_runs
   none_at _ _ (Task_on_top front f before e same) is =
       absurd (some_top (frames_of (front ++ f ∷ []) []) f (last_is front f) is)
@@ -286,7 +324,8 @@ module _ (codes : List (List Stmt)) (first : ℕ) (levels : List ℕ) (reached :
   no_runner None is some = cc
   no_runner (Some r) is some = cc
 
-  pub running_now : (s : Frames) (entries : List ℕ) → Shape s entries → Kept s entries → IsSome (runner_in (view s entries)) → (top : Top) × Running s entries top
+  pub running_now : (s : Frames) (entries : List ℕ) → Shape s entries → Kept s entries
+      → IsSome (runner_in (view s entries)) → (top : Top) × Running s entries top
   running_now _ _ Empty k runs = absurd (no_runner _ none_runs runs)
   running_now _ _ (Task_on_top front f before e same) k runs = (seen f, running_task front f before e same k)
   running_now _ _ (Isr_on_top tasks front f entries) k runs = (seen f, running_isr tasks front f entries k)

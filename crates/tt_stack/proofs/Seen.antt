@@ -14,17 +14,21 @@ use Rattle.tt_world.specs.Runners.{no_job}
 use Rattle.tt_world.proofs.JobLists.{at_set}
 use Rattle.tt_stack.specs.Stacked.{Stacked, leaving_in, left_in, runner_in, running}
 use Rattle.tt_stack.specs.Kept.{AreKept, entries_after, stacked}
+use Rattle.tt_stack.specs.declared.state.TtStack.TheInside.{Inside}
 use Rattle.tt_stack.proofs.Running.{Running, none_at, running_at, running_now, shape}
 
 -- ---- what is left of a runner, once it was changed
 
-there : {X : Type 0} (left : X → List Stmt) (d : X) → left d ≡ [] → (xs : List X) (n : ℕ) → left (slice_index_or xs n d) ≢ [] → n < length xs
+there : {X : Type 0} (left : X → List Stmt) (d : X) → left d ≡ [] → (xs : List X) (n : ℕ)
+    → left (slice_index_or xs n d) ≢ [] → n < length xs
 there left d none [] n some = absurd (some none)
 there left d none (x ∷ xs) zero some = omega arith
 there left d none (x ∷ xs) (suc n) some = let within = there left d none xs n some in omega (arith, within)
 
-pub left_then : (s : Stacked) (who : Runner) (left : List Stmt) → left_in s who ≢ [] → left_in (leaving_in s who left) who ≡ left
-left_then s (runner.Isr isr) left some = get_or-set_same s.isrs isr.0 left [] (there (λ (l : List Stmt). l) [] refl s.isrs isr.0 some)
+pub left_then : (s : Stacked) (who : Runner) (left : List Stmt) → left_in s who ≢ []
+    → left_in (leaving_in s who left) who ≡ left
+left_then s (runner.Isr isr) left some =
+    get_or-set_same s.isrs isr.0 left [] (there (λ (l : List Stmt). l) [] refl s.isrs isr.0 some)
 left_then s (runner.Job place) left some =
     ap (λ (j : Job). j.left) (at_set s.jobs place left (there (λ (j : Job). j.left) no_job refl s.jobs place some))
 left_then s (runner.Oisr oisr) left some = absurd (some refl)
@@ -42,8 +46,29 @@ none_is (Some r) is some = cc
 pub none_none : (s : Stacked) → IsSome (runner_in s) → runner_in s ≡ None → ⊥
 none_none s some none = none_is (runner_in s) none some
 
-module _ (codes : List (List Stmt)) (first : ℕ) (levels : List ℕ) (reached : ℕ) (s : Frames) (entries : List ℕ)
-    (k : AreKept codes first levels s entries reached) (now : Stacked) (is : stacked codes first levels s entries reached ≡ now) where
+module _ (inside : Inside)
+    (k : AreKept inside.codes inside.first inside.levels.items inside.stack inside.entries.items inside.reached)
+    (now : Stacked)
+    (is : stacked inside.codes inside.first inside.levels.items inside.stack inside.entries.items inside.reached
+    ≡ now) where
+  abbrev codes : List (List Stmt)
+  codes = inside.codes
+
+  abbrev first : ℕ
+  first = inside.first
+
+  abbrev levels : List ℕ
+  levels = inside.levels.items
+
+  abbrev reached : ℕ
+  reached = inside.reached
+
+  abbrev s : Frames
+  s = inside.stack
+
+  abbrev entries : List ℕ
+  entries = inside.entries.items
+
   abbrev Run : Top → Type 0
   Run top = Running codes first levels reached s entries top
 
@@ -57,7 +82,9 @@ module _ (codes : List (List Stmt)) (first : ℕ) (levels : List ℕ) (reached :
   none_then so = ap runner_in (sym is) ∙ none_at codes first levels reached s entries (shape s entries k.as_many) so
 
   pub run_now : IsSome (runner_in now) → (top : Top) × Run top
-  run_now runs = running_now codes first levels reached s entries (shape s entries k.as_many) k (subst (λ v. IsSome (runner_in v)) (sym is) runs)
+  run_now runs =
+      running_now codes first levels reached s entries (shape s entries k.as_many) k
+      (subst (λ v. IsSome (runner_in v)) (sym is) runs)
 
   module _ (top : Top) (r : Run top) where
     pub runner_is : runner_in now ≡ Some r.who
@@ -80,13 +107,17 @@ module _ (codes : List (List Stmt)) (first : ℕ) (levels : List ℕ) (reached :
     pub some_now : left_of now.codes top.frame ≢ []
     some_now = subst (λ c. left_of c top.frame ≢ []) codes_are r.some
 
-    leaving_now : (left : List Stmt) → leaving_in (stacked codes first levels s entries reached) r.who left ≡ leaving_in now (running now) left
-    leaving_now left = ap (λ (v : Stacked). leaving_in v r.who left) is ∙ ap (λ (w : Runner). leaving_in now w left) (sym running_is)
+    leaving_now : (left : List Stmt) → leaving_in (stacked codes first levels s entries reached) r.who left
+        ≡ leaving_in now (running now) left
+    leaving_now left =
+        ap (λ (v : Stacked). leaving_in v r.who left) is ∙ ap (λ (w : Runner). leaving_in now w left) (sym running_is)
 
-    pub moved_now : (frame : Frame) → stacked codes first levels (with_top frame s) entries reached ≡ leaving_in now (running now) (left_of now.codes frame)
+    pub moved_now : (frame : Frame) → stacked codes first levels (with_top frame s) entries reached
+        ≡ leaving_in now (running now) (left_of now.codes frame)
     moved_now frame =
         r.moved frame ∙ leaving_now (left_of codes frame)
         ∙ ap (λ (c : List (List Stmt)). leaving_in now (running now) (left_of c frame)) codes_are
 
-    pub ended_now : stacked codes first levels (popped s) (entries_after top.owner entries) reached ≡ leaving_in now (running now) []
+    pub ended_now : stacked codes first levels (popped s) (entries_after top.owner entries) reached
+        ≡ leaving_in now (running now) []
     ended_now = r.ended ∙ leaving_now []

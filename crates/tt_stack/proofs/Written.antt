@@ -45,7 +45,8 @@ pub written_comm : (lefts : List (List Stmt)) (given : List Left) (n : ℕ) (lef
     → written (slice_set lefts n left) given ≡ slice_set (written lefts given) n left
 written_comm lefts [] n left others = refl
 written_comm lefts (x ∷ xs) n left others =
-    ap (λ l. written l xs) (set_comm lefts n x.0 left x.1 (λ e. All-head (λ (one : Left). one.0 ≢ n) x xs others (sym e)))
+    ap (λ l. written l xs)
+    (set_comm lefts n x.0 left x.1 (λ e. All-head (λ (one : Left). one.0 ≢ n) x xs others (sym e)))
     ∙ written_comm (slice_set lefts x.0 x.1) xs n left (All-tail (λ (one : Left). one.0 ≢ n) x xs others)
 
 -- one more at the end of the list
@@ -54,13 +55,15 @@ pub written_more : (lefts : List (List Stmt)) (given : List Left) (last : List S
     → written (lefts ++ last ∷ []) given ≡ written lefts given ++ last ∷ []
 written_more lefts [] last below = refl
 written_more lefts (x ∷ xs) last below =
-    ap (λ l. written l xs) (set-append_left lefts (last ∷ []) x.0 x.1 (All-head (λ (one : Left). one.0 < length lefts) x xs below))
+    ap (λ l. written l xs)
+    (set-append_left lefts (last ∷ []) x.0 x.1 (All-head (λ (one : Left). one.0 < length lefts) x xs below))
     ∙ written_more (slice_set lefts x.0 x.1) xs last
     (subst (λ n. All (λ (one : Left). one.0 < n) xs) (sym (length-set lefts x.0 x.1))
     (All-tail (λ (one : Left). one.0 < length lefts) x xs below))
 
 -- a number keeps what is left, or it is one of those that were written
-pub written_or : (Q : ℕ → Type 0) (lefts : List (List Stmt)) (given : List Left) (n : ℕ) → All (λ (one : Left). Q one.0) given
+pub written_or : (Q : ℕ → Type 0) (lefts : List (List Stmt)) (given : List Left) (n : ℕ)
+    → All (λ (one : Left). Q one.0) given
     → (at (written lefts given) n ≡ at lefts n) ⊎ Q n
 written_or Q lefts [] n all = inl refl
 written_or Q lefts (x ∷ xs) n all =
@@ -107,7 +110,8 @@ given_rest count x xs g = record {
 abbrev pub one_left : List Stmt → ℕ
 one_left left = cond (not (is_done left)) 1 0
 
-count_set : (lefts : List (List Stmt)) (n : ℕ) (left : List Stmt) → n < length lefts → at lefts n ≡ [] → is_done left ≡ false
+count_set : (lefts : List (List Stmt)) (n : ℕ) (left : List Stmt) → n < length lefts → at lefts n ≡ [] → is_done left
+    ≡ false
     → count_left (slice_set lefts n left) ≡ count_left lefts + 1
 count_set lefts n left within none some =
     let set = sum_by-set one_left lefts n left [] within in
@@ -116,7 +120,8 @@ count_set lefts n left within none some =
     omega (arith, set, before, after)
 
 pub count_written : (lefts : List (List Stmt)) (given : List Left) → AreGiven (length lefts) given
-    → All (λ (one : Left). at lefts one.0 ≡ []) given → count_left (written lefts given) ≡ count_left lefts + length given
+    → All (λ (one : Left). at lefts one.0 ≡ []) given → count_left (written lefts given)
+    ≡ count_left lefts + length given
 count_written lefts [] g none = omega arith
 count_written lefts (x ∷ xs) g none =
     let within : x.0 < length lefts = All-head (λ (one : Left). one.0 < length lefts) x xs g.below in
@@ -124,7 +129,8 @@ count_written lefts (x ∷ xs) g none =
     let rest = given_rest (length lefts) x xs g in
     let first = count_set lefts x.0 x.1 within (All-head (λ (one : Left). at lefts one.0 ≡ []) x xs none)
     (All-head (λ (one : Left). is_done one.1 ≡ false) x xs g.some) in
-    let apart : All (λ (one : Left). x.0 ≢ one.0) xs = AllPairs-first (λ (one other : Left). one.0 ≢ other.0) x xs g.distinct in
+    let apart : All (λ (one : Left). x.0 ≢ one.0) xs =
+    AllPairs-first (λ (one other : Left). one.0 ≢ other.0) x xs g.distinct in
     let still : All (λ (one : Left). at (slice_set lefts x.0 x.1) one.0 ≡ []) xs =
     λ k d l. get_or-set_other lefts x.0 (slice_index_or xs k d).0 x.1 [] (λ e. apart k d l (sym e))
     ∙ All-tail (λ (one : Left). at lefts one.0 ≡ []) x xs none k d l in
@@ -139,7 +145,8 @@ count_none (suc count) =
     omega (arith, first, rest)
 
 -- as many are unfinished as were given
-pub count_lefts_of : (count : ℕ) (given : List Left) → AreGiven count given → count_left (lefts_of count given) ≡ length given
+pub count_lefts_of : (count : ℕ) (given : List Left) → AreGiven count given → count_left (lefts_of count given)
+    ≡ length given
 count_lefts_of count given g =
     let none = count_none count in
     let more = count_written (replicate count []) given (subst (λ n. AreGiven n given) (sym (length-none count)) g)
@@ -148,7 +155,8 @@ count_lefts_of count given g =
 
 -- ---- a finished one leaves room
 
-pub count_room : (lefts : List (List Stmt)) (n : ℕ) → n < length lefts → is_done (at lefts n) ≡ true → count_left lefts < length lefts
+pub count_room : (lefts : List (List Stmt)) (n : ℕ) → n < length lefts → is_done (at lefts n) ≡ true
+    → count_left lefts < length lefts
 count_room [] n within done = absurd (omega arith)
 count_room (x ∷ xs) zero within done =
     let first = sum_by-cons one_left x xs in
@@ -157,7 +165,8 @@ count_room (x ∷ xs) zero within done =
     omega (arith, first, none, rest)
 count_room (x ∷ xs) (suc n) within done =
     let first = sum_by-cons one_left x xs in
-    let most : one_left x ≤ 1 = elim (not (is_done x)) as (λ b. cond b 1 0 ≤ 1) [ true ↦ omega arith | false ↦ omega arith ] in
+    let most : one_left x ≤ 1 =
+    elim (not (is_done x)) as (λ b. cond b 1 0 ≤ 1) [ true ↦ omega arith | false ↦ omega arith ] in
     let rest = count_room xs n (omega arith) done in
     omega (arith, first, most, rest)
 
@@ -169,20 +178,24 @@ pub written_in : (lefts : List (List Stmt)) (given : List Left) → AreGiven (le
 written_in lefts [] g = All-nil (λ (one : Left). at lefts one.0 ≡ one.1)
 written_in lefts (x ∷ xs) g =
     let same : length (slice_set lefts x.0 x.1) ≡ length lefts = length-set lefts x.0 x.1 in
-    let apart : All (λ (one : Left). x.0 ≢ one.0) xs = AllPairs-first (λ (one other : Left). one.0 ≢ other.0) x xs g.distinct in
+    let apart : All (λ (one : Left). x.0 ≢ one.0) xs =
+    AllPairs-first (λ (one other : Left). one.0 ≢ other.0) x xs g.distinct in
     let within : x.0 < length lefts = All-head (λ (one : Left). one.0 < length lefts) x xs g.below in
     All-cons (λ (one : Left). at (written (slice_set lefts x.0 x.1) xs) one.0 ≡ one.1) x xs
-    (written_other (slice_set lefts x.0 x.1) xs x.0 (λ k d l e. apart k d l (sym e)) ∙ get_or-set_same lefts x.0 x.1 [] within)
+    (written_other (slice_set lefts x.0 x.1) xs x.0 (λ k d l e. apart k d l (sym e))
+    ∙ get_or-set_same lefts x.0 x.1 [] within)
     (written_in (slice_set lefts x.0 x.1) xs (subst (λ n. AreGiven n xs) (sym same) (given_rest (length lefts) x xs g)))
 
 -- a number that is finished is none of them
-pub finished_not_in : (count : ℕ) (given : List Left) (n : ℕ) → AreGiven count given → is_done (at (lefts_of count given) n) ≡ true
+pub finished_not_in : (count : ℕ) (given : List Left) (n : ℕ) → AreGiven count given
+    → is_done (at (lefts_of count given) n) ≡ true
     → IsNotIn n given
 finished_not_in count given n g done = λ k d l e.
     let one = slice_index_or given k d in
     let there : at (lefts_of count given) one.0 ≡ one.1 =
     written_in (replicate count []) given (subst (λ m. AreGiven m given) (sym (length-none count)) g) k d l in
-    let f : true ≡ false = sym done ∙ ap (λ m. is_done (at (lefts_of count given) m)) (sym e) ∙ ap is_done there ∙ g.some k d l in
+    let f : true ≡ false =
+    sym done ∙ ap (λ m. is_done (at (lefts_of count given) m)) (sym e) ∙ ap is_done there ∙ g.some k d l in
     absurd cc
 
 -- nothing is left of one that is none of them
@@ -194,4 +207,5 @@ pub gone : (count : ℕ) (given : List Left) (n : ℕ) (left : List Stmt) → Is
     → lefts_of count given ≡ slice_set (slice_set (lefts_of count given) n left) n []
 gone count given n left others =
     let lefts = lefts_of count given in
-    sym (set-set lefts n left [] ∙ ap (slice_set lefts n) (sym (nothing_left count given n others)) ∙ set-get_or lefts n [])
+    sym (set-set lefts n left [] ∙ ap (slice_set lefts n) (sym (nothing_left count given n others))
+    ∙ set-get_or lefts n [])

@@ -102,9 +102,10 @@ pub record IsOfRoutine (codes : List (List Stmt)) (levels : List ℕ) (f : Stack
 abbrev pub DoAscend : List ℕ → Type 0
 DoAscend entries = AllPairs (λ entry later. entry < later) entries
 
--- The codes of the routines are there, and their levels are distinct. Each frame on the stack has statements left, and each routine
--- its level. The frames of tasks are those of the entries, which ascend.
-pub record AreKept (codes : List (List Stmt)) (first : ℕ) (levels : List ℕ) (frames : Frames) (entries : List ℕ) (reached : ℕ) : Type 0 where
+-- The codes of the routines are there, and their levels are distinct. Each frame on the stack has statements left, and
+-- each routine its level. The frames of tasks are those of the entries, which ascend.
+pub record AreKept (codes : List (List Stmt)) (first : ℕ) (levels : List ℕ) (frames : Frames) (entries : List ℕ)
+    (reached : ℕ) : Type 0 where
   pub enough : first + length levels ≤ length codes
   pub distinct : are_distinct levels ≡ true
   pub tasks : All (IsOfTask codes) frames.tasks

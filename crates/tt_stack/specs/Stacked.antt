@@ -10,7 +10,8 @@ use Rattle.tt_world.specs.World.{Job}
 use Rattle.tt_world.specs.Runners.{is_done, job_at, with_left, unfinished, highest, last_unfinished}
 
 pub record Stacked : Type 0 where
-  -- the bodies by program number, the number of the program of the first routine, and the levels of the routines: these never change
+  -- the bodies by program number, the number of the program of the first routine, and the levels of the routines: these
+  -- never change
   pub codes : List (List Stmt)
   pub first : ℕ
   pub levels : List ℕ

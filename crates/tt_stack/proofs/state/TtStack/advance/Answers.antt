@@ -8,7 +8,7 @@ pub returns-in-Some-clause-ended : goal.returns-in-Some-clause-ended
 returns-in-Some-clause-ended g c =
     let i = c.self.inside in
     let now = c.args.self.now in
-    let codes = codes_are i.codes i.first i.levels.items i.reached i.stack i.entries.items c.self.invariant now c.self.view_is in
+    let codes = codes_are i c.self.invariant now c.self.view_is in
     let some : left_in now (running now) ≢ [] = λ none. c.in-Some.ensures.some (c.in-Some.ensures.left ∙ none) in
     let left : left_in c.leave.new.self (running now) ≡ left_of i.codes c.advance-progress.new.frame =
     ap (λ s. left_in s (running now)) c.leave.ensures

@@ -10,39 +10,42 @@ use Rattle.tt_stack.proofs.state.TtStack.begin_task.Goals as goal
 pub push_task-requires : goal.push_task-requires
 push_task-requires c =
     let i = c.self.inside in
-    let same = count_tasks i.codes i.first i.levels.items i.reached i.stack i.entries.items c.self.invariant in
+    let same = count_tasks i c.self.invariant in
     let all = ap (λ (s : Stacked). count_unfinished s.jobs) c.self.view_is in
     omega (arith, same, all, c.requires.room)
 
 pub push-requires : goal.push-requires
 push-requires c =
     let i = c.self.inside in
-    let same = count_tasks i.codes i.first i.levels.items i.reached i.stack i.entries.items c.self.invariant in
+    let same = count_tasks i c.self.invariant in
     let all = ap (λ (s : Stacked). count_unfinished s.jobs) c.self.view_is in
     (omega arith, omega (arith, same, all, c.requires.room, c.self.invariant.as_many))
 
 pub overflow_add-self : goal.overflow_add-self
 overflow_add-self c =
     let i = c.self.inside in
-    let same = length_jobs_is i.codes i.first i.levels.items i.reached i.stack i.entries.items c.self.invariant in
+    let same = length_jobs_is i c.self.invariant in
     let all = ap (λ (s : Stacked). length s.jobs) c.self.view_is in
     omega (arith, same, all, c.requires.in_count)
 
 pub invariant_of-self : goal.invariant_of-self
 invariant_of-self c =
     let i = c.self.inside in
-    let codes = codes_are i.codes i.first i.levels.items i.reached i.stack i.entries.items c.self.invariant c.args.self.now c.self.view_is in
+    let codes = codes_are i c.self.invariant c.args.self.now c.self.view_is in
     rw (c.push_task.ensures, c.push.ensures.items)
-    (task_kept i.codes i.first i.levels.items i.reached i.stack i.entries.items c.self.invariant c.args.task c.args.frame c.args.words
-    (subst (λ l. IsSound l c.args.frame) (sym codes) c.requires.sound) (subst (λ l. left_of l c.args.frame ≢ []) (sym codes) c.requires.some))
+    (task_kept i c.self.invariant c.args.task c.args.frame c.args.words
+    (subst (λ l. IsSound l c.args.frame) (sym codes) c.requires.sound)
+    (subst (λ l. left_of l c.args.frame ≢ []) (sym codes) c.requires.some))
 
 pub returns : goal.returns
 returns c =
     let i = c.self.inside in
-    let codes = codes_are i.codes i.first i.levels.items i.reached i.stack i.entries.items c.self.invariant c.args.self.now c.self.view_is in
+    let codes = codes_are i c.self.invariant c.args.self.now c.self.view_is in
     ap (λ s. stacked i.codes i.first i.levels.items s c.push.new.self.items (i.reached + 1)) c.push_task.ensures
-    ∙ ap (λ es. stacked i.codes i.first i.levels.items (with_task (task_frame c.args.task c.args.frame c.args.words) i.stack) es (i.reached + 1)) c.push.ensures.items
-    ∙ task_begun i.codes i.first i.levels.items i.reached i.stack i.entries.items c.self.invariant c.args.task c.args.frame c.args.words
-    (subst (λ l. IsSound l c.args.frame) (sym codes) c.requires.sound) (subst (λ l. left_of l c.args.frame ≢ []) (sym codes) c.requires.some)
+    ∙ ap (λ es. stacked i.codes i.first i.levels.items
+    (with_task (task_frame c.args.task c.args.frame c.args.words) i.stack) es (i.reached + 1)) c.push.ensures.items
+    ∙ task_begun i c.self.invariant c.args.task c.args.frame c.args.words
+    (subst (λ l. IsSound l c.args.frame) (sym codes) c.requires.sound)
+    (subst (λ l. left_of l c.args.frame ≢ []) (sym codes) c.requires.some)
     ∙ ap (with_job (left_of i.codes c.args.frame)) c.self.view_is
     ∙ ap (λ l. with_job (left_of l c.args.frame) c.args.self.now) codes

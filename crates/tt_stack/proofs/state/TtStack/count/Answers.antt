@@ -6,11 +6,11 @@ use Rattle.tt_stack.proofs.state.TtStack.count.Goals as goal
 pub overflow_add-self : goal.overflow_add-self
 overflow_add-self c =
     let i = c.self.inside in
-    let same = length_jobs_is i.codes i.first i.levels.items i.reached i.stack i.entries.items c.self.invariant in
+    let same = length_jobs_is i c.self.invariant in
     let all = ap (λ (s : Stacked). length s.jobs) c.self.view_is in
     omega (arith, same, all, c.requires.in_count)
 
 pub returns : goal.returns
 returns c =
     let i = c.self.inside in
-    counted i.codes i.first i.levels.items i.reached i.stack i.entries.items c.self.invariant ∙ ap (with_job []) c.self.view_is
+    counted i c.self.invariant ∙ ap (with_job []) c.self.view_is

@@ -6,4 +6,4 @@ use Rattle.tt_stack.proofs.state.TtStack.depth.Goals as goal
 pub returns : goal.returns
 returns c =
     let i = c.self.inside in
-    c.depth.ensures.value ∙ depth_is i.codes i.first i.levels.items i.reached i.stack i.entries.items c.self.invariant ∙ ap depth_in c.self.view_is
+    c.depth.ensures.value ∙ depth_is i c.self.invariant ∙ ap depth_in c.self.view_is

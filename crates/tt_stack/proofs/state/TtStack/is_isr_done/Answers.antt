@@ -8,5 +8,5 @@ use Rattle.tt_stack.proofs.state.TtStack.is_isr_done.Goals as goal
 pub returns : goal.returns
 returns c =
     let i = c.self.inside in
-    held_is i.codes i.first i.levels.items i.reached i.stack i.entries.items c.self.invariant c.args.isr c.holds.result c.holds.ensures
+    held_is i c.self.invariant c.args.isr c.holds.result c.holds.ensures
     ∙ ap (λ (s : Stacked). is_done (slice_index_or s.isrs c.args.isr.0 [])) c.self.view_is

@@ -10,5 +10,5 @@ pub returns : goal.returns
 returns c =
     let i = c.self.inside in
     ap not (c.contains.ensures.value ∙ ap (list_any (λ entry. nat_eq entry c.args.place)) c.as_slice.ensures.value)
-    ∙ found_is i.codes i.first i.levels.items i.reached i.stack i.entries.items c.self.invariant c.args.place
+    ∙ found_is i c.self.invariant c.args.place
     ∙ ap (λ (s : Stacked). is_done (job_at s.jobs c.args.place).left) c.self.view_is

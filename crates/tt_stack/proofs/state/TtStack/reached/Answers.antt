@@ -8,4 +8,5 @@ use Rattle.tt_stack.proofs.state.TtStack.reached.Goals as goal
 pub returns : goal.returns
 returns c =
     let given = task_lefts c.self.inside.codes c.self.inside.entries.items c.self.inside.stack.tasks in
-    sym (ap (λ (s : Stacked). length s.jobs) (sym c.self.view_is) ∙ length-jobs 0 (lefts_of c.self.inside.reached given) ∙ length-lefts_of c.self.inside.reached given)
+    sym (ap (λ (s : Stacked). length s.jobs) (sym c.self.view_is)
+    ∙ length-jobs 0 (lefts_of c.self.inside.reached given) ∙ length-lefts_of c.self.inside.reached given)

@@ -7,19 +7,21 @@ use Rattle.tt_stack.proofs.state.TtStack.take_off.Goals as goal
 pub invariant_of-self : goal.invariant_of-self
 invariant_of-self c =
     let i = c.self.inside in
-    let r = run_at i.codes i.first i.levels.items i.reached i.stack i.entries.items c.self.invariant c.args.self.now c.self.view_is c.in-Some.top (sym c.top.ensures.top ∙ c.in-Some.is) in
+    let r = run_at i c.self.invariant c.args.self.now c.self.view_is c.in-Some.top
+    (sym c.top.ensures.top ∙ c.in-Some.is) in
     rw (c.pop.ensures, c.take_off.ensures) r.ended_kept
 
 pub returns-in-Some : goal.returns-in-Some
 returns-in-Some c =
     let i = c.self.inside in
-    let r = run_at i.codes i.first i.levels.items i.reached i.stack i.entries.items c.self.invariant c.args.self.now c.self.view_is c.in-Some.top (sym c.top.ensures.top ∙ c.in-Some.is) in
+    let r = run_at i c.self.invariant c.args.self.now c.self.view_is c.in-Some.top
+    (sym c.top.ensures.top ∙ c.in-Some.is) in
     ap (λ s. stacked i.codes i.first i.levels.items s c.take_off.new.entries.items i.reached) c.pop.ensures
     ∙ ap (λ es. stacked i.codes i.first i.levels.items (popped i.stack) es i.reached) c.take_off.ensures
-    ∙ ended_now i.codes i.first i.levels.items i.reached i.stack i.entries.items c.self.invariant c.args.self.now c.self.view_is c.in-Some.top r
+    ∙ ended_now i c.self.invariant c.args.self.now c.self.view_is c.in-Some.top r
 
 pub returns-in_default : goal.returns-in_default
 returns-in_default c =
     let i = c.self.inside in
     absurd (none_none c.args.self.now c.requires.runs
-    (none_then i.codes i.first i.levels.items i.reached i.stack i.entries.items c.self.invariant c.args.self.now c.self.view_is (sym c.top.ensures.top ∙ c.in_default.is)))
+    (none_then i c.self.invariant c.args.self.now c.self.view_is (sym c.top.ensures.top ∙ c.in_default.is)))
