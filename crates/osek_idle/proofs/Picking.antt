@@ -11,10 +11,12 @@ use Rattle.tt_world.specs.Runners.{is_done, unfinished, highest, oisr_priorities
 use Rattle.osek_idle.specs.Laws.{runner_in, PicksAreTheRunners}
 use Rattle.osek_idle.specs.Subsystem.{left_in, lefts, is_ready, ready_numbers, routine_first}
 
-abbrev AreSettled : List (Option (List Stmt)) → Type 0
+-- something is left of each
+abbrev pub AreSettled : List (Option (List Stmt)) → Type 0
 AreSettled states = All (λ (state : Option (List Stmt)). IfSome state (λ left. left ≢ [])) states
 
-left_at : (states : List (Option (List Stmt))) (n : ℕ) → slice_index_or (lefts states) n [] ≡ left_in (slice_index_or states n None)
+-- what is left at a number
+pub left_at : (states : List (Option (List Stmt))) (n : ℕ) → slice_index_or (lefts states) n [] ≡ left_in (slice_index_or states n None)
 left_at [] n = refl
 left_at (state ∷ states) zero = refl
 left_at (state ∷ states) (suc n) = left_at states n
@@ -29,10 +31,16 @@ settled_at [] n settled = tt
 settled_at (state ∷ states) zero settled = settled 0 None (omega arith)
 settled_at (state ∷ states) (suc n) settled = settled_at states n (λ k d within. settled (suc k) d (omega arith))
 
+-- those that are ready, or unfinished, are those of which something is left
+pub ready_at : (states : List (Option (List Stmt))) (n : ℕ) → AreSettled states
+    → is_ready states n ≡ not (is_done (slice_index_or (lefts states) n []))
+ready_at states n settled =
+    one_done (slice_index_or states n None) (settled_at states n settled) ∙ ap (λ l. not (is_done l)) (sym (left_at states n))
+
 numbers_are : (states : List (Option (List Stmt))) → AreSettled states → ready_numbers states ≡ unfinished (lefts states)
 numbers_are states settled =
     filter_agree (λ (n : ℕ). is_ready states n) (λ (n : ℕ). not (is_done (slice_index_or (lefts states) n [])))
-    (λ n. one_done (slice_index_or states n None) (settled_at states n settled) ∙ ap (λ l. not (is_done l)) (sym (left_at states n)))
+    (λ n. ready_at states n settled)
     (range_with_len 0 (length states))
     ∙ ap (λ (k : ℕ). filter (λ (n : ℕ). not (is_done (slice_index_or (lefts states) n []))) (range_with_len 0 k)) (sym (length-map states left_in))
 

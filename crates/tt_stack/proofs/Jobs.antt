@@ -1,5 +1,5 @@
 -- The activations of a round, from what is left of each.
-use Rattle.std.proofs.Common.{◌≡◌, ℕ, zero, suc, ◌+◌, ◌<◌, true, false, cond, List, [], ◌∷◌, ◌++◌, length, None, Some, refl, ap, ◌∙◌, arith}
+use Rattle.std.proofs.Common.{◌≡◌, ℕ, zero, suc, ◌+◌, ◌<◌, ◌≤◌, true, false, cond, List, [], ◌∷◌, ◌++◌, length, None, Some, refl, ap, ◌∙◌, arith}
 use Rattle.std.specs.Prelude.{slice_set}
 use Rattle.std.proofs.lemmas.List.Sums.{sum_by-cons}
 use Rattle.task_lang.specs.declared.syntax.Stmt.{Stmt}
@@ -21,6 +21,18 @@ job_left from (x ∷ xs) (suc place) = job_left (from + 1) xs place
 pub length-jobs : (from : ℕ) (lefts : List (List Stmt)) → length (jobs_from from lefts) ≡ length lefts
 length-jobs from [] = refl
 length-jobs from (x ∷ xs) = omega (arith, length-jobs (from + 1) xs)
+
+pub job_entry : (from : ℕ) (lefts : List (List Stmt)) (place : ℕ) → place < length lefts
+    → (job_at (jobs_from from lefts) place).entry ≡ from + place
+job_entry from [] place l = absurd (omega arith)
+job_entry from (x ∷ xs) zero l = omega arith
+job_entry from (x ∷ xs) (suc place) l =
+    let next : from + 1 + place ≡ from + suc place = omega arith in job_entry (from + 1) xs place (omega arith) ∙ next
+
+pub job_past : (from : ℕ) (lefts : List (List Stmt)) (place : ℕ) → length lefts ≤ place → (job_at (jobs_from from lefts) place).entry ≡ 0
+job_past from [] place l = refl
+job_past from (x ∷ xs) zero l = absurd (omega arith)
+job_past from (x ∷ xs) (suc place) l = job_past (from + 1) xs place (omega arith)
 
 pub jobs_set : (from : ℕ) (lefts : List (List Stmt)) (place : ℕ) (left : List Stmt)
     → jobs_from from (slice_set lefts place left) ≡ with_left (jobs_from from lefts) place left

@@ -219,6 +219,17 @@ impl TtStack {
         !self.stack.holds(Owner::Isr(isr))
     }
 
+    /// The entry number of the activation at a place of the round, which is the place. Of one that is not there it is 0.
+    pub fn entry_at(&self, place: usize) -> usize
+        ensures { result ≡ (job_at self.now.jobs place).entry }
+    {
+        if place < self.reached {
+            place
+        } else {
+            0
+        }
+    }
+
     /// How many activations the round has had.
     pub fn reached(&self) -> usize
         ensures { result ≡ length self.now.jobs }
