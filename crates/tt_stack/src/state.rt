@@ -223,11 +223,7 @@ impl TtStack {
     pub fn entry_at(&self, place: usize) -> usize
         ensures { result ≡ (job_at self.now.jobs place).entry }
     {
-        if place < self.reached {
-            place
-        } else {
-            0
-        }
+        if place < self.reached { place } else { 0 }
     }
 
     /// How many activations the round has had.
