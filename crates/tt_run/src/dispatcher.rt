@@ -1,0 +1,271 @@
+//! The opening of an instant, and the instant.
+
+ghost use Rattle.std.specs.Prelude.{◌≡◌, ◌+◌, ◌<◌, ◌≤◌, ◌^◌, length, None};
+ghost use Rattle.tt_world.specs.Moved.{Gives, chain};
+ghost use Rattle.tt_world.specs.Opening.{due as due_parts, later_parts, opening};
+ghost use Rattle.tt_world.specs.Rows.{offset_of};
+ghost use Rattle.tt_world.specs.Schedule.{instant};
+ghost use Rattle.tt_world.proofs.Late.{Late};
+ghost use Rattle.tt_world.proofs.Openings.{activated_in};
+ghost use Rattle.tt_world.proofs.Parts.{Before, Begun};
+ghost use Rattle.round_table.specs.TableRows.{tables_of};
+ghost use Rattle.tt_run.specs.State.{IsFor, fixed_in};
+ghost use Rattle.tt_run.specs.Served.{AreRowsFree, CanActivate, CanPass, Foresees, HasSources, IsAhead, IsOpened, IsServed, IsTableOf, StandsAt};
+ghost use Rattle.tt_run.specs.Told.{Tells};
+
+use crate::ahead::Ahead;
+use crate::log::Log;
+use crate::state::State;
+use round_table::{Due, Table, Tables};
+use trace_text::Recorder;
+use tt_base::{Event, Ledger, Steps, TaskNo, Tick};
+use tt_world::{ConfigParts, RunEnd, ScriptParts};
+
+/// The words of stack that a task takes. One that is not there takes none.
+fn task_words(config: &ConfigParts, task: TaskNo) -> u32 {
+    match config.tasks.as_slice().get(usize::from(task.0)) {
+        Some(task) => u32::from(task.stack),
+        None => 0,
+    }
+}
+
+impl State {
+    /// The table of the present mode.
+    fn table<'a>(&self, config: &ConfigParts, tables: &'a Tables) -> &'a Table
+        requires modes { self.now.beside.modes ≡ length config.now.modes }
+        requires tables { tables.now ≡ tables_of config.now }
+        ensures { IsTableOf config.now result.now self.now.world }
+    {
+        tables.get(self.round.mode())
+    }
+
+    /// Activates the task of an entry of the table, if there is one.
+    fn activate_entry<R: Recorder + Drop>(
+        &mut self,
+        config: &ConfigParts,
+        table: &Table,
+        entry: Option<usize>,
+        log: &mut Log<R>,
+    )
+        requires { CanActivate config.now table.now entry self.old }
+        ensures gives { Gives (Tells R.Recorder) log.old log.new self.new.world None
+            (activated_in config.now table.now.mode entry self.old.world) }
+        ensures beside { self.new.beside ≡ self.old.beside }
+    {
+        let Some(entry) = entry else {
+            return;
+        };
+        let task = table.activation(entry).task;
+        self.stack.activate(task, task_words(config, task));
+        log.tell(Event::Activate {
+            at: self.tick,
+            task,
+        });
+    }
+
+    /// What is due at the present offset and tick: the checks, the enables, the arrivals, the acceptances and the activation.
+    fn do_due<R: Recorder + Drop>(
+        &mut self,
+        config: &ConfigParts,
+        script: &ScriptParts,
+        table: &Table,
+        due: Due,
+        log: &mut Log<R>,
+    ) -> Option<RunEnd>
+        requires served { IsServed Begun config.now script.now self.old.world }
+        requires fixed { IsFor config.now script.now self.old.beside }
+        requires table { IsTableOf config.now table.now self.old.world }
+        requires stands { StandsAt table.now (offset_of self.old.world) due }
+        requires sources { HasSources config.now script.now self.old.world.tick self.old }
+        ensures gives { Gives (Tells R.Recorder) log.old log.new self.new.world result
+            (chain (due_parts config.now script.now) self.old.world) }
+        ensures fixed { fixed_in self.new.beside ≡ fixed_in self.old.beside }
+        ensures opened { None ≡ result → IsOpened config.now script.now self.old.world.tick self.new }
+    {
+        if let Some(end) = self.monitor(config, table, due.checks_from, due.checks_to, log) {
+            return Some(end);
+        }
+        self.enable_all(table, due.enables_from, due.enables_to, log);
+        self.arrive_all(config, script, log);
+        self.accept_all(config, script, log);
+        self.activate_entry(config, table, due.activation, log);
+        None
+    }
+
+    /// What is due at the present offset and tick, by the table of the present mode.
+    fn open_due<R: Recorder + Drop>(
+        &mut self,
+        config: &ConfigParts,
+        script: &ScriptParts,
+        tables: &Tables,
+        log: &mut Log<R>,
+    ) -> Option<RunEnd>
+        requires served { IsServed Begun config.now script.now self.old.world }
+        requires fixed { IsFor config.now script.now self.old.beside }
+        requires tables { tables.now ≡ tables_of config.now }
+        requires sources { HasSources config.now script.now self.old.world.tick self.old }
+        ensures gives { Gives (Tells R.Recorder) log.old log.new self.new.world result
+            (chain (due_parts config.now script.now) self.old.world) }
+        ensures fixed { fixed_in self.new.beside ≡ fixed_in self.old.beside }
+        ensures opened { None ≡ result → IsOpened config.now script.now self.old.world.tick self.new }
+    {
+        let table = self.table(config, tables);
+        let due = table.due(self.offset());
+        self.do_due(config, script, table, due, log)
+    }
+
+    /// The opening of an instant after tick 0.
+    fn open_later<R: Recorder + Drop>(
+        &mut self,
+        config: &ConfigParts,
+        script: &ScriptParts,
+        tables: &Tables,
+        log: &mut Log<R>,
+    ) -> Option<RunEnd>
+        requires served { IsServed Before config.now script.now self.old.world }
+        requires late { Late 0 config.now self.old.world }
+        requires fixed { IsFor config.now script.now self.old.beside }
+        requires tables { tables.now ≡ tables_of config.now }
+        requires sources { HasSources config.now script.now self.old.world.tick self.old }
+        ensures gives { Gives (Tells R.Recorder) log.old log.new self.new.world result
+            (chain (later_parts config.now script.now) self.old.world) }
+        ensures fixed { fixed_in self.new.beside ≡ fixed_in self.old.beside }
+        ensures opened { None ≡ result → IsOpened config.now script.now self.old.world.tick self.new }
+    {
+        self.latch(config, log);
+        let table = self.table(config, tables);
+        if let Some(end) = self.end_round(config, script, table, log) {
+            return Some(end);
+        }
+        self.open_due(config, script, tables, log)
+    }
+
+    /// The opening of an instant.
+    fn open<R: Recorder + Drop>(
+        &mut self,
+        config: &ConfigParts,
+        script: &ScriptParts,
+        tables: &Tables,
+        log: &mut Log<R>,
+    ) -> Option<RunEnd>
+        requires served { IsServed Before config.now script.now self.old.world }
+        requires late { Late 0 config.now self.old.world }
+        requires fixed { IsFor config.now script.now self.old.beside }
+        requires tables { tables.now ≡ tables_of config.now }
+        requires sources { HasSources config.now script.now self.old.world.tick self.old }
+        ensures gives { Gives (Tells R.Recorder) log.old log.new self.new.world result
+            (opening config.now script.now self.old.world) }
+        ensures fixed { fixed_in self.new.beside ≡ fixed_in self.old.beside }
+        ensures opened { None ≡ result → IsOpened config.now script.now self.old.world.tick self.new }
+    {
+        if self.tick != 0 {
+            return self.open_later(config, script, tables, log);
+        }
+        self.begin(script, log);
+        self.open_due(config, script, tables, log)
+    }
+
+    /// The tick of the next expiry point of the round, the greatest tick where there is none.
+    fn next_row(&self, config: &ConfigParts, tables: &Tables) -> Tick
+        requires modes { self.now.beside.modes ≡ length config.now.modes }
+        requires tables { tables.now ≡ tables_of config.now }
+        ensures { AreRowsFree config.now self.now.world result }
+    {
+        let table = self.table(config, tables);
+        match table.next_after(self.offset()) {
+            Some(offset) => self.round.start().saturating_add(offset),
+            None => Tick::MAX,
+        }
+    }
+
+    /// The least tick after the present one at which something is due.
+    fn next_due(&self, config: &ConfigParts, tables: &Tables) -> Tick
+        requires modes { self.now.beside.modes ≡ length config.now.modes }
+        requires tables { tables.now ≡ tables_of config.now }
+        ensures { IsAhead config.now 1 self.now result }
+    {
+        let own = self.next_row(config, tables).min(self.round.next_own());
+        match self.gates.next_arrival() {
+            Some(tick) => own.min(tick),
+            None => own,
+        }
+    }
+
+    /// The opening of an instant at which nothing is due: the acceptances, where an owner has ended.
+    fn open_idle<R: Recorder + Drop>(
+        &mut self,
+        config: &ConfigParts,
+        script: &ScriptParts,
+        ahead: Ahead,
+        log: &mut Log<R>,
+    )
+        requires can { CanPass config.now script.now self.old }
+        requires foresees { Foresees config.now self.old ahead }
+        requires idle { self.old.world.tick < ahead.next }
+        ensures gives { Gives (Tells R.Recorder) log.old log.new self.new.world None
+            (opening config.now script.now self.old.world) }
+        ensures beside { self.new.beside ≡ self.old.beside }
+        ensures opened { IsOpened config.now script.now self.old.world.tick self.new }
+        ensures ahead { IsAhead config.now 1 self.new ahead.next }
+    {
+        if ahead.ended {
+            self.accept_all(config, script, log);
+        }
+    }
+
+    /// The opening of an instant, which looks at nothing where nothing is due.
+    fn open_ahead<R: Recorder + Drop>(
+        &mut self,
+        config: &ConfigParts,
+        script: &ScriptParts,
+        tables: &Tables,
+        ahead: &mut Ahead,
+        log: &mut Log<R>,
+    ) -> Option<RunEnd>
+        requires can { CanPass config.now script.now self.old }
+        requires tables { tables.now ≡ tables_of config.now }
+        requires foresees { Foresees config.now self.old ahead.old }
+        ensures gives { Gives (Tells R.Recorder) log.old log.new self.new.world result
+            (opening config.now script.now self.old.world) }
+        ensures fixed { fixed_in self.new.beside ≡ fixed_in self.old.beside }
+        ensures opened { None ≡ result → IsOpened config.now script.now self.old.world.tick self.new }
+        ensures ahead { None ≡ result → IsAhead config.now 1 self.new ahead.new.next }
+    {
+        if self.tick < ahead.next {
+            self.open_idle(config, script, *ahead, log);
+            return None;
+        }
+        if let Some(end) = self.open(config, script, tables, log) {
+            return Some(end);
+        }
+        ahead.next = self.next_due(config, tables);
+        None
+    }
+
+    /// One instant.
+    pub(crate) fn pass<R: Recorder + Drop, L: Ledger>(
+        &mut self,
+        config: &ConfigParts,
+        script: &ScriptParts,
+        tables: &Tables,
+        ahead: &mut Ahead,
+        log: &mut Log<R>,
+        steps: &mut Steps<L>,
+    ) -> Option<RunEnd>
+        requires can { CanPass config.now script.now self.old }
+        requires tables { tables.now ≡ tables_of config.now }
+        requires foresees { Foresees config.now self.old ahead.old }
+        ensures gives { Gives (Tells R.Recorder) log.old log.new self.new.world result
+            (instant config.now script.now self.old.world) }
+        ensures fixed { fixed_in self.new.beside ≡ fixed_in self.old.beside }
+        ensures sources { None ≡ result → HasSources config.now script.now (self.old.world.tick + 1) self.new }
+        ensures foresees { None ≡ result → Foresees config.now self.new ahead.new }
+    {
+        if let Some(end) = self.open_ahead(config, script, tables, ahead, log) {
+            return Some(end);
+        }
+        let ticked = self.take_tick(config, script, log, steps);
+        ahead.ended = ticked.ended;
+        ticked.end
+    }
+}

@@ -1,0 +1,61 @@
+//! The state before tick 0.
+
+ghost use Rattle.std.specs.Prelude.{◌≡◌, IfOk};
+ghost use Rattle.tt_world.specs.ScriptRules.{IsScript};
+ghost use Rattle.tt_run.specs.First.{first_state};
+
+use crate::programs::codes_of;
+use crate::state::State;
+use isr_window::Gates;
+use osek_idle::Osek;
+use round_end::RoundState;
+use std::alloc::Global;
+use task_machine::Env;
+use tt_base::{Memory, Series, Tick};
+use tt_stack::TtStack;
+use tt_world::{Arrivals, Config, ScriptParts};
+
+/// A copy of a list of numbers.
+fn copy_numbers(alloc: Global, numbers: &[u64]) -> Result<Series<u64>, Memory>
+    ensures { IfOk result (λ copy. copy ≡ numbers.now) }
+{
+    Ok(Series::from_vec(Vec::from_slice(alloc, numbers)?))
+}
+
+/// A copy of the ticks of some sources.
+fn copy_ticks(alloc: Global, lists: &[Series<Tick>]) -> Result<Series<Series<Tick>>, Memory>
+    ensures { IfOk result (λ copy. copy ≡ lists.now) }
+{
+    let mut copy = Series::new(alloc);
+    for list in lists {
+        copy.push(copy_numbers(alloc, list.as_slice())?)?;
+    }
+    Ok(copy)
+}
+
+impl State {
+    /// Before tick 0.
+    pub(crate) fn new(alloc: Global, config: &Config, script: &ScriptParts) -> Result<State, Memory>
+        requires { IsScript config.now script.now }
+        ensures { IfOk result (λ state. state ≡ first_state config.now script.now) }
+    {
+        let parts = config.parts();
+        let times = copy_numbers(alloc, script.times.as_slice())?;
+        let isrs = copy_ticks(alloc, script.arrivals.isrs.as_slice())?;
+        let oisrs = copy_ticks(alloc, script.arrivals.oisrs.as_slice())?;
+        let env = Env::new(alloc, &parts.vars, &parts.demands, &script.values)?;
+        let codes = codes_of(alloc, parts)?;
+        let tasks = parts.tasks.as_slice().len() as u16;
+        let routines = parts.isrs.as_slice().len() as u16;
+        let osek = Osek::new(config, &codes, tasks + routines);
+        Ok(State {
+            tick: 0,
+            round: RoundState::new(config, script.start, script.rounds, times),
+            env,
+            stack: TtStack::new(codes, parts.isrs.as_slice(), tasks),
+            gates: Gates::new(Arrivals { isrs, oisrs }),
+            osek,
+            last: None,
+        })
+    }
+}

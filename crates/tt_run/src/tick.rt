@@ -1,0 +1,369 @@
+//! One tick of the one who runs.
+
+ghost use Rattle.std.specs.Prelude.{◌≡◌, ◌≢◌, ◌+◌, ◌^◌, ◌<◌, ◌≤◌, ◌&&◌, ◌||◌, List, [], length, None, Some, option_to_list};
+ghost use Rattle.task_lang.specs.declared.syntax.Stmt.{Stmt};
+ghost use Rattle.osek_idle.specs.Standing.{IsSound, setup_of, subsystem_of, task_body};
+ghost use Rattle.osek_idle.specs.Subsystem.{IsSettled, picked, owner_left};
+ghost use Rattle.tt_world.specs.Moved.{Gives};
+ghost use Rattle.tt_world.specs.Runners.{runner_of, owner_of};
+ghost use Rattle.tt_world.specs.Services.{is_shutdown};
+ghost use Rattle.tt_world.specs.ConfigRules.{IsConfig};
+ghost use Rattle.tt_world.specs.Step.{run_line, is_somebody, tick_over, step};
+ghost use Rattle.tt_world.proofs.Still.{owner_ends};
+ghost use Rattle.tt_run.specs.Effects.{MayDo, HaveSome, GaveIdle, effected, finished_at, idle_tick};
+ghost use Rattle.tt_run.specs.Ticking.{CanTick, IsOnStack, IsInIdleTime, Took, follows};
+ghost use Rattle.tt_run.specs.Told.{Tells};
+
+use crate::log::Log;
+use crate::runner::ran_before;
+use crate::state::State;
+use crate::took::{Did, Taken, Ticked};
+use osek_idle::Osek;
+use round_end::RoundState;
+use task_lang::Effect;
+use task_machine::{Codes, Env};
+use trace_text::Recorder;
+use tt_base::{Call, Event, Ledger, Owner, Steps, Tick};
+use tt_services::perform;
+use tt_world::{ConfigParts, RunEnd, Runner, ScriptParts};
+
+/// Whether a runner is somebody, and has ended.
+fn somebody_ended(runner: Runner, ended: bool) -> bool
+    ensures { result ≡ (is_somebody runner && ended) }
+{
+    match runner {
+        Runner::Nobody => false,
+        _ => ended,
+    }
+}
+
+/// Whether a service ends the run.
+fn is_shutdown(call: Call) -> bool
+    ensures { result ≡ is_shutdown call }
+{
+    call == Call::Shutdown
+}
+
+/// What the effect of a tick made.
+#[derive(Clone, Copy, Debug, PartialEq, Eq)]
+struct Effected {
+    did: Did,
+    /// Whether a service has ended its caller.
+    ends: bool,
+}
+
+/// What follows from the effect of a tick in the round and in the OSEK subsystem: a service is
+/// performed.
+fn do_effect(
+    effect: Option<Effect>,
+    who: Owner,
+    now: Tick,
+    round: &mut RoundState,
+    osek: &mut Osek,
+    codes: &Codes,
+) -> Effected
+    requires may { MayDo now who (option_to_list effect) round.old (setup_of osek.old) }
+    requires sound { IsSound codes.now osek.old }
+    ensures did { result.did
+        ≡ (effected (task_body codes.now (setup_of osek.old)) now who
+        (option_to_list effect) round.old (subsystem_of codes.now osek.old)).did }
+    ensures ends { result.ends
+        ≡ (effected (task_body codes.now (setup_of osek.old)) now who
+        (option_to_list effect) round.old (subsystem_of codes.now osek.old)).ends }
+    ensures round { round.new
+        ≡ (effected (task_body codes.now (setup_of osek.old)) now who
+        (option_to_list effect) round.old (subsystem_of codes.now osek.old)).round }
+    ensures state { subsystem_of codes.now osek.new
+        ≡ (effected (task_body codes.now (setup_of osek.old)) now who
+        (option_to_list effect) round.old (subsystem_of codes.now osek.old)).subsystem }
+    ensures setup { setup_of osek.new ≡ setup_of osek.old }
+    ensures sound { IsSound codes.now osek.new }
+{
+    match effect {
+        None => Effected {
+            did: Did::Nothing,
+            ends: false,
+        },
+        Some(Effect::Out(value)) => Effected {
+            did: Did::Out(value),
+            ends: false,
+        },
+        Some(Effect::Service(call)) => {
+            let answer = perform(call, who, now, round, osek, codes);
+            Effected {
+                did: Did::Called(call, answer.result),
+                ends: answer.caller_ends,
+            }
+        }
+    }
+}
+
+/// The end of an owner that has no statement left, and that no service has ended.
+fn finish_at(osek: &mut Osek, who: Owner, ended: bool, ends: bool)
+    ensures setup { setup_of osek.new ≡ setup_of osek.old }
+    ensures sound { (codes : List (List Stmt)) → IsSound codes osek.old
+        → IsSound codes osek.new }
+    ensures state { (codes : List (List Stmt)) → subsystem_of codes osek.new
+        ≡ finished_at who ended ends (subsystem_of codes osek.old) }
+{
+    if ends {
+        return;
+    }
+    if ended {
+        osek.finish(who);
+    }
+}
+
+/// The tick of the one who runs in idle time, who is this one.
+fn tick_in_idle_time<L: Ledger>(
+    who: Owner,
+    now: Tick,
+    env: &mut Env,
+    round: &mut RoundState,
+    osek: &mut Osek,
+    codes: &Codes,
+    steps: &mut Steps<L>,
+) -> Taken
+    requires sound { IsSound codes.now osek.old }
+    requires settled { IsSettled (subsystem_of codes.now osek.old) }
+    requires bodies { HaveSome (task_body codes.now (setup_of osek.old))
+        (length (setup_of osek.old).tasks) }
+    requires picks { picked (setup_of osek.old) (subsystem_of codes.now osek.old) ≡ Some who }
+    requires left { owner_left (subsystem_of codes.now osek.old) (Some who) ≢ [] }
+    requires may { MayDo now who (idle_tick who env.old (subsystem_of codes.now osek.old)).effects
+        round.old (setup_of osek.old) }
+    ensures vars { env.new.vars ≡ (idle_tick who env.old (subsystem_of codes.now osek.old)).vars }
+    ensures cursors { env.new.cursors ≡ (idle_tick who env.old (subsystem_of codes.now osek.old)).cursors }
+    ensures demands { env.new.demands ≡ env.old.demands }
+    ensures values { env.new.values ≡ env.old.values }
+    ensures gave { GaveIdle (task_body codes.now (setup_of osek.old)) now who
+        (idle_tick who env.old (subsystem_of codes.now osek.old)) round.old
+        (subsystem_of codes.now osek.old) result round.new (subsystem_of codes.now osek.new) }
+    ensures setup { setup_of osek.new ≡ setup_of osek.old }
+    ensures sound { IsSound codes.now osek.new }
+    ensures settled { IsSettled (subsystem_of codes.now osek.new) }
+    ensures counted { steps.new ≡ steps.old + 1 }
+{
+    let progress = osek.advance(codes, 1, env, steps);
+    let effected = do_effect(progress.effect, who, now, round, osek, codes);
+    finish_at(osek, who, progress.ended, effected.ends);
+    Taken {
+        did: effected.did,
+        ended: either(effected.ends, progress.ended),
+    }
+}
+
+/// Whether one of the two holds.
+fn either(one: bool, other: bool) -> bool
+    ensures { result ≡ (one || other) }
+{
+    one || other
+}
+
+impl State {
+    /// The tick of an activation or of a time-triggered routine.
+    fn take_on_stack<L: Ledger>(
+        &mut self,
+        config: &ConfigParts,
+        script: &ScriptParts,
+        runner: Runner,
+        who: Owner,
+        steps: &mut Steps<L>,
+    ) -> Taken
+        requires can { CanTick config.now script.now self.old }
+        requires runs { runner ≡ runner_of config.now self.old.world }
+        requires owns { who ≡ owner_of config.now self.old.world runner }
+        requires on_stack { IsOnStack runner }
+        ensures took { Took config.now script.now runner self.old.world result self.new.world }
+        ensures beside { self.new.beside ≡ self.old.beside }
+        ensures counted { steps.new ≡ steps.old + 1 }
+    {
+        let progress = self.stack.advance(1, &mut self.env, steps);
+        let codes = self.stack.codes();
+        let effected = do_effect(
+            progress.effect,
+            who,
+            self.tick,
+            &mut self.round,
+            &mut self.osek,
+            codes,
+        );
+        Taken {
+            did: effected.did,
+            ended: progress.ended,
+        }
+    }
+
+    /// The tick of an OSEK task or of a routine of the OSEK subsystem.
+    fn take_in_idle_time<L: Ledger>(
+        &mut self,
+        config: &ConfigParts,
+        script: &ScriptParts,
+        runner: Runner,
+        who: Owner,
+        steps: &mut Steps<L>,
+    ) -> Taken
+        requires can { CanTick config.now script.now self.old }
+        requires runs { runner ≡ runner_of config.now self.old.world }
+        requires owns { who ≡ owner_of config.now self.old.world runner }
+        requires in_idle_time { IsInIdleTime runner }
+        ensures took { Took config.now script.now runner self.old.world result self.new.world }
+        ensures beside { self.new.beside ≡ self.old.beside }
+        ensures counted { steps.new ≡ steps.old + 1 }
+    {
+        let codes = self.stack.codes();
+        tick_in_idle_time(
+            who,
+            self.tick,
+            &mut self.env,
+            &mut self.round,
+            &mut self.osek,
+            codes,
+            steps,
+        )
+    }
+
+    /// The tick of a runner that is somebody.
+    fn take<L: Ledger>(
+        &mut self,
+        config: &ConfigParts,
+        script: &ScriptParts,
+        runner: Runner,
+        who: Owner,
+        steps: &mut Steps<L>,
+    ) -> Taken
+        requires can { CanTick config.now script.now self.old }
+        requires runs { runner ≡ runner_of config.now self.old.world }
+        requires owns { who ≡ owner_of config.now self.old.world runner }
+        ensures took { Took config.now script.now runner self.old.world result self.new.world }
+        ensures beside { self.new.beside ≡ self.old.beside }
+        ensures counted { steps.new ≡ steps.old + 1 }
+    {
+        match runner {
+            Runner::Isr(_) => self.take_on_stack(config, script, runner, who, steps),
+            Runner::Job(_) => self.take_on_stack(config, script, runner, who, steps),
+            Runner::Oisr(_) => self.take_in_idle_time(config, script, runner, who, steps),
+            Runner::Osek(_) => self.take_in_idle_time(config, script, runner, who, steps),
+            Runner::Nobody => {
+                steps.tick();
+                Taken {
+                    did: Did::Nothing,
+                    ended: true,
+                }
+            }
+        }
+    }
+
+    /// Tells what a tick did, and does what follows from it.
+    fn tell_did<R: Recorder + Drop>(
+        &mut self,
+        config: &ConfigParts,
+        who: Owner,
+        did: Did,
+        log: &mut Log<R>,
+    ) -> Option<RunEnd>
+        requires { IsConfig config.now }
+        ensures gives { Gives (Tells R.Recorder) log.old log.new self.new.world result
+            (follows config.now who did self.old.world) }
+        ensures beside { self.new.beside ≡ self.old.beside }
+    {
+        let at = self.tick;
+        match did {
+            Did::Nothing => None,
+            Did::Out(value) => {
+                log.tell(Event::Out {
+                    at,
+                    owner: who,
+                    value,
+                });
+                None
+            }
+            Did::Called(call, result) => {
+                log.tell(Event::Called {
+                    at,
+                    owner: who,
+                    call,
+                    result,
+                });
+                if !is_shutdown(call) {
+                    return None;
+                }
+                Some(self.shut_down(config, RunEnd::Shutdown, log))
+            }
+        }
+    }
+
+    /// The tick is over: the end of an owner that has ended is told, and the tick is raised.
+    fn end_tick<R: Recorder + Drop>(&mut self, who: Owner, ended: bool, log: &mut Log<R>)
+        requires { self.old.world.tick + 1 < 2 ^ 64 }
+        ensures gives { Gives (Tells R.Recorder) log.old log.new self.new.world None
+            (tick_over who ended self.old.world) }
+        ensures beside { self.new.beside ≡ self.old.beside }
+    {
+        self.tick += 1;
+        self.last = Some(who);
+        if ended {
+            log.tell(Event::End {
+                at: self.tick,
+                owner: who,
+            });
+        }
+    }
+
+    /// Tells the owner of the tick where it is another than that of the tick before.
+    fn tell_run<R: Recorder + Drop>(&self, who: Owner, log: &mut Log<R>)
+        ensures { Tells R.Recorder log.old (run_line self.now.world who) log.new }
+    {
+        if !ran_before(self.last, who) {
+            log.tell(Event::Run { at: self.tick, who });
+        }
+    }
+
+    /// The tick of the one who runs, who is this one.
+    fn step<R: Recorder + Drop, L: Ledger>(
+        &mut self,
+        config: &ConfigParts,
+        script: &ScriptParts,
+        runner: Runner,
+        log: &mut Log<R>,
+        steps: &mut Steps<L>,
+    ) -> Ticked
+        requires can { CanTick config.now script.now self.old }
+        requires runs { runner ≡ runner_of config.now self.old.world }
+        ensures gives { Gives (Tells R.Recorder) log.old log.new self.new.world result.end
+            (step config.now script.now self.old.world) }
+        ensures ended { result.ended ≡ owner_ends config.now script.now self.old.world }
+        ensures beside { self.new.beside ≡ self.old.beside }
+        ensures counted { steps.new ≡ steps.old + 1 }
+    {
+        let who = self.owner(config, runner);
+        self.tell_run(who, log);
+        let taken = self.take(config, script, runner, who, steps);
+        let end = self.tell_did(config, who, taken.did, log);
+        let ended = somebody_ended(runner, taken.ended);
+        if let Some(_end) = end {
+            return Ticked { end, ended };
+        }
+        self.end_tick(who, ended, log);
+        Ticked { end: None, ended }
+    }
+
+    /// One tick of the one who runs.
+    pub(crate) fn take_tick<R: Recorder + Drop, L: Ledger>(
+        &mut self,
+        config: &ConfigParts,
+        script: &ScriptParts,
+        log: &mut Log<R>,
+        steps: &mut Steps<L>,
+    ) -> Ticked
+        requires { CanTick config.now script.now self.old }
+        ensures gives { Gives (Tells R.Recorder) log.old log.new self.new.world result.end
+            (step config.now script.now self.old.world) }
+        ensures ended { result.ended ≡ owner_ends config.now script.now self.old.world }
+        ensures beside { self.new.beside ≡ self.old.beside }
+        ensures counted { steps.new ≡ steps.old + 1 }
+    {
+        let runner = self.runner(config);
+        self.step(config, script, runner, log, steps)
+    }
+}
