@@ -29,7 +29,8 @@ fewer_ticks now lists i due =
     (λ (l : i < length lists).
     let all = sum_by-set length lists i (drop 1 (get_or lists i [])) [] l in
     let one = one_less (get_or lists i []) due in omega arith)
-    (λ (g : length lists ≤ i). absurd (true≢false (sym due ∙ ap (is_next now) (get_or_past lists i [] g)))) (cases_lt i (length lists))
+    (λ (g : length lists ≤ i). absurd (true≢false (sym due ∙ ap (is_next now) (get_or_past lists i [] g))))
+        (cases_lt i (length lists))
   where
     one_less : (ticks : List ℕ) → is_next now ticks ≡ true → length (drop 1 ticks) < length ticks
     one_less [] e = cc
@@ -54,7 +55,8 @@ fewer_left now g arrived e =
     of_source (IsrSource isr) due = let less = fewer_ticks now g.isrs_left isr.0 due in omega arith
     of_source (OisrSource oisr) due = let less = fewer_ticks now g.oisrs_left oisr.0 due in omega arith
 
-pub fewer_held : (busy : BusySources) (g : Window) (who : Owner) → Some who ≡ option_map source_owner (first_ready busy g)
+pub fewer_held : (busy : BusySources) (g : Window) (who : Owner)
+    → Some who ≡ option_map source_owner (first_ready busy g)
     → held_in (accepting (first_ready busy g) g) < held_in g
 fewer_held busy g who e =
     let found = found_some source_owner (first_ready busy g) who e in

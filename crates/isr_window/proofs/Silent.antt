@@ -17,7 +17,8 @@ chain_silent part (x ∷ xs) d w silent =
     ∙ chain_silent part xs d w (λ k below. silent (suc k) (omega arith))
 
 -- a part that does this
-pub gives_this : {L : Type 0} {Told : L → List Event → L → Type 0} (b d : L) (w : World) (events : List Event) (m : Moved)
+pub gives_this : {L : Type 0} {Told : L → List Event → L → Type 0} (b d : L) (w : World) (events : List Event)
+    (m : Moved)
     → m ≡ goes_on w events → Told b events d → Gives Told b d w None m
 gives_this {Told = Told} b d w events m is told = subst (Gives Told b d w None) (sym is)
     (record { world_is = refl; told = told; end_is = refl })
@@ -26,7 +27,8 @@ module _ {L : Type 0} {Told : L → List Event → L → Type 0} (telling : IsTe
   -- for a loop: parts that have nothing to do are passed
   pub gives_past : {X : Type 0} (part : X → World → Moved) (xs : List X) (d : X) (i n : ℕ) (a b : L)
       (u w : World) → i + n ≤ length xs → ((k : ℕ) → i ≤ k → k < i + n → part (get_or xs k d) w ≡ goes_on w [])
-      → Gives Told a b w None (chain (map part (take i xs)) u) → Gives Told a b w None (chain (map part (take (i + n) xs)) u)
+      → Gives Told a b w None (chain (map part (take i xs)) u)
+      → Gives Told a b w None (chain (map part (take (i + n) xs)) u)
   gives_past part xs d i zero a b u w within silent g =
       subst (λ k. Gives Told a b w None (chain (map part (take k xs)) u)) (omega arith) g
   gives_past part xs d i (suc n) a b u w within silent g =

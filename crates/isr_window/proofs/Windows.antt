@@ -1,6 +1,6 @@
 -- The sources after an arrival or an acceptance at one of them.
-use Rattle.std.proofs.Common.{◌≡◌, ◌≢◌, Bool, true, false, List, [], length, length-set, get_or, set, drop, refl, sym, ap, ◌∙◌, arith}
-use Rattle.std.specs.Prelude.{Option, None, Some}
+use Rattle.std.proofs.Common.{◌≡◌, ◌≢◌, Bool, true, false, List, [], get_or, set, drop, refl, sym, ap, ◌∙◌, arith}
+use Rattle.std.specs.Prelude.{Some}
 use Rattle.std.proofs.lemmas.List.{get_or-set_same, get_or-set_other, set-get_or}
 use Rattle.tt_world.specs.declared.config.ConfigParts.{ConfigParts}
 use Rattle.tt_world.specs.World.{World, Source, IsrSource, OisrSource}
@@ -90,10 +90,3 @@ pub accepting_is : (w : World) (g : Window) (x : Source)
     → disabling (holding (with_window w g) x false) x ≡ with_window w (accepting (Some x) g)
 accepting_is w g (IsrSource x) = refl
 accepting_is w g (OisrSource x) = refl
-
--- the same of an acceptance
-pub length-accepting : (found : Option Source) (g : Window)
-    → length (accepting found g).isrs_enabled ≡ length g.isrs_enabled
-length-accepting None g = refl
-length-accepting (Some (IsrSource x)) g = length-set g.isrs_enabled x.0 false
-length-accepting (Some (OisrSource x)) g = refl

@@ -1,7 +1,6 @@
 -- What a change of one frame makes of the subsystem.
-use Rattle.std.proofs.Common.{◌≡◌, ℕ, Bool, true, false, List, [], ◌∷◌, ◌++◌, length, take, drop, Option, None, Some, refl, sym, ap, ◌∙◌}
+use Rattle.std.proofs.Common.{◌≡◌, ℕ, Bool, true, false, List, [], ◌∷◌, ◌++◌, Option, None, Some, sym, ap, ◌∙◌}
 use Rattle.std.specs.Prelude.{slice_index_or, slice_set, ◌==◌, if◌then◌else◌}
-use Rattle.std.specs.List.{refill}
 use Rattle.std.specs.Option.{option_map}
 use Rattle.std.proofs.lemmas.Bool.{ne_eqb}
 use Rattle.task_lang.specs.declared.syntax.Stmt.{Stmt}
@@ -12,24 +11,19 @@ use Rattle.osek_idle.specs.Standing.{frames, states, slot_left}
 use Rattle.osek_idle.specs.declared.slot.Slot.{Slot}
 use Rattle.osek_idle.proofs.Parts.{states_set, set_here, left_is}
 
-take_front : {X : Type 0} (ws ys : List X) → take (length ws) (ws ++ ys) ≡ ws
-take_front [] ys = refl
-take_front (w ∷ ws) ys = ap (λ zs. w ∷ zs) (take_front ws ys)
-
--- a list that is written over by one of its length is that one
-pub refill_same : {X : Type 0} (xs ws : List X) → length ws ≡ length xs → refill (length xs) xs ws ≡ ws
-refill_same xs ws same = ap (λ n. take n (ws ++ drop (length ws) xs)) (sym same) ∙ take_front ws (drop (length ws) xs)
-
-pub states_are : (codes : List (List Stmt)) (fs' fs : List (Option Frame)) (n : ℕ) (f : Option Frame) → fs' ≡ slice_set fs n f
+pub states_are : (codes : List (List Stmt)) (fs' fs : List (Option Frame)) (n : ℕ) (f : Option Frame)
+    → fs' ≡ slice_set fs n f
     → states codes fs' ≡ slice_set (states codes fs) n (option_map (left_of codes) f)
 states_are codes fs' fs n f is = ap (states codes) is ∙ states_set codes fs n f
 
 pub with_tasks : (a b routines : List (Option (List Stmt))) → a ≡ b
-    → (let s : Subsystem = record { tasks = a; routines = routines } in s) ≡ (let s : Subsystem = record { tasks = b; routines = routines } in s)
+    → (let s : Subsystem = record { tasks = a; routines = routines } in s)
+    ≡ (let s : Subsystem = record { tasks = b; routines = routines } in s)
 with_tasks a b routines is = ap (λ xs. let s : Subsystem = record { tasks = xs; routines = routines } in s) is
 
 pub with_routines : (tasks a b : List (Option (List Stmt))) → a ≡ b
-    → (let s : Subsystem = record { tasks = tasks; routines = a } in s) ≡ (let s : Subsystem = record { tasks = tasks; routines = b } in s)
+    → (let s : Subsystem = record { tasks = tasks; routines = a } in s)
+    ≡ (let s : Subsystem = record { tasks = tasks; routines = b } in s)
 with_routines tasks a b is = ap (λ xs. let s : Subsystem = record { tasks = tasks; routines = xs } in s) is
 
 -- ---- services
@@ -41,10 +35,12 @@ limit ready found same is = sym (ap result_of (sym same ∙ is))
 pub ok : (ready found : Bool) → found ≡ ready → found ≡ false → 0 ≡ result_of ready
 ok ready found same is = sym (ap result_of (sym same ∙ is))
 
-pub chosen_first : {X : Type 0} (a b : X) (ready found : Bool) → found ≡ ready → found ≡ true → a ≡ (if ready then a else b)
+pub chosen_first : {X : Type 0} (a b : X) (ready found : Bool) → found ≡ ready → found ≡ true
+    → a ≡ (if ready then a else b)
 chosen_first a b ready found same is = sym (ap (λ r. if r then a else b) (sym same ∙ is))
 
-pub chosen_second : {X : Type 0} (a b : X) (ready found : Bool) → found ≡ ready → found ≡ false → b ≡ (if ready then a else b)
+pub chosen_second : {X : Type 0} (a b : X) (ready found : Bool) → found ≡ ready → found ≡ false
+    → b ≡ (if ready then a else b)
 chosen_second a b ready found same is = sym (ap (λ r. if r then a else b) (sym same ∙ is))
 
 -- another task than the caller
@@ -53,10 +49,13 @@ other_task a b caller task other = sym (ap (λ r. if r then a else b) (ne_eqb ca
 
 -- ---- ticks of one
 
-module _ (codes : List (List Stmt)) (slots slots' : List Slot) (n : ℕ) (f f' : Frame) (here : slice_index_or (frames slots) n None ≡ Some f)
+module _ (codes : List (List Stmt)) (slots slots' : List Slot) (n : ℕ) (f f' : Frame)
+    (here : slice_index_or (frames slots) n None ≡ Some f)
     (set : frames slots' ≡ slice_set (frames slots) n (Some f')) where
   pub new_left : slot_left codes slots' n ≡ left_of codes f'
   new_left = left_is codes slots' n f' (ap (λ fs. slice_index_or fs n None) set ∙ set_here (frames slots) n f f' here)
 
-  pub others_stay : states codes (frames slots') ≡ slice_set (states codes (frames slots)) n (Some (slot_left codes slots' n))
-  others_stay = states_are codes (frames slots') (frames slots) n (Some f') set ∙ ap (λ l. slice_set (states codes (frames slots)) n (Some l)) (sym new_left)
+  pub others_stay : states codes (frames slots')
+      ≡ slice_set (states codes (frames slots)) n (Some (slot_left codes slots' n))
+  others_stay = states_are codes (frames slots') (frames slots) n (Some f') set
+      ∙ ap (λ l. slice_set (states codes (frames slots)) n (Some l)) (sym new_left)

@@ -17,7 +17,8 @@ module _ (codes more : List (List Stmt)) where
   one_sound None sound = sound
   one_sound (Some f) sound = (stands f sound).sound
 
-  one_same : (f : Option Frame) → IfSome f (IsSoundFrame codes) → option_map (left_of (codes ++ more)) f ≡ option_map (left_of codes) f
+  one_same : (f : Option Frame) → IfSome f (IsSoundFrame codes)
+      → option_map (left_of (codes ++ more)) f ≡ option_map (left_of codes) f
   one_same None sound = refl
   one_same (Some f) sound = ap Some (stands f sound).left
 
@@ -40,6 +41,8 @@ grows codes more osek sound = (
     tasks = all_sound codes more (frames osek.tasks.items) sound.tasks;
     routines = all_sound codes more (frames osek.routines.items) sound.routines;
   },
-  ap (λ xs. record { tasks = xs; routines = states (codes ++ more) (frames osek.routines.items) }) (all_same codes more (frames osek.tasks.items) sound.tasks)
-      ∙ ap (λ xs. record { tasks = states codes (frames osek.tasks.items); routines = xs }) (all_same codes more (frames osek.routines.items) sound.routines),
+  ap (λ xs. record { tasks = xs; routines = states (codes ++ more) (frames osek.routines.items) })
+      (all_same codes more (frames osek.tasks.items) sound.tasks)
+      ∙ ap (λ xs. record { tasks = states codes (frames osek.tasks.items); routines = xs })
+          (all_same codes more (frames osek.routines.items) sound.routines),
 )

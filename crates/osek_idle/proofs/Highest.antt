@@ -24,16 +24,20 @@ all_seen slots =
     let z : length slots - 0 ≡ length (frames slots) = omega (arith, length-map slots (λ (slot : Slot). slot.frame)) in
     ap (λ n. filter (λ (k : ℕ). is_ready (frames slots) k) (range_with_len 0 n)) z
 
-longer : (slots : List Slot) (n m : ℕ) → m ≡ n + 1 → n < length slots → range_with_len n (length slots - n) ≡ n ∷ range_with_len m (length slots - m)
+longer : (slots : List Slot) (n m : ℕ) → m ≡ n + 1 → n < length slots
+    → range_with_len n (length slots - n) ≡ n ∷ range_with_len m (length slots - m)
 longer slots n m e l =
     let z : length slots - n ≡ suc (length slots - m) = omega arith in
     rw (z, e) refl
 
-pub one_more : (slots : List Slot) (n m : ℕ) → m ≡ n + 1 → n < length slots → is_some (slice_index_or (frames slots) n None) ≡ true
-    → highest (priorities slots) (ready_from slots n) ≡ Some (higher (priorities slots) n (highest (priorities slots) (ready_from slots m)))
+pub one_more : (slots : List Slot) (n m : ℕ) → m ≡ n + 1 → n < length slots
+    → is_some (slice_index_or (frames slots) n None) ≡ true
+    → highest (priorities slots) (ready_from slots n)
+    ≡ Some (higher (priorities slots) n (highest (priorities slots) (ready_from slots m)))
 unfolding highest
 one_more slots n m e l u = rw (longer slots n m e l, u) refl
 
-pub none_more : (slots : List Slot) (n m : ℕ) → m ≡ n + 1 → n < length slots → is_some (slice_index_or (frames slots) n None) ≡ false
+pub none_more : (slots : List Slot) (n m : ℕ) → m ≡ n + 1 → n < length slots
+    → is_some (slice_index_or (frames slots) n None) ≡ false
     → ready_from slots n ≡ ready_from slots m
 none_more slots n m e l u = rw (longer slots n m e l, u) refl

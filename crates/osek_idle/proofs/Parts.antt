@@ -1,17 +1,17 @@
 -- The frames of the subsystem one by one.
-use Rattle.std.proofs.Common.{◌≡◌, ℕ, zero, suc, ◌≤◌, ◌<◌, List, [], ◌∷◌, length, Option, None, Some, IfSome, refl, ap, subst, ◌∙◌, arith}
+use Rattle.std.proofs.Common.{◌≡◌, ℕ, zero, suc, ◌≤◌, ◌<◌, List, [], ◌∷◌, length, Option, None, Some, refl, ap, ◌∙◌}
 use Rattle.std.specs.Prelude.{filter, slice_index_or, slice_set}
 use Rattle.std.specs.List.{range_with_len}
 use Rattle.std.specs.Option.{is_some, option_map}
 use Rattle.std.proofs.lemmas.List.{length-map, map-set}
 use Rattle.std.proofs.Math.Seq.{map-set_same}
-use Rattle.std.proofs.lemmas.List.Elements.{All-set, filter_agree}
+use Rattle.std.proofs.lemmas.List.Elements.{filter_agree}
 use Rattle.task_lang.specs.declared.syntax.Stmt.{Stmt}
 use Rattle.task_machine.specs.declared.frame.Frame.{Frame}
-use Rattle.task_machine.specs.Standing.{left_of, IsSound as IsSoundFrame}
+use Rattle.task_machine.specs.Standing.{left_of}
 use Rattle.osek_idle.specs.Subsystem.{is_ready, ready_numbers, left_in, picked, routine_first}
 use Rattle.tt_world.specs.Runners.{highest}
-use Rattle.osek_idle.specs.Standing.{priorities, frames, states, AreSound, slot_left, subsystem_of, setup_of}
+use Rattle.osek_idle.specs.Standing.{priorities, frames, states, slot_left, subsystem_of, setup_of}
 use Rattle.osek_idle.specs.declared.slot.Slot.{Slot}
 use Rattle.osek_idle.specs.declared.subsystem.Osek.{Osek}
 
@@ -20,56 +20,33 @@ no_slot = record { priority = 0; frame = None }
 
 -- ---- one of them
 
-pub frame_index : (slots : List Slot) (n : ℕ) (d : Slot) → n < length slots → slice_index_or (frames slots) n None ≡ (slice_index_or slots n d).frame
-frame_index [] n d within = absurd (omega arith)
-frame_index (slot ∷ slots) zero d within = refl
-frame_index (slot ∷ slots) (suc n) d within = frame_index slots n d (omega arith)
-
 pub state_at : (codes : List (List Stmt)) (fs : List (Option Frame)) (n : ℕ)
     → slice_index_or (states codes fs) n None ≡ option_map (left_of codes) (slice_index_or fs n None)
 state_at codes [] n = refl
 state_at codes (f ∷ fs) zero = refl
 state_at codes (f ∷ fs) (suc n) = state_at codes fs n
 
-some_within : (fs : List (Option Frame)) (n : ℕ) (f : Frame) → slice_index_or fs n None ≡ Some f → n < length fs
-some_within [] n f is = cc
-some_within (g ∷ fs) zero f is = omega arith
-some_within (g ∷ fs) (suc n) f is = omega (arith, some_within fs n f is)
-
-pub sound_at : (codes : List (List Stmt)) (fs : List (Option Frame)) (n : ℕ) (f : Frame) → AreSound codes fs → slice_index_or fs n None ≡ Some f → IsSoundFrame codes f
-sound_at codes fs n f sound is =
-    let P : Option Frame → Type 0 = λ g. IfSome g (IsSoundFrame codes) in
-    subst P is (sound n None (some_within fs n f is))
-
 -- what is left of one that has a frame
-pub left_is : (codes : List (List Stmt)) (slots : List Slot) (n : ℕ) (f : Frame) → slice_index_or (frames slots) n None ≡ Some f → slot_left codes slots n ≡ left_of codes f
+pub left_is : (codes : List (List Stmt)) (slots : List Slot) (n : ℕ) (f : Frame)
+    → slice_index_or (frames slots) n None ≡ Some f → slot_left codes slots n ≡ left_of codes f
 left_is codes slots n f is = ap left_in (state_at codes (frames slots) n ∙ ap (option_map (left_of codes)) is)
-
-pub none_left : (codes : List (List Stmt)) (slots : List Slot) (n : ℕ) → slice_index_or (frames slots) n None ≡ None → slot_left codes slots n ≡ []
-none_left codes slots n is = ap left_in (state_at codes (frames slots) n ∙ ap (option_map (left_of codes)) is)
 
 -- ---- one is changed
 
-pub slots_set : (slots : List Slot) (n : ℕ) (d slot : Slot) → slot.priority ≡ (slice_index_or slots n d).priority → priorities (slice_set slots n slot) ≡ priorities slots
+pub slots_set : (slots : List Slot) (n : ℕ) (d slot : Slot) → slot.priority ≡ (slice_index_or slots n d).priority
+    → priorities (slice_set slots n slot) ≡ priorities slots
 slots_set slots n d slot same = map-set_same (λ (s : Slot). s.priority) slots n slot d same
 
-pub frames_set : (slots : List Slot) (n : ℕ) (slot : Slot) → frames (slice_set slots n slot) ≡ slice_set (frames slots) n slot.frame
+pub frames_set : (slots : List Slot) (n : ℕ) (slot : Slot)
+    → frames (slice_set slots n slot) ≡ slice_set (frames slots) n slot.frame
 frames_set slots n slot = map-set (λ (s : Slot). s.frame) slots n slot
-
-pub frames_past : (fs : List (Option Frame)) (n : ℕ) (f : Option Frame) → length fs ≤ n → slice_set fs n f ≡ fs
-frames_past [] n f past = refl
-frames_past (g ∷ fs) zero f past = absurd (omega arith)
-frames_past (g ∷ fs) (suc n) f past = ap (λ gs. g ∷ gs) (frames_past fs n f (omega arith))
 
 pub states_set : (codes : List (List Stmt)) (fs : List (Option Frame)) (n : ℕ) (f : Option Frame)
     → states codes (slice_set fs n f) ≡ slice_set (states codes fs) n (option_map (left_of codes) f)
 states_set codes fs n f = map-set (option_map (left_of codes)) fs n f
 
-pub sound_set : (codes : List (List Stmt)) (fs : List (Option Frame)) (n : ℕ) (f : Option Frame) → IfSome f (IsSoundFrame codes) → AreSound codes fs
-    → AreSound codes (slice_set fs n f)
-sound_set codes fs n f sound all = All-set (λ (g : Option Frame). IfSome g (IsSoundFrame codes)) fs n f sound all
-
-pub set_here : (fs : List (Option Frame)) (n : ℕ) (f g : Frame) → slice_index_or fs n None ≡ Some f → slice_index_or (slice_set fs n (Some g)) n None ≡ Some g
+pub set_here : (fs : List (Option Frame)) (n : ℕ) (f g : Frame) → slice_index_or fs n None ≡ Some f
+    → slice_index_or (slice_set fs n (Some g)) n None ≡ Some g
 set_here [] n f g is = cc
 set_here (h ∷ fs) zero f g is = refl
 set_here (h ∷ fs) (suc n) f g is = set_here fs n f g is
@@ -80,13 +57,17 @@ some_same : {A B : Type 0} (g : A → B) (o : Option A) → is_some (option_map 
 some_same g None = refl
 some_same g (Some a) = refl
 
-pub ready_same : (codes : List (List Stmt)) (fs : List (Option Frame)) (n : ℕ) → is_ready (states codes fs) n ≡ is_ready fs n
+pub ready_same : (codes : List (List Stmt)) (fs : List (Option Frame)) (n : ℕ)
+    → is_ready (states codes fs) n ≡ is_ready fs n
 ready_same codes fs n = ap is_some (state_at codes fs n) ∙ some_same (left_of codes) (slice_index_or fs n None)
 
-pub numbers_same : (codes : List (List Stmt)) (fs : List (Option Frame)) → ready_numbers (states codes fs) ≡ ready_numbers fs
+pub numbers_same : (codes : List (List Stmt)) (fs : List (Option Frame))
+    → ready_numbers (states codes fs) ≡ ready_numbers fs
 numbers_same codes fs =
-    filter_agree (λ (n : ℕ). is_ready (states codes fs) n) (λ (n : ℕ). is_ready fs n) (ready_same codes fs) (range_with_len 0 (length (states codes fs)))
-    ∙ ap (λ (n : ℕ). filter (λ (k : ℕ). is_ready fs k) (range_with_len 0 n)) (length-map fs (option_map (left_of codes)))
+    filter_agree (λ (n : ℕ). is_ready (states codes fs) n) (λ (n : ℕ). is_ready fs n) (ready_same codes fs)
+        (range_with_len 0 (length (states codes fs)))
+    ∙ ap (λ (n : ℕ). filter (λ (k : ℕ). is_ready fs k) (range_with_len 0 n))
+        (length-map fs (option_map (left_of codes)))
 
 -- the one who is picked, from the frames
 pub picked_is : (codes : List (List Stmt)) (osek : Osek)
@@ -94,7 +75,9 @@ pub picked_is : (codes : List (List Stmt)) (osek : Osek)
     ≡ routine_first (highest (priorities osek.routines.items) (ready_numbers (frames osek.routines.items)))
     (highest (priorities osek.tasks.items) (ready_numbers (frames osek.tasks.items)))
 picked_is codes osek =
-    ap (λ k. routine_first (highest (priorities osek.routines.items) k) (highest (priorities osek.tasks.items) (ready_numbers (states codes (frames osek.tasks.items)))))
+    ap (λ k. routine_first (highest (priorities osek.routines.items) k)
+        (highest (priorities osek.tasks.items) (ready_numbers (states codes (frames osek.tasks.items)))))
     (numbers_same codes (frames osek.routines.items))
-    ∙ ap (λ k. routine_first (highest (priorities osek.routines.items) (ready_numbers (frames osek.routines.items))) (highest (priorities osek.tasks.items) k))
+    ∙ ap (λ k. routine_first (highest (priorities osek.routines.items) (ready_numbers (frames osek.routines.items)))
+        (highest (priorities osek.tasks.items) k))
     (numbers_same codes (frames osek.tasks.items))

@@ -16,17 +16,20 @@ abbrev pub AreSettled : List (Option (List Stmt)) → Type 0
 AreSettled states = All (λ (state : Option (List Stmt)). IfSome state (λ left. left ≢ [])) states
 
 -- what is left at a number
-pub left_at : (states : List (Option (List Stmt))) (n : ℕ) → slice_index_or (lefts states) n [] ≡ left_in (slice_index_or states n None)
+pub left_at : (states : List (Option (List Stmt))) (n : ℕ)
+    → slice_index_or (lefts states) n [] ≡ left_in (slice_index_or states n None)
 left_at [] n = refl
 left_at (state ∷ states) zero = refl
 left_at (state ∷ states) (suc n) = left_at states n
 
-one_done : (state : Option (List Stmt)) → IfSome state (λ left. left ≢ []) → is_some state ≡ not (is_done (left_in state))
+one_done : (state : Option (List Stmt)) → IfSome state (λ left. left ≢ [])
+    → is_some state ≡ not (is_done (left_in state))
 one_done None settled = refl
 one_done (Some []) settled = absurd (settled refl)
 one_done (Some (front ∷ rest)) settled = refl
 
-settled_at : (states : List (Option (List Stmt))) (n : ℕ) → AreSettled states → IfSome (slice_index_or states n None) (λ left. left ≢ [])
+settled_at : (states : List (Option (List Stmt))) (n : ℕ) → AreSettled states
+    → IfSome (slice_index_or states n None) (λ left. left ≢ [])
 settled_at [] n settled = tt
 settled_at (state ∷ states) zero settled = settled 0 None (omega arith)
 settled_at (state ∷ states) (suc n) settled = settled_at states n (λ k d within. settled (suc k) d (omega arith))
@@ -35,24 +38,29 @@ settled_at (state ∷ states) (suc n) settled = settled_at states n (λ k d with
 pub ready_at : (states : List (Option (List Stmt))) (n : ℕ) → AreSettled states
     → is_ready states n ≡ not (is_done (slice_index_or (lefts states) n []))
 ready_at states n settled =
-    one_done (slice_index_or states n None) (settled_at states n settled) ∙ ap (λ l. not (is_done l)) (sym (left_at states n))
+    one_done (slice_index_or states n None) (settled_at states n settled)
+        ∙ ap (λ l. not (is_done l)) (sym (left_at states n))
 
-numbers_are : (states : List (Option (List Stmt))) → AreSettled states → ready_numbers states ≡ unfinished (lefts states)
+numbers_are : (states : List (Option (List Stmt))) → AreSettled states
+    → ready_numbers states ≡ unfinished (lefts states)
 numbers_are states settled =
     filter_agree (λ (n : ℕ). is_ready states n) (λ (n : ℕ). not (is_done (slice_index_or (lefts states) n [])))
     (λ n. ready_at states n settled)
     (range_with_len 0 (length states))
-    ∙ ap (λ (k : ℕ). filter (λ (n : ℕ). not (is_done (slice_index_or (lefts states) n []))) (range_with_len 0 k)) (sym (length-map states left_in))
+    ∙ ap (λ (k : ℕ). filter (λ (n : ℕ). not (is_done (slice_index_or (lefts states) n []))) (range_with_len 0 k))
+        (sym (length-map states left_in))
 
 runners : (routine task : Option ℕ) → runner_in (routine_first routine task)
-    ≡ first_runner (option_map (λ (number : ℕ). Oisr (record { 0 = number })) routine ∷ option_map (λ (number : ℕ). Osek (record { 0 = number })) task ∷ [])
+    ≡ first_runner (option_map (λ (number : ℕ). Oisr (record { 0 = number })) routine ∷ option_map
+        (λ (number : ℕ). Osek (record { 0 = number })) task ∷ [])
 runners (Some routine) task = refl
 runners None (Some task) = refl
 runners None None = refl
 
 pub picks_are : PicksAreTheRunners
 picks_are c w setup s of =
-    let routines : highest setup.routines (ready_numbers s.routines) ≡ highest (oisr_priorities c) (unfinished w.oisrs) =
+    let routines : highest setup.routines (ready_numbers s.routines)
+        ≡ highest (oisr_priorities c) (unfinished w.oisrs) =
     ap (λ p. highest p (ready_numbers s.routines)) of.routine_priorities
     ∙ ap (highest (oisr_priorities c)) (numbers_are s.routines of.settled.routines ∙ ap unfinished (sym of.routines)) in
     let tasks : highest setup.tasks (ready_numbers s.tasks) ≡ highest (osek_priorities c) (unfinished w.oseks) =

@@ -1,5 +1,6 @@
--- The tasks and routines of the OSEK subsystem: what is left of each, and what a service makes of them. The OSEK/VDX standard: the operating
--- system's conformance class BCC1. That the routines stand above the tasks is the bench's own.
+-- The tasks and routines of the OSEK subsystem: what is left of each, and what a service makes of them. The OSEK/VDX
+-- standard: the operating system's conformance class BCC1. That the routines stand above the tasks is the bench's
+-- own.
 use Rattle.std.specs.Prelude.{◌≢◌, ℕ, ◌==◌, Bool, List, [], length, map, filter, Option, None, Some, if◌then◌else◌, IfSome, slice_index_or, slice_set}
 use Rattle.std.specs.List.{All, range_with_len}
 use Rattle.std.specs.Option.{is_some}
@@ -11,7 +12,8 @@ use Rattle.tt_world.specs.declared.config.ConfigParts.{ConfigParts}
 use Rattle.tt_world.specs.declared.config.OsekDef.{OsekDef}
 use Rattle.tt_world.specs.declared.config.OisrDef.{OisrDef}
 
--- what is left of each task that is ready, and of each routine that is unfinished. Between its last tick and its end that is nothing.
+-- what is left of each task that is ready, and of each routine that is unfinished. Between its last tick and its end
+-- that is nothing.
 pub record Subsystem : Type 0 where
   pub tasks : List (Option (List Stmt))
   pub routines : List (Option (List Stmt))
@@ -56,7 +58,8 @@ routine_first None None = None
 
 -- the unfinished routine of the highest priority, else the ready task of the highest priority
 abbrev pub picked : Setup → Subsystem → Option Owner
-picked setup s = routine_first (highest setup.routines (ready_numbers s.routines)) (highest setup.tasks (ready_numbers s.tasks))
+picked setup s = routine_first (highest setup.routines (ready_numbers s.routines))
+    (highest setup.tasks (ready_numbers s.tasks))
 
 -- what is left of an owner
 abbrev pub owner_left : Subsystem → Option Owner → List Stmt

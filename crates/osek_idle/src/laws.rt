@@ -7,8 +7,8 @@ pub fn osek_codes_may_grow()
     ensures { CodesMayGrow }
 {}
 
-/// Between two ticks the one that is picked is the one whom the definitions of a run pick among the routines and tasks of the
-/// subsystem.
+/// Between two ticks the one that is picked is the one whom the definitions of a run pick among
+/// the routines and tasks of the subsystem.
 pub fn picks_are_the_runners()
     ensures { PicksAreTheRunners }
 {}

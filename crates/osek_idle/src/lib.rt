@@ -1,4 +1,5 @@
-//! The OSEK/VDX subsystem in idle time: basic tasks of conformance class BCC1, and interrupt service routines above them.
+//! The OSEK/VDX subsystem in idle time: basic tasks of conformance class BCC1, and interrupt
+//! service routines above them.
 #![tactic(auto)]
 
 mod laws;

@@ -14,8 +14,8 @@ use arrayvec::ArrayVec;
 use task_machine::{Codes, Env, Frame, Progress, advance};
 use tt_base::{Ledger, Steps};
 
-/// A task or a routine: its priority, of which a larger number is higher, and its frame. A task that is suspended has none, nor has
-/// a routine that is not unfinished.
+/// A task or a routine: its priority, of which a larger number is higher, and its frame. A task
+/// that is suspended has none, nor has a routine that is not unfinished.
 #[derive(Clone, Copy, Debug, Default)]
 pub(crate) struct Slot {
     pub(crate) priority: u8,
@@ -53,8 +53,10 @@ fn write_frame(slots: &mut [Slot], number: u16, frame: Option<Frame>)
     }
 }
 
-/// The number of the one of the highest priority among those that have a frame, the least of equals.
-#[tactic(auto, using(crate::proofs::Highest::none_yet, crate::proofs::Highest::all_seen, crate::proofs::Highest::one_more, crate::proofs::Highest::none_more))]
+/// The number of the one of the highest priority among those that have a frame, the least of
+/// equals.
+#[tactic(auto, using(crate::proofs::Highest::none_yet, crate::proofs::Highest::all_seen,
+    crate::proofs::Highest::one_more, crate::proofs::Highest::none_more))]
 pub(crate) fn highest(slots: &[Slot]) -> Option<u16>
     requires { length slots.now ≤ 32 }
     ensures { result ≡ highest (priorities slots.now) (ready_numbers (frames slots.now)) }
@@ -110,8 +112,10 @@ pub(crate) fn advance_slot<L: Ledger>(
     ensures priorities { priorities slots.new.items ≡ priorities slots.old.items }
     ensures sound { AreSound codes.now (frames slots.new.items) }
     ensures others { states codes.now (frames slots.new.items)
-        ≡ slice_set (states codes.now (frames slots.old.items)) number (Some (slot_left codes.now slots.new.items number)) }
-    ensures ticks { state_of (slot_left codes.now slots.new.items number) env.new.vars env.new.cursors (option_to_list result.effect)
+        ≡ slice_set (states codes.now (frames slots.old.items)) number
+            (Some (slot_left codes.now slots.new.items number)) }
+    ensures ticks { state_of (slot_left codes.now slots.new.items number) env.new.vars
+        env.new.cursors (option_to_list result.effect)
         ≡ ticks (supply_of env.old.demands env.old.values) k
         (state_of (slot_left codes.now slots.old.items number) env.old.vars env.old.cursors []) }
     ensures demands { env.new.demands ≡ env.old.demands }

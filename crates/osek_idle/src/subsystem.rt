@@ -28,12 +28,14 @@ const LIMIT: u8 = 4;
 pub struct Osek {
     tasks: Slots,
     routines: Slots,
-    /// The number of the first task's code. Those of the others follow, and then those of the routines.
+    /// The number of the first task's code. Those of the others follow, and then those of the
+    /// routines.
     first: u16,
 }
 
 impl Osek {
-    /// Before the first tick: the tasks with the auto mark are ready, and all others suspended. It takes no memory.
+    /// Before the first tick: the tasks with the auto mark are ready, and all others suspended. It
+    /// takes no memory.
     pub fn new(config: &Config, codes: &Codes, first: u16) -> Osek
         requires { HaveOsek codes.now first config.now }
         ensures setup { setup_of result ≡ setup_for config.now first }
@@ -48,15 +50,18 @@ impl Osek {
         }
     }
 
-    /// ActivateTask: 0, and the task is ready with its whole body; or 4 where it is not suspended, and then nothing has changed.
+    /// ActivateTask: 0, and the task is ready with its whole body; or 4 where it is not suspended,
+    /// and then nothing has changed.
     pub fn activate(&mut self, codes: &Codes, task: OsekNo) -> u8
         requires sound { IsSound codes.now self.old }
         requires exists { task.0 < length (setup_of self.old).tasks }
         ensures setup { setup_of self.new ≡ setup_of self.old }
         ensures sound { IsSound codes.now self.new }
-        ensures result { result ≡ result_of (is_ready (subsystem_of codes.now self.old).tasks task.0) }
+        ensures result { result ≡ result_of
+            (is_ready (subsystem_of codes.now self.old).tasks task.0) }
         ensures state { subsystem_of codes.now self.new
-            ≡ activated (task_body codes.now (setup_of self.old) task.0) task.0 (subsystem_of codes.now self.old) }
+            ≡ activated (task_body codes.now (setup_of self.old) task.0) task.0
+                (subsystem_of codes.now self.old) }
     {
         if self.is_ready(task) {
             return LIMIT;
@@ -65,8 +70,9 @@ impl Osek {
         OK
     }
 
-    /// ChainTask: 0, and the caller is suspended and the task ready with its whole body; or 4 where it is another task than the
-    /// caller and is not suspended, and then nothing has changed.
+    /// ChainTask: 0, and the caller is suspended and the task ready with its whole body; or 4
+    /// where it is another task than the caller and is not suspended, and then nothing has
+    /// changed.
     pub fn chain(&mut self, codes: &Codes, caller: OsekNo, task: OsekNo) -> u8
         requires sound { IsSound codes.now self.old }
         requires exists { task.0 < length (setup_of self.old).tasks }
@@ -74,7 +80,8 @@ impl Osek {
         ensures sound { IsSound codes.now self.new }
         ensures result { result ≡ chain_result caller.0 task.0 (subsystem_of codes.now self.old) }
         ensures state { subsystem_of codes.now self.new
-            ≡ chained (task_body codes.now (setup_of self.old) task.0) caller.0 task.0 (subsystem_of codes.now self.old) }
+            ≡ chained (task_body codes.now (setup_of self.old) task.0) caller.0 task.0
+                (subsystem_of codes.now self.old) }
     {
         if caller.0 == task.0 {
             self.make_ready(codes, task);
@@ -91,7 +98,8 @@ impl Osek {
     /// TerminateTask: 0, and the caller is suspended.
     pub fn terminate(&mut self, caller: OsekNo) -> u8
         ensures setup { setup_of self.new ≡ setup_of self.old }
-        ensures sound { (codes : List (List Stmt)) → IsSound codes self.old → IsSound codes self.new }
+        ensures sound { (codes : List (List Stmt)) → IsSound codes self.old
+            → IsSound codes self.new }
         ensures result { result ≡ 0 }
         ensures state { (codes : List (List Stmt))
             → subsystem_of codes self.new ≡ suspended caller.0 (subsystem_of codes self.old) }
@@ -107,7 +115,8 @@ impl Osek {
         ensures setup { setup_of self.new ≡ setup_of self.old }
         ensures sound { IsSound codes.now self.new }
         ensures state { subsystem_of codes.now self.new
-            ≡ begun (routine_body codes.now (setup_of self.old) oisr.0) oisr.0 (subsystem_of codes.now self.old) }
+            ≡ begun (routine_body codes.now (setup_of self.old) oisr.0) oisr.0
+                (subsystem_of codes.now self.old) }
     {
         let first = codes.number_after(self.first, self.tasks.len() as u16);
         let program = codes.number_after(first, oisr.0);
@@ -120,15 +129,18 @@ impl Osek {
 
     /// Whether a routine is unfinished.
     pub fn unfinished(&self, oisr: OisrNo) -> bool
-        ensures { (codes : List (List Stmt)) → result ≡ is_ready (subsystem_of codes self.now).routines oisr.0 }
+        ensures { (codes : List (List Stmt))
+            → result ≡ is_ready (subsystem_of codes self.now).routines oisr.0 }
     {
         frame_at(self.routines.as_slice(), oisr.0).is_some()
     }
 
-    /// Who of the subsystem runs: the unfinished routine of the highest priority, else the ready task of the highest priority. None
-    /// exactly where all tasks are suspended and all routines finished.
+    /// Who of the subsystem runs: the unfinished routine of the highest priority, else the ready
+    /// task of the highest priority. None exactly where all tasks are suspended and all routines
+    /// finished.
     pub fn picks(&self) -> Option<Owner>
-        ensures { (codes : List (List Stmt)) → result ≡ picked (setup_of self.now) (subsystem_of codes self.now) }
+        ensures { (codes : List (List Stmt))
+            → result ≡ picked (setup_of self.now) (subsystem_of codes self.now) }
     {
         match self.top_routine() {
             Some(number) => Some(Owner::Oisr(OisrNo(number))),
@@ -139,10 +151,12 @@ impl Osek {
         }
     }
 
-    /// The ticks left of the `work` at the front of the one that `picks` gives; 0 where another statement is there.
+    /// The ticks left of the `work` at the front of the one that `picks` gives; 0 where another
+    /// statement is there.
     pub fn work_left(&self) -> u64
         ensures { (codes : List (List Stmt)) → IsSound codes self.now
-            → result ≡ work_in_front (owner_left (subsystem_of codes self.now) (picked (setup_of self.now) (subsystem_of codes self.now))) }
+            → result ≡ work_in_front (owner_left (subsystem_of codes self.now)
+                (picked (setup_of self.now) (subsystem_of codes self.now))) }
     {
         match self.picks() {
             Some(owner) => self.owner_work_left(owner),
@@ -150,8 +164,8 @@ impl Osek {
         }
     }
 
-    /// Takes k ticks of the one that `picks` gives: one, or at most as many as the `work` at its front has left. It suspends nobody,
-    /// counts one step and takes no memory.
+    /// Takes k ticks of the one that `picks` gives: one, or at most as many as the `work` at its
+    /// front has left. It suspends nobody, counts one step and takes no memory.
     pub fn advance<L: Ledger>(
         &mut self,
         codes: &Codes,
@@ -160,22 +174,27 @@ impl Osek {
         steps: &mut Steps<L>,
     ) -> Progress
         requires sound { IsSound codes.now self.old }
-        requires left { owner_left (subsystem_of codes.now self.old) (picked (setup_of self.old) (subsystem_of codes.now self.old)) ≢ [] }
+        requires left { owner_left (subsystem_of codes.now self.old)
+            (picked (setup_of self.old) (subsystem_of codes.now self.old)) ≢ [] }
         requires some { 1 ≤ k }
-        requires within { k ≤ max 1 (work_in_front (owner_left (subsystem_of codes.now self.old) (picked (setup_of self.old) (subsystem_of codes.now self.old)))) }
+        requires within { k ≤ max 1
+            (work_in_front (owner_left (subsystem_of codes.now self.old)
+            (picked (setup_of self.old) (subsystem_of codes.now self.old)))) }
         ensures setup { setup_of self.new ≡ setup_of self.old }
         ensures sound { IsSound codes.now self.new }
 
         // Only what is left of that owner changes.
         ensures others { let who = picked (setup_of self.old) (subsystem_of codes.now self.old) in
             subsystem_of codes.now self.new
-            ≡ owner_leaving who (owner_left (subsystem_of codes.now self.new) who) (subsystem_of codes.now self.old) }
+            ≡ owner_leaving who (owner_left (subsystem_of codes.now self.new) who)
+                (subsystem_of codes.now self.old) }
 
         // The list, the variables, the cursors and the effect are those of k ticks of the list.
         ensures ticks { let who = picked (setup_of self.old) (subsystem_of codes.now self.old) in
             state_of (owner_left (subsystem_of codes.now self.new) who) env.new.vars env.new.cursors (option_to_list result.effect)
             ≡ ticks (supply_of env.old.demands env.old.values) k
-            (state_of (owner_left (subsystem_of codes.now self.old) who) env.old.vars env.old.cursors []) }
+            (state_of (owner_left (subsystem_of codes.now self.old) who) env.old.vars
+                env.old.cursors []) }
         ensures demands { env.new.demands ≡ env.old.demands }
         ensures values { env.new.values ≡ env.old.values }
         ensures ended { let who = picked (setup_of self.old) (subsystem_of codes.now self.old) in
@@ -194,7 +213,8 @@ impl Osek {
     /// The end of an owner: its task is suspended, or its routine is gone.
     pub fn finish(&mut self, owner: Owner)
         ensures setup { setup_of self.new ≡ setup_of self.old }
-        ensures sound { (codes : List (List Stmt)) → IsSound codes self.old → IsSound codes self.new }
+        ensures sound { (codes : List (List Stmt)) → IsSound codes self.old
+            → IsSound codes self.new }
         ensures state { (codes : List (List Stmt))
             → subsystem_of codes self.new ≡ finished owner (subsystem_of codes self.old) }
     {
@@ -208,14 +228,16 @@ impl Osek {
     /// The unfinished routine of the highest priority, if there is one.
     fn top_routine(&self) -> Option<u16>
         ensures { result
-            ≡ highest (priorities self.now.routines.items) (ready_numbers (frames self.now.routines.items)) }
+            ≡ highest (priorities self.now.routines.items)
+                (ready_numbers (frames self.now.routines.items)) }
     {
         highest(self.routines.as_slice())
     }
 
     /// The ready task of the highest priority, if there is one.
     fn top_task(&self) -> Option<u16>
-        ensures { result ≡ highest (priorities self.now.tasks.items) (ready_numbers (frames self.now.tasks.items)) }
+        ensures { result ≡ highest (priorities self.now.tasks.items)
+            (ready_numbers (frames self.now.tasks.items)) }
     {
         highest(self.tasks.as_slice())
     }
@@ -244,17 +266,23 @@ impl Osek {
         requires sound { IsSound codes.now self.old }
         requires left { owner_left (subsystem_of codes.now self.old) (Some owner) ≢ [] }
         requires some { 1 ≤ k }
-        requires within { k ≤ max 1 (work_in_front (owner_left (subsystem_of codes.now self.old) (Some owner))) }
+        requires within { k ≤ max 1
+            (work_in_front (owner_left (subsystem_of codes.now self.old) (Some owner))) }
         ensures setup { setup_of self.new ≡ setup_of self.old }
         ensures sound { IsSound codes.now self.new }
         ensures others { subsystem_of codes.now self.new
-            ≡ owner_leaving (Some owner) (owner_left (subsystem_of codes.now self.new) (Some owner)) (subsystem_of codes.now self.old) }
-        ensures ticks { state_of (owner_left (subsystem_of codes.now self.new) (Some owner)) env.new.vars env.new.cursors (option_to_list result.effect)
+            ≡ owner_leaving (Some owner)
+                (owner_left (subsystem_of codes.now self.new) (Some owner))
+                (subsystem_of codes.now self.old) }
+        ensures ticks { state_of (owner_left (subsystem_of codes.now self.new) (Some owner))
+            env.new.vars env.new.cursors (option_to_list result.effect)
             ≡ ticks (supply_of env.old.demands env.old.values) k
-            (state_of (owner_left (subsystem_of codes.now self.old) (Some owner)) env.old.vars env.old.cursors []) }
+            (state_of (owner_left (subsystem_of codes.now self.old) (Some owner)) env.old.vars
+                env.old.cursors []) }
         ensures demands { env.new.demands ≡ env.old.demands }
         ensures values { env.new.values ≡ env.old.values }
-        ensures ended { IsTrue result.ended ↔ (owner_left (subsystem_of codes.now self.new) (Some owner) ≡ []) }
+        ensures ended { IsTrue result.ended
+            ↔ (owner_left (subsystem_of codes.now self.new) (Some owner) ≡ []) }
         ensures counted { steps.new ≡ steps.old + 1 }
     {
         match owner {
@@ -270,15 +298,18 @@ impl Osek {
     /// The end of a routine.
     fn give_up(&mut self, oisr: OisrNo)
         ensures setup { setup_of self.new ≡ setup_of self.old }
-        ensures sound { (codes : List (List Stmt)) → IsSound codes self.old → IsSound codes self.new }
-        ensures state { (codes : List (List Stmt)) → subsystem_of codes self.new ≡ gone oisr.0 (subsystem_of codes self.old) }
+        ensures sound { (codes : List (List Stmt)) → IsSound codes self.old
+            → IsSound codes self.new }
+        ensures state { (codes : List (List Stmt))
+            → subsystem_of codes self.new ≡ gone oisr.0 (subsystem_of codes self.old) }
     {
         set_frame(&mut self.routines, oisr.0, None);
     }
 
     /// Whether a task is not suspended.
     fn is_ready(&self, task: OsekNo) -> bool
-        ensures { (codes : List (List Stmt)) → result ≡ is_ready (subsystem_of codes self.now).tasks task.0 }
+        ensures { (codes : List (List Stmt))
+            → result ≡ is_ready (subsystem_of codes self.now).tasks task.0 }
     {
         frame_at(self.tasks.as_slice(), task.0).is_some()
     }
@@ -289,7 +320,8 @@ impl Osek {
         ensures setup { setup_of self.new ≡ setup_of self.old }
         ensures sound { IsSound codes.now self.new }
         ensures state { subsystem_of codes.now self.new
-            ≡ readied (task_body codes.now (setup_of self.old) task.0) task.0 (subsystem_of codes.now self.old) }
+            ≡ readied (task_body codes.now (setup_of self.old) task.0) task.0
+                (subsystem_of codes.now self.old) }
     {
         let program = codes.number_after(self.first, task.0);
         set_frame(&mut self.tasks, task.0, Some(Frame::start(codes, program)));
@@ -297,7 +329,8 @@ impl Osek {
 
     fn suspend(&mut self, task: OsekNo)
         ensures setup { setup_of self.new ≡ setup_of self.old }
-        ensures sound { (codes : List (List Stmt)) → IsSound codes self.old → IsSound codes self.new }
+        ensures sound { (codes : List (List Stmt)) → IsSound codes self.old
+            → IsSound codes self.new }
         ensures state { (codes : List (List Stmt))
             → subsystem_of codes self.new ≡ suspended task.0 (subsystem_of codes self.old) }
     {
@@ -309,7 +342,8 @@ impl Osek {
 fn first_tasks(tasks: &[OsekDef], codes: &Codes, first: u16) -> Slots
     requires few { length tasks.now ≤ 32 }
     requires there { HaveBodies codes.now first (map (λ (task : OsekDef). task.body) tasks.now) }
-    ensures priorities { priorities result.items ≡ map (λ (task : OsekDef). task.priority) tasks.now }
+    ensures priorities { priorities result.items
+        ≡ map (λ (task : OsekDef). task.priority) tasks.now }
     ensures sound { AreSound codes.now (frames result.items) }
     ensures state { states codes.now (frames result.items)
         ≡ map (λ (task : OsekDef). if task.auto then Some task.body else None) tasks.now }
@@ -327,7 +361,8 @@ fn first_task(task: &OsekDef, codes: &Codes, first: u16, number: u16) -> Slot
     requires body { body_of codes.now (first + number) ≡ task.now.body }
     ensures priority { result.priority ≡ task.now.priority }
     ensures sound { IfSome result.frame (IsSoundFrame codes.now) }
-    ensures state { option_map (left_of codes.now) result.frame ≡ (if task.now.auto then Some task.now.body else None) }
+    ensures state { option_map (left_of codes.now) result.frame
+        ≡ (if task.now.auto then Some task.now.body else None) }
 {
     if !task.auto {
         return Slot {
@@ -345,7 +380,8 @@ fn first_task(task: &OsekDef, codes: &Codes, first: u16, number: u16) -> Slot
 /// The routines before the first tick.
 fn first_routines(oisrs: &[OisrDef]) -> Slots
     requires { length oisrs.now ≤ 16 }
-    ensures priorities { priorities result.items ≡ map (λ (oisr : OisrDef). oisr.priority) oisrs.now }
+    ensures priorities { priorities result.items
+        ≡ map (λ (oisr : OisrDef). oisr.priority) oisrs.now }
     ensures frames { frames result.items ≡ map (λ (oisr : OisrDef). None) oisrs.now }
 {
     let mut slots = ArrayVec::new();

@@ -131,9 +131,8 @@ abbrev pub IsAnswered : List (List ℕ) → Option (List ℕ) → Status → Opt
 IsAnswered words left status before after =
     IfSome left (λ bytes. (status ≡ (answer_of words bytes).status) × Appends before after (answer_of words bytes).text)
 
--- what came of an answer: it was given, with its whole text written; or memory ran out, and the sink was left alone; or
--- a write failed
--- after a proper part of the text
+-- what came of an answer: it was given, with its whole text written; or memory ran out, and the sink was left alone;
+-- or a write failed after a proper part of the text
 pub record Responds (answer : Answer) (status : Status) (LeftAlone : Type 0) (before after : Option (List ℕ))
     (faults now : ℕ)
     : Type 0 where

@@ -41,7 +41,8 @@ fn status_after(written: Result<(), WriteFault>, status: Status) -> Status
 fn put_text<O: Sink>(text: &[u8], status: Status, output: &mut O) -> Status
     requires ample { status ≢ Status.Memory }
     requires written { status ≢ Status.WriteFault }
-    ensures { Responds (record { text = text.now; status = status }) result (output.new ≡ output.old)
+    ensures { Responds (record { text = text.now; status = status }) result
+        (output.new ≡ output.old)
         (O.written output.old) (O.written output.new) (O.faults output.old) (O.faults output.new) }
 {
     status_after(put_all(output, text), status)
@@ -58,7 +59,8 @@ fn put_rule<O: Sink>(alloc: Global, number: u8, line: u32, output: &mut O) -> St
     }
 }
 
-/// Runs rows that meet the rules, and writes the text of the schedule. Else says which rule they break.
+/// Runs rows that meet the rules, and writes the text of the schedule. Else says which rule they
+/// break.
 fn trace<O: Sink, L: Ledger>(
     alloc: Global,
     rows: Rows,
@@ -66,7 +68,8 @@ fn trace<O: Sink, L: Ledger>(
     steps: &mut Steps<L>,
 ) -> Status
     requires { AreSound rows }
-    ensures responds { Responds (trace_answer (broken_rule rows) rows) result (output.new ≡ output.old)
+    ensures responds { Responds (trace_answer (broken_rule rows) rows) result
+        (output.new ≡ output.old)
         (O.written output.old) (O.written output.new) (O.faults output.old) (O.faults output.new) }
     ensures no_miss { AreSchedulable rows → NoneIsMissed result }
 {
@@ -174,7 +177,8 @@ pub(crate) fn respond<O: Sink, L: Ledger>(
     steps: &mut Steps<L>,
 ) -> Status
     requires { length bytes.now ≤ 2 ^ 20 }
-    ensures responds { Responds (document_answer command (document_of bytes.now)) result (output.new ≡ output.old)
+    ensures responds { Responds (document_answer command (document_of bytes.now)) result
+        (output.new ≡ output.old)
         (O.written output.old) (O.written output.new) (O.faults output.old) (O.faults output.new) }
     ensures no_miss { IsSchedulable bytes.now → NoneIsMissed result }
 {

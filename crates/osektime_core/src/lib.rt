@@ -1,4 +1,5 @@
-//! The commands of the bench: what is written for the words of a command line and a document, and the status.
+//! The commands of the bench: what is written for the words of a command line and a document, and
+//! the status.
 #![tactic(auto)]
 
 mod check;

@@ -9,7 +9,8 @@ use tt_read::FormKind;
 /// How a command ends. The program's exit status is its code.
 #[derive(Clone, Copy, Debug, PartialEq, Eq)]
 pub enum Status {
-    /// 0: the command's text is written; a run has ended with its last round; the schedule check says yes.
+    /// 0: the command's text is written; a run has ended with its last round; the schedule check
+    /// says yes.
     Done,
     /// 1: out of memory. Nothing was written.
     Memory,
@@ -23,12 +24,14 @@ pub enum Status {
     TooLong,
     /// 6: a line of the document is faulty: the first such line, and its least fault.
     Form { line: u32, kind: FormKind },
-    /// 7: the document breaks a rule: the least rule that is broken, and the least line that breaks it.
+    /// 7: the document breaks a rule: the least rule that is broken, and the least line that
+    /// breaks it.
     Rule { number: u8, line: u32 },
-    /// 8: the schedule check says no: the first mode with an activation that has no response end, and in it the entry number of the
-    /// first. The check's text is written.
+    /// 8: the schedule check says no: the first mode with an activation that has no response end,
+    /// and in it the entry number of the first. The check's text is written.
     CheckNo { mode: ModeNo, entry: usize },
-    /// 9: the run has ended with a missed deadline: the task, and the tick of its missed check. The run's text is written.
+    /// 9: the run has ended with a missed deadline: the task, and the tick of its missed check.
+    /// The run's text is written.
     Missed { task: TaskNo, tick: Tick },
     /// 10: ttShutdownOS has ended the run, at this tick. The run's text is written.
     Shut { tick: Tick },

@@ -38,7 +38,9 @@ fn put_checks(
     to: usize,
 ) -> Result<(), Memory>
     requires { to ≤ length (checks_of table.now) }
-    ensures { OnOk result (text.new.items ≡ text.old.items ++ check_lines names.now table.now.mode point (slice_range (checks_of table.now) from to)) }
+    ensures { OnOk result (text.new.items
+        ≡ text.old.items ++ check_lines names.now table.now.mode point
+        (slice_range (checks_of table.now) from to)) }
 {
     for place in from..to {
         let row = table.activation(table.check_at(place));
@@ -57,7 +59,9 @@ fn put_enables(
     to: usize,
 ) -> Result<(), Memory>
     requires { to ≤ length (enables_of table.now) }
-    ensures { OnOk result (text.new.items ≡ text.old.items ++ enable_lines names.now offset (slice_range (enables_of table.now) from to)) }
+    ensures { OnOk result (text.new.items
+        ≡ text.old.items ++ enable_lines names.now offset
+        (slice_range (enables_of table.now) from to)) }
 {
     for place in from..to {
         put(text, &enable_line(names, offset, table.enable_at(place)))?;
@@ -73,7 +77,8 @@ fn put_activation(
     entry: Option<usize>,
 ) -> Result<(), Memory>
     requires { IfSome entry (λ place. place < length table.now.mode.activations) }
-    ensures { OnOk result (text.new.items ≡ text.old.items ++ activation_lines names.now table.now.mode entry) }
+    ensures { OnOk result (text.new.items
+        ≡ text.old.items ++ activation_lines names.now table.now.mode entry) }
 {
     match entry {
         None => Ok(()),
@@ -83,7 +88,8 @@ fn put_activation(
 
 /// Appends what stands at an offset of the round.
 fn put_offset(text: &mut Vec<u8>, names: &Names, table: &Table, offset: u64) -> Result<(), Memory>
-    ensures { OnOk result (text.new.items ≡ text.old.items ++ lines_at names.now table.now.mode offset) }
+    ensures { OnOk result (text.new.items
+        ≡ text.old.items ++ lines_at names.now table.now.mode offset) }
 {
     let due = table.due(offset);
     let point = Point::At(offset);
@@ -92,9 +98,11 @@ fn put_offset(text: &mut Vec<u8>, names: &Names, table: &Table, offset: u64) -> 
     put_activation(text, names, table, due.activation)
 }
 
-/// Appends what stands at each offset of the round, in ascending order. Offsets at which nothing stands are passed over.
+/// Appends what stands at each offset of the round, in ascending order. Offsets at which nothing
+/// stands are passed over.
 fn put_offsets(text: &mut Vec<u8>, names: &Names, table: &Table) -> Result<(), Memory>
-    ensures { OnOk result (text.new.items ≡ text.old.items ++ texts_below (lines_at names.now table.now.mode) (table.now.limit + 1)) }
+    ensures { OnOk result (text.new.items
+        ≡ text.old.items ++ texts_below (lines_at names.now table.now.mode) (table.now.limit + 1)) }
 {
     let mut next = Some(0);
     while let Some(offset) = next {
@@ -118,9 +126,10 @@ fn put_mode(alloc: Global, text: &mut Vec<u8>, config: &Config, mode: ModeNo) ->
     put_checks(text, names, &table, Point::RoundEnd, from, to)
 }
 
-/// The text of the dispatcher tables of a configuration, in time that is n log n in its rows: for each mode by number its name, then in
-/// ascending order of offset the checks, the enables and the activation that stand there, and last the checks at the round's end.
-/// `Memory` is its one refusal.
+/// The text of the dispatcher tables of a configuration, in time that is n log n in its rows: for
+/// each mode by number its name, then in ascending order of offset the checks, the enables and the
+/// activation that stand there, and last the checks at the round's end. `Memory` is its one
+/// refusal.
 pub(crate) fn table_text(alloc: Global, config: &Config) -> Result<Vec<u8>, Memory>
     ensures { IfOk result (λ text. text.items ≡ table_text config.now) }
 {

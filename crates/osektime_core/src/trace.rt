@@ -28,8 +28,10 @@ pub(crate) fn put_events<O: Sink>(
     events: &[Event],
     output: &mut O,
 ) -> Result<(), WriteFault>
-    ensures ok { OnOk result (Appends (O.written output.old) (O.written output.new) (text_of names.now events.now)) }
-    ensures part { OnErr result (AppendsPart (O.written output.old) (O.written output.new) (text_of names.now events.now)) }
+    ensures ok { OnOk result (Appends (O.written output.old) (O.written output.new)
+        (text_of names.now events.now)) }
+    ensures part { OnErr result
+        (AppendsPart (O.written output.old) (O.written output.new) (text_of names.now events.now)) }
     ensures cause { OnErr result (Rose (O.faults output.old) (O.faults output.new)) }
     ensures never_falls { O.faults output.old ≤ O.faults output.new }
 {

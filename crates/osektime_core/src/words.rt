@@ -20,7 +20,8 @@ pub enum Command {
     Check,
 }
 
-/// The words of a command line, without the program's name. Contracts see them as a list of byte lists.
+/// The words of a command line, without the program's name. Contracts see them as a list of byte
+/// lists.
 #[derive(Drop)]
 pub struct Words {
     alloc: Global,

@@ -24,7 +24,8 @@ module _ {X : Type 0} (key : X → ℕ) (xs : List X) (up : IsNonDecreasingBy ke
   unfolding below
   below_rows zero = filter_none (λ x. nat_lt (key x) 0) xs (λ k d l. le-ltb _ 0 (omega arith))
   below_rows (suc offset) =
-      sym (filter_agree (λ x. nat_lt (key x) offset || (key x == offset)) (λ x. nat_lt (key x) (suc offset)) (λ x. more (key x)) xs)
+      sym (filter_agree (λ x. nat_lt (key x) offset || (key x == offset)) (λ x. nat_lt (key x) (suc offset))
+          (λ x. more (key x)) xs)
       ∙ filter_split (λ x. nat_lt (key x) offset) (λ x. key x == offset) xs
       (λ i j d le l at before.
       let rise = up i j d le l in let same = eqb-true _ offset at in let less = ltb-true _ offset before in omega arith)
@@ -45,7 +46,8 @@ module _ {X : Type 0} (key : X → ℕ) (xs : List X) (up : IsNonDecreasingBy ke
     -- the list is what the offsets have, one offset after another
     pub laid_out : (limit : ℕ) → All (λ x. key x < limit) xs → map f xs ≡ below at limit
     laid_out limit h =
-        ap (map f) (sym (filter_all (λ x. nat_lt (key x) limit) xs (λ k d l. lt-ltb _ limit (h k d l))) ∙ below_rows limit)
+        ap (map f) (sym (filter_all (λ x. nat_lt (key x) limit) xs (λ k d l. lt-ltb _ limit (h k d l)))
+            ∙ below_rows limit)
         ∙ map_below limit
 
     -- the rows before an offset are as many as the offsets below it have
@@ -65,16 +67,19 @@ module _ {X : Type 0} (key : X → ℕ) (xs : List X) (up : IsNonDecreasingBy ke
     within = cut.within;
     front = λ k d l. lt-ltb _ later (let less = ltb-true _ offset (cut.front k d l) in omega arith);
     back = λ k d m l.
-        let here = subst (λ (o : Option X). IfSome (option_map key o) (λ n. later ≤ n)) (slice_get-get_or xs place d (omega arith)) next in
+        let here = subst (λ (o : Option X). IfSome (option_map key o) (λ n. later ≤ n))
+            (slice_get-get_or xs place d (omega arith)) next in
         let rise = up place k d m l in
         le-ltb _ later (omega arith);
   }
 
   -- the offset of the row at the place is not an earlier one, and the place after it is a later one
-  pub moves : (offset place next to : ℕ) → IsCut (λ x. nat_lt (key x) offset) xs place → option_map key (slice_get xs place) ≡ Some next
+  pub moves : (offset place next to : ℕ) → IsCut (λ x. nat_lt (key x) offset) xs place
+      → option_map key (slice_get xs place) ≡ Some next
       → IsCut (λ x. nat_lt (key x) (suc next)) xs to → (offset ≤ next) × (place < to)
   moves offset place next to cut is more = ⊎_elim here past (slice_get_cases xs place).1 where
-    here : (x : X) × (place < length xs) × (slice_get xs place ≡ Some x) × (get_or xs place x ≡ x) → (offset ≤ next) × (place < to)
+    here : (x : X) × (place < length xs) × (slice_get xs place ≡ Some x) × (get_or xs place x ≡ x)
+        → (offset ≤ next) × (place < to)
     here found =
         let at : Some (key found.0) ≡ Some next = ap (option_map key) (sym found.2) ∙ is in
         let same : key found.0 ≡ next = cc in
@@ -82,14 +87,16 @@ module _ {X : Type 0} (key : X → ℕ) (xs : List X) (up : IsNonDecreasingBy ke
         let later = ltb-false _ offset (cut.back place found.0 (omega arith) found.1) in
         let before : place < to =
         ⊎_elim (λ (l : place < to). l)
-        (λ (g : to ≤ place). let past = ltb-false _ (suc next) (more.back place found.0 g found.1) in absurd (omega arith)) (cases_lt place to) in
+        (λ (g : to ≤ place). let past = ltb-false _ (suc next) (more.back place found.0 g found.1) in
+            absurd (omega arith)) (cases_lt place to) in
         (omega arith, before)
 
     past : (length xs ≤ place) × (slice_get xs place ≡ None) → (offset ≤ next) × (place < to)
     past none = let at : None ≡ Some next = ap (option_map key) (sym none.1) ∙ is in cc
 
   -- where two offsets have one place, no row stands between them
-  pub absent : (offset later place : ℕ) → IsCut (λ x. nat_lt (key x) offset) xs place → IsCut (λ x. nat_lt (key x) later) xs place
+  pub absent : (offset later place : ℕ) → IsCut (λ x. nat_lt (key x) offset) xs place
+      → IsCut (λ x. nat_lt (key x) later) xs place
       → (k : ℕ) → offset ≤ k → k < later → All (λ x. (key x == k) ≡ false) xs
   absent offset later place cut more k ok kl i d l =
       ne_eqb _ k
@@ -109,15 +116,18 @@ cut_order key xs d offset later from to le cut more =
     absurd (omega arith))
     (λ (g : from ≤ to). g) (cases_lt to from)
 
-pub position_none : {X : Type 0} (test : X → Bool) (xs : List X) (d : X) → All (λ x. test x ≡ false) xs → position test xs ≡ None
+pub position_none : {X : Type 0} (test : X → Bool) (xs : List X) (d : X) → All (λ x. test x ≡ false) xs
+    → position test xs ≡ None
 position_none test xs d h =
     ap (λ n. cond (nat_lt n (length xs)) (Some n) None)
     (position_or_len_is test xs (length xs) d (omega arith) (λ k l. h k d l) (λ l. absurd (omega arith)))
     ∙ cond-false (nat_lt (length xs) (length xs)) _ _ (le-ltb (length xs) (length xs) (omega arith))
 
 -- the first row of an offset stands at its place, where the next offset has a later place
-pub first_at : {X : Type 0} (key : X → ℕ) (xs : List X) (d : X) (offset from to : ℕ) → IsCut (λ x. nat_lt (key x) offset) xs from
-    → IsCut (λ x. nat_lt (key x) (suc offset)) xs to → cond (nat_lt from to) (Some from) None ≡ position (λ x. key x == offset) xs
+pub first_at : {X : Type 0} (key : X → ℕ) (xs : List X) (d : X) (offset from to : ℕ)
+    → IsCut (λ x. nat_lt (key x) offset) xs from
+    → IsCut (λ x. nat_lt (key x) (suc offset)) xs to
+    → cond (nat_lt from to) (Some from) None ≡ position (λ x. key x == offset) xs
 first_at key xs d offset from to cut more = ⊎_elim here none (cases_lt from to) where
   earlier : (k : ℕ) → k < from → (key (get_or xs k d) == offset) ≡ false
   earlier k l = ne_eqb _ offset (λ same. let less = ltb-true _ offset (cut.front k d l) in omega arith)
@@ -132,7 +142,8 @@ first_at key xs d offset from to cut more = ⊎_elim here none (cases_lt from to
       let less = ltb-true _ (suc offset) (more.front from d l) in
       let ge = ltb-false _ offset (cut.back from d (omega arith) within) in eq-eqb _ offset (omega arith)) in
       cond-true (nat_lt from to) (Some from) None (lt-ltb from to l)
-      ∙ sym (ap (λ n. cond (nat_lt n (length xs)) (Some n) None) place ∙ cond-true (nat_lt from (length xs)) _ _ (lt-ltb from (length xs) within))
+      ∙ sym (ap (λ n. cond (nat_lt n (length xs)) (Some n) None) place
+      ∙ cond-true (nat_lt from (length xs)) _ _ (lt-ltb from (length xs) within))
 
   none : to ≤ from → cond (nat_lt from to) (Some from) None ≡ position (λ x. key x == offset) xs
   none g =
@@ -140,6 +151,8 @@ first_at key xs d offset from to cut more = ⊎_elim here none (cases_lt from to
       ∙ sym
       (position_none (λ x. key x == offset) xs d
       (λ k e l.
-      ⊎_elim (λ (before : k < from). ne_eqb _ offset (λ same. let less = ltb-true _ offset (cut.front k e before) in omega arith))
-      (λ (after : from ≤ k). ne_eqb _ offset (λ same. let ge = ltb-false _ (suc offset) (more.back k e (omega arith) l) in omega arith))
+      ⊎_elim (λ (before : k < from). ne_eqb _ offset
+          (λ same. let less = ltb-true _ offset (cut.front k e before) in omega arith))
+      (λ (after : from ≤ k). ne_eqb _ offset
+          (λ same. let ge = ltb-false _ (suc offset) (more.back k e (omega arith) l) in omega arith))
       (cases_lt k from)))

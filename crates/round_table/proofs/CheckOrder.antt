@@ -27,7 +27,8 @@ below_more : (n : ℕ) → range_with_len 0 (n + 1) ≡ range_with_len 0 n ++ n 
 below_more n = ap (range_with_len 0) (add-one n) ∙ range_more 0 n n (omega arith)
 
 -- the points, the checks and the ends with one more entry
-module _ (mode : ModeDef) (n : ℕ) (within : n < length mode.activations) (p : Point) (d : Activation) (is : p ≡ point_of mode (get_or mode.activations n d)) where
+module _ (mode : ModeDef) (n : ℕ) (within : n < length mode.activations) (p : Point) (d : Activation)
+    (is : p ≡ point_of mode (get_or mode.activations n d)) where
   is_here : p ≡ point_of mode (row_of mode n)
   is_here = is ∙ ap (point_of mode) (get_or_default mode.activations n d no_row within)
 
@@ -38,14 +39,16 @@ module _ (mode : ModeDef) (n : ℕ) (within : n < length mode.activations) (p : 
       ∙ sym (ap (map (point_of mode)) (take_more mode.activations n d within)
       ∙ map-append (point_of mode) (take n mode.activations) (get_or mode.activations n d ∷ []))
 
-  pub checks_more : (checks : List Check) → checks ≡ checks_among mode n → checks ++ check_if n p ≡ checks_among mode (n + 1)
+  pub checks_more : (checks : List Check) → checks ≡ checks_among mode n
+      → checks ++ check_if n p ≡ checks_among mode (n + 1)
   checks_more checks same =
       ap (λ cs. cs ++ check_if n p) same ∙ ap (λ q. checks_among mode n ++ check_if n q) is_here
       ∙ sym (ap (flat_map (λ entry. check_if entry (point_of mode (row_of mode entry)))) (below_more n)
       ∙ flat_map-append (λ entry. check_if entry (point_of mode (row_of mode entry))) (range_with_len 0 n) (n ∷ [])
       ∙ ap (λ cs. checks_among mode n ++ cs) (append-nil (check_if n (point_of mode (row_of mode n)))))
 
-  pub ends_more : (ends : List ℕ) → ends ≡ ends_among mode n → ends ++ cond (is_round_end p) (n ∷ []) [] ≡ ends_among mode (n + 1)
+  pub ends_more : (ends : List ℕ) → ends ≡ ends_among mode n
+      → ends ++ cond (is_round_end p) (n ∷ []) [] ≡ ends_among mode (n + 1)
   ends_more ends same =
       ap (λ es. es ++ cond (is_round_end p) (n ∷ []) []) same
       ∙ ap (λ q. ends_among mode n ++ cond (is_round_end q) (n ∷ []) []) is_here
@@ -55,7 +58,8 @@ module _ (mode : ModeDef) (n : ℕ) (within : n < length mode.activations) (p : 
 -- the checks of an offset, among those of some entries
 module _ (mode : ModeDef) (offset : ℕ) where
   among : (entries : List ℕ)
-      → entries_in (filter (λ (check : Check). check.offset == offset) (flat_map (λ entry. check_if entry (point_of mode (row_of mode entry))) entries))
+      → entries_in (filter (λ (check : Check). check.offset == offset)
+          (flat_map (λ entry. check_if entry (point_of mode (row_of mode entry))) entries))
       ≡ filter (λ entry. is_at offset (point_of mode (row_of mode entry))) entries
   among [] = refl
   among (entry ∷ entries) = at (point_of mode (row_of mode entry)) (among entries) where
@@ -68,9 +72,11 @@ module _ (mode : ModeDef) (offset : ℕ) where
     kept : List Check → List Check
     kept xs = filter (λ (check : Check). check.offset == offset) xs
 
-    at : (p : Point) → entries_in (kept checks) ≡ rest → entries_in (kept (check_if entry p ++ checks)) ≡ cond (is_at offset p) (entry ∷ rest) rest
+    at : (p : Point) → entries_in (kept checks) ≡ rest
+        → entries_in (kept (check_if entry p ++ checks)) ≡ cond (is_at offset p) (entry ∷ rest) rest
     at (point.At place) e = by (place == offset) where
-      by : (b : Bool) → entries_in (cond b (record { offset = place; entry = entry } ∷ kept checks) (kept checks)) ≡ cond b (entry ∷ rest) rest
+      by : (b : Bool) → entries_in (cond b (record { offset = place; entry = entry } ∷ kept checks) (kept checks))
+          ≡ cond b (entry ∷ rest) rest
       by true = ap (λ es. entry ∷ es) e
       by false = e
     at point.RoundEnd e = e
@@ -81,7 +87,8 @@ tied offset n = grind (arith, nat_tests)
 -- in a stable order by offset, the checks of an offset are those of the entries that are due there
 pub in_order : (mode : ModeDef) (checks sorted : List Check) → checks ≡ checks_among mode (length mode.activations)
     → IsStableByKey (λ (check : Check). check.offset) nat_cmp checks sorted
-    → (offset : ℕ) → entries_in (filter (λ (check : Check). check.offset == offset) sorted) ≡ entries_due (is_at offset) mode
+    → (offset : ℕ) → entries_in (filter (λ (check : Check). check.offset == offset) sorted)
+    ≡ entries_due (is_at offset) mode
 in_order mode checks sorted are stable offset =
     let one : Check = record { offset = offset; entry = 0 } in
     let at : Check → Bool = λ check. check.offset == offset in

@@ -11,7 +11,8 @@ module _ {X : Type 0} (test : X → Bool) where
   pub filter_all : (xs : List X) → All (λ x. test x ≡ true) xs → filter test xs ≡ xs
   filter_all [] h = refl
   filter_all (x ∷ xs) h =
-      cond-true (test x) _ _ (h 0 x (omega arith)) ∙ ap (λ ys. x ∷ ys) (filter_all xs (All-tail (λ y. test y ≡ true) x xs h))
+      cond-true (test x) _ _ (h 0 x (omega arith))
+          ∙ ap (λ ys. x ∷ ys) (filter_all xs (All-tail (λ y. test y ≡ true) x xs h))
 
   pub filter_none : (xs : List X) → All (λ x. test x ≡ false) xs → filter test xs ≡ []
   filter_none [] h = refl
@@ -24,9 +25,11 @@ module _ {X : Type 0} (test : X → Bool) where
   filter_empty (x ∷ xs) none =
       ⊎_elim
       (λ (e : test x ≡ true).
-      let some : x ∷ filter test xs ≡ [] = sym (cond-true (test x) (x ∷ filter test xs) (filter test xs) e) ∙ none in absurd cc)
+      let some : x ∷ filter test xs ≡ [] = sym (cond-true (test x) (x ∷ filter test xs) (filter test xs) e) ∙ none in
+          absurd cc)
       (λ (e : test x ≡ false).
-      All-cons (λ y. test y ≡ false) x xs e (filter_empty xs (sym (cond-false (test x) (x ∷ filter test xs) (filter test xs) e) ∙ none)))
+      All-cons (λ y. test y ≡ false) x xs e
+          (filter_empty xs (sym (cond-false (test x) (x ∷ filter test xs) (filter test xs) e) ∙ none)))
       (cases_Bool (test x))
 
   pub cut_from : (xs : List X) (place : ℕ) → place ≤ length xs
@@ -38,8 +41,10 @@ module _ {X : Type 0} (test : X → Bool) where
   pub cut_length : (xs : List X) (place : ℕ) → IsCut test xs place → place ≡ length (filter test xs)
   cut_length [] place h = let w = h.within in omega arith
   cut_length (x ∷ xs) zero h =
-      cut_length xs zero (record { within = omega arith; front = λ k d l. absurd (omega arith); back = λ k d m l. h.back (suc k) d (omega arith) (omega arith) })
-      ∙ sym (ap length (cond-false (test x) (x ∷ filter test xs) (filter test xs) (h.back 0 x (omega arith) (omega arith))))
+      cut_length xs zero (record { within = omega arith; front = λ k d l. absurd (omega arith); back =
+          λ k d m l. h.back (suc k) d (omega arith) (omega arith) })
+      ∙ sym (ap length (cond-false (test x) (x ∷ filter test xs) (filter test xs)
+          (h.back 0 x (omega arith) (omega arith))))
   cut_length (x ∷ xs) (suc place) h =
       ap suc
       (cut_length xs place
@@ -58,7 +63,8 @@ module _ {X : Type 0} (p q : X → Bool) where
   pub filter_split : (xs : List X) → IsApart xs → filter (λ x. p x || q x) xs ≡ filter p xs ++ filter q xs
   filter_split [] apart = refl
   filter_split (x ∷ xs) apart =
-      at (p x) (q x) refl refl (filter_split xs (λ i j d le l. apart (suc i) (suc j) d (omega arith) (omega arith))) where
+      at (p x) (q x) refl refl (filter_split xs (λ i j d le l. apart (suc i) (suc j) d (omega arith) (omega arith)))
+          where
         at : (a b : Bool) → p x ≡ a → q x ≡ b → filter (λ y. p y || q y) xs ≡ filter p xs ++ filter q xs
             → cond (a || b) (x ∷ filter (λ y. p y || q y) xs) (filter (λ y. p y || q y) xs)
             ≡ cond a (x ∷ filter p xs) (filter p xs) ++ cond b (x ∷ filter q xs) (filter q xs)
@@ -66,7 +72,8 @@ module _ {X : Type 0} (p q : X → Bool) where
         at true false first second rest = ap (λ ys. x ∷ ys) rest
         at false true first second rest =
             let none : filter p xs ≡ [] =
-            filter_none p xs (λ k d l. false_from_ne_true (p (get_or xs k d)) (λ passes. apart 0 (suc k) d (omega arith) (omega arith) second passes)) in
+            filter_none p xs (λ k d l. false_from_ne_true (p (get_or xs k d))
+                (λ passes. apart 0 (suc k) d (omega arith) (omega arith) second passes)) in
             ap (λ ys. x ∷ ys) (rest ∙ ap (λ ys. ys ++ filter q xs) none) ∙ sym (ap (λ ys. ys ++ x ∷ filter q xs) none)
         at false false first second rest = rest
 

@@ -9,12 +9,14 @@ use Rattle.std.proofs.Math.Seq.{take-append_seam, drop-append_seam}
 use Rattle.round_table.specs.Below.{below}
 
 -- the element after a front
-slice_get-seam : {X : Type 0} (front : List X) (x : X) (rest : List X) → slice_get (front ++ x ∷ rest) (length front) ≡ Some x
+slice_get-seam : {X : Type 0} (front : List X) (x : X) (rest : List X)
+    → slice_get (front ++ x ∷ rest) (length front) ≡ Some x
 slice_get-seam [] x rest = refl
 slice_get-seam (y ∷ front) x rest = slice_get-seam front x rest
 
 -- the part after a front
-slice_range-seam : {X : Type 0} (front part rest : List X) (i j : ℕ) → i ≡ length front → j ≡ i + length part → slice_range (front ++ (part ++ rest)) i j ≡ part
+slice_range-seam : {X : Type 0} (front part rest : List X) (i j : ℕ) → i ≡ length front → j ≡ i + length part
+    → slice_range (front ++ (part ++ rest)) i j ≡ part
 slice_range-seam front part rest i j is js =
     let long : j - i ≡ length part = omega arith in
     ap (λ n. take n (drop i (front ++ (part ++ rest)))) long
@@ -23,7 +25,8 @@ slice_range-seam front part rest i j is js =
     ∙ take-append_seam part rest
 
 -- the end after a front
-pub slice_range-end : {X : Type 0} (front rest : List X) → slice_range (front ++ rest) (length front) (length (front ++ rest)) ≡ rest
+pub slice_range-end : {X : Type 0} (front rest : List X)
+    → slice_range (front ++ rest) (length front) (length (front ++ rest)) ≡ rest
 slice_range-end front rest =
     ap (λ xs. slice_range (front ++ xs) (length front) (length (front ++ rest))) (sym (append-nil rest))
     ∙ slice_range-seam front rest [] (length front) (length (front ++ rest)) refl (length-append front rest)
@@ -36,7 +39,8 @@ module _ {X : Type 0} (at : ℕ → List X) where
   below_begins k (suc n) le =
       ⊎_elim
       (λ (l : n < k). let same : suc n ≡ k = omega arith in ([], ap (below at) same ∙ sym (append-nil (below at k))))
-      (λ (l : k ≤ n). let b = below_begins k n l in (b.0 ++ at n, ap (λ xs. xs ++ at n) b.1 ∙ append_assoc (below at k) b.0 (at n)))
+      (λ (l : k ≤ n). let b = below_begins k n l in
+          (b.0 ++ at n, ap (λ xs. xs ++ at n) b.1 ∙ append_assoc (below at k) b.0 (at n)))
       (cases_lt n k)
 
   pub below_rises : (k n : ℕ) → k ≤ n → length (below at k) ≤ length (below at n)
@@ -72,7 +76,8 @@ module _ {X : Type 0} (at : ℕ → List X) where
       ⊎_elim
       (λ (l : n < k). let same : suc n ≡ k = omega arith in ap (below at) same)
       (λ (l : k ≤ n).
-      ap (λ xs. below at n ++ xs) (none n l (omega arith)) ∙ append-nil (below at n) ∙ below_still k n l (λ j kj jn. none j kj (omega arith)))
+      ap (λ xs. below at n ++ xs) (none n l (omega arith)) ∙ append-nil (below at n)
+          ∙ below_still k n l (λ j kj jn. none j kj (omega arith)))
       (cases_lt n k)
 
   pub below_nothing : (n : ℕ) → at n ≡ [] → length (below at (suc n)) ≡ length (below at n)
@@ -94,7 +99,8 @@ module _ {X : Type 0} (at : ℕ → List X) where
         ⊎_elim (λ (l : k < n). omega (arith, below_rises k n (omega arith), length-append (below at n) others))
         (λ (g : n ≤ k). omega (arith, ap length (below_past k g), length-append (below at n) others)) (cases_lt k n)
 
-    pub below_part : (k : ℕ) → slice_range (below at n ++ others) (length (below at k)) (length (below at (suc k))) ≡ at k
+    pub below_part : (k : ℕ) → slice_range (below at n ++ others) (length (below at k)) (length (below at (suc k)))
+        ≡ at k
     below_part k =
         ⊎_elim (λ (l : k < n). below_range k n others l)
         (λ (g : n ≤ k).

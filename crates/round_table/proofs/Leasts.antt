@@ -16,7 +16,8 @@ module _ (from : ℕ) where
   least_past : (xs : List ℕ) → All (λ x. x < from) xs → least_from from xs ≡ None
   least_past [] h = refl
   least_past (x ∷ xs) h =
-      cond-false (nat_le from x) _ _ (lt-leb from x (All-head (λ y. y < from) x xs h)) ∙ least_past xs (All-tail (λ y. y < from) x xs h)
+      cond-false (nat_le from x) _ _ (lt-leb from x (All-head (λ y. y < from) x xs h))
+          ∙ least_past xs (All-tail (λ y. y < from) x xs h)
 
   module _ (m : ℕ) where
     -- none of the offsets at or after it is less
@@ -35,10 +36,12 @@ module _ (from : ℕ) where
         (λ e. lesser_kept x (least_from from xs) (All-head (λ y. from ≤ y → m ≤ y) x xs h (leb-true from x e)) rest)
         (λ _. rest)
 
-    least_there : (xs : List ℕ) (k : ℕ) → k < length xs → get_or xs k m ≡ m → from ≤ m → IsBound xs → least_from from xs ≡ Some m
+    least_there : (xs : List ℕ) (k : ℕ) → k < length xs → get_or xs k m ≡ m → from ≤ m → IsBound xs
+        → least_from from xs ≡ Some m
     least_there [] k l is le h = absurd (omega arith)
     least_there (x ∷ xs) zero l is le h =
-        cond-true (nat_le from x) (Some (lesser_or x (least_from from xs))) (least_from from xs) (le-leb from x (omega arith))
+        cond-true (nat_le from x) (Some (lesser_or x (least_from from xs))) (least_from from xs)
+            (le-leb from x (omega arith))
         ∙ ap (λ n. Some (lesser_or n (least_from from xs))) is
         ∙ ap Some (bound_kept xs (All-tail (λ y. from ≤ y → m ≤ y) x xs h))
     least_there (x ∷ xs) (suc k) l is le h =
@@ -51,13 +54,15 @@ module _ (from : ℕ) where
         (λ _. rest)
 
 -- it stands at the place before which the lesser ones stand
-pub least_at : (from : ℕ) (xs ys : List ℕ) (place : ℕ) → IsPermutation xs ys → IsNonDecreasing ys → IsCut (λ x. nat_lt x from) ys place
+pub least_at : (from : ℕ) (xs ys : List ℕ) (place : ℕ) → IsPermutation xs ys → IsNonDecreasing ys
+    → IsCut (λ x. nat_lt x from) ys place
     → slice_get ys place ≡ least_from from xs
 least_at from xs ys place moved up cut = ⊎_elim here past (slice_get_cases ys place).1 where
   back : IsPermutation ys xs
   back = IsPermutation-sym xs ys moved
 
-  here : (m : ℕ) × (place < length ys) × (slice_get ys place ≡ Some m) × (get_or ys place m ≡ m) → slice_get ys place ≡ least_from from xs
+  here : (m : ℕ) × (place < length ys) × (slice_get ys place ≡ Some m) × (get_or ys place m ≡ m)
+      → slice_get ys place ≡ least_from from xs
   here found =
       let m = found.0 in
       let same = found.3 in
@@ -65,11 +70,14 @@ least_at from xs ys place moved up cut = ⊎_elim here past (slice_get_cases ys 
       let bound : All (λ x. from ≤ x → m ≤ x) ys =
       λ k d l le.
       ⊎_elim (λ (before : k < place). absurd (let less = ltb-true _ from (cut.front k d before) in omega arith))
-      (λ (after : place ≤ k). let rise = up place k m after l in let one = get_or_default ys k d m l in omega arith) (cases_lt k place) in
+      (λ (after : place ≤ k). let rise = up place k m after l in let one = get_or_default ys k d m l in omega arith)
+          (cases_lt k place) in
       let there = Contains-permutation ys xs m back (place, found.1, same) in
-      found.2 ∙ sym (least_there from m xs there.0 there.1 there.2 (omega arith) (All-permutation (λ x. from ≤ x → m ≤ x) ys xs back bound))
+      found.2 ∙ sym (least_there from m xs there.0 there.1 there.2 (omega arith)
+          (All-permutation (λ x. from ≤ x → m ≤ x) ys xs back bound))
 
   past : (length ys ≤ place) × (slice_get ys place ≡ None) → slice_get ys place ≡ least_from from xs
   past none =
       none.1
-      ∙ sym (least_past from xs (All-permutation (λ x. x < from) ys xs back (λ k d l. let g = none.0 in ltb-true _ from (cut.front k d (omega arith)))))
+      ∙ sym (least_past from xs (All-permutation (λ x. x < from) ys xs back
+          (λ k d l. let g = none.0 in ltb-true _ from (cut.front k d (omega arith)))))

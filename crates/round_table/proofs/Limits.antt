@@ -1,5 +1,5 @@
--- The monitoring points of a mode whose rows are within a limit: none comes after it, and where one is the limit none is the
--- round's end.
+-- The monitoring points of a mode whose rows are within a limit: none comes after it, and where one is the limit none
+-- is the round's end.
 use Rattle.std.proofs.Common.{ℕ, zero, suc, ◌≡◌, ◌≤◌, ◌<◌, ◌+◌, Bool, true, false, List, [], ◌∷◌, ◌++◌, length, get_or, map, Option, None, Some, refl, sym, ap, ◌∙◌, subst, ⊎_elim, arith}
 use Rattle.std.specs.Prelude.{◌==◌, nat_le, nat_lt, min, flat_map, IfSome}
 use Rattle.std.specs.List.{All}
@@ -27,14 +27,17 @@ module _ {X : Type 0} (P : X → Type 0) where
   all_parts : (xs ys : List X) → All P (xs ++ ys) → All P xs × All P ys
   all_parts [] ys h = (All-nil P, h)
   all_parts (x ∷ xs) ys h =
-      let rest = all_parts xs ys (All-tail P x (xs ++ ys) h) in (All-cons P x xs (All-head P x (xs ++ ys) h) rest.0, rest.1)
+      let rest = all_parts xs ys (All-tail P x (xs ++ ys) h) in
+          (All-cons P x xs (All-head P x (xs ++ ys) h) rest.0, rest.1)
 
   flat_all : {Y : Type 0} (f : Y → List X) (ys : List Y) → All (λ y. All P (f y)) ys → All P (flat_map f ys)
   flat_all f [] h = All-nil P
   flat_all f (y ∷ ys) h =
-      All-append P (f y) (flat_map f ys) (All-head (λ z. All P (f z)) y ys h) (flat_all f ys (All-tail (λ z. All P (f z)) y ys h))
+      All-append P (f y) (flat_map f ys) (All-head (λ z. All P (f z)) y ys h)
+          (flat_all f ys (All-tail (λ z. All P (f z)) y ys h))
 
-  all_flat : {Y : Type 0} (f : Y → List X) (ys : List Y) (i : ℕ) (d : Y) → i < length ys → All P (flat_map f ys) → All P (f (get_or ys i d))
+  all_flat : {Y : Type 0} (f : Y → List X) (ys : List Y) (i : ℕ) (d : Y) → i < length ys → All P (flat_map f ys)
+      → All P (f (get_or ys i d))
   all_flat f [] i d l h = absurd (omega arith)
   all_flat f (y ∷ ys) zero d l h = (all_parts (f y) (flat_map f ys) h).0
   all_flat f (y ∷ ys) (suc i) d l h = all_flat f ys i d (omega arith) (all_parts (f y) (flat_map f ys) h).1
@@ -53,7 +56,8 @@ module _ (P : ℕ → Type 0) where
   least_all from [] h = tt
   least_all from (x ∷ xs) h =
       let rest = least_all from xs (All-tail P x xs h) in
-      cond_both (nat_le from x) _ _ (λ (o : Option ℕ). IfSome o P) (λ _. lesser x (least_from from xs) (All-head P x xs h) rest) (λ _. rest)
+      cond_both (nat_le from x) _ _ (λ (o : Option ℕ). IfSome o P)
+          (λ _. lesser x (least_from from xs) (All-head P x xs h) rest) (λ _. rest)
 
 -- where there is none, all come before
 pub least_none : (from : ℕ) (xs : List ℕ) → least_from from xs ≡ None → All (λ x. x < from) xs
@@ -65,15 +69,18 @@ least_none from (x ∷ xs) e =
     absurd (let impossible : Some (lesser_or x (least_from from xs)) ≡ None = some in cc))
     (λ (h : nat_le from x ≡ false).
     All-cons (λ y. y < from) x xs (leb-false from x h)
-    (least_none from xs (sym (cond-false (nat_le from x) (Some (lesser_or x (least_from from xs))) (least_from from xs) h) ∙ e)))
+    (least_none from xs (sym (cond-false (nat_le from x) (Some (lesser_or x (least_from from xs)))
+        (least_from from xs) h) ∙ e)))
     (cases_Bool (nat_le from x))
 
 -- ---- entries
 
-pub all_entries : (mode : ModeDef) (P : ℕ → Type 0) → ((entry : ℕ) → entry < length mode.activations → P entry) → All P (entries_of mode)
+pub all_entries : (mode : ModeDef) (P : ℕ → Type 0) → ((entry : ℕ) → entry < length mode.activations → P entry)
+    → All P (entries_of mode)
 all_entries mode P h k d l =
     let within : k < length mode.activations = omega (arith, length-range_with_len 0 (length mode.activations)) in
-    let same : k ≡ get_or (entries_of mode) k d = omega (arith, get_or-range_with_len 0 (length mode.activations) k d within) in
+    let same : k ≡ get_or (entries_of mode) k d =
+        omega (arith, get_or-range_with_len 0 (length mode.activations) k d within) in
     subst P same (h k within)
 
 -- ---- points
@@ -88,7 +95,8 @@ if_offset P None h = tt
 if_offset P (Some offset) h = h
 
 -- what holds of the offsets of a mode holds of the points that are offsets
-point_all : (P : ℕ → Type 0) (mode : ModeDef) → All P (offsets_in mode) → (row : Activation) → (row.stringent ≡ true → P row.deadline)
+point_all : (P : ℕ → Type 0) (mode : ModeDef) → All P (offsets_in mode) → (row : Activation)
+    → (row.stringent ≡ true → P row.deadline)
     → IfOffset P (point_of mode row)
 point_all P mode h row own = by row.stringent own where
   by : (stringent : Bool) → (stringent ≡ true → P row.deadline) → IfOffset P (point_by stringent mode row.deadline)
@@ -97,21 +105,28 @@ point_all P mode h row own = by row.stringent own where
 
 module _ (limit : ℕ) (mode : ModeDef) (within : IsWithin limit mode) where
   deadlines : All (λ (row : Activation). row.deadline ≤ limit) mode.activations
-  deadlines k d l = leb-true _ limit (list_all_get (λ (row : Activation). nat_le row.deadline limit) mode.activations k d within.deadlines l)
+  deadlines k d l = leb-true _ limit
+      (list_all_get (λ (row : Activation). nat_le row.deadline limit) mode.activations k d within.deadlines l)
 
   activations : All (λ (row : Activation). row.offset < limit) mode.activations
-  activations k d l = ltb-true _ limit (list_all_get (λ (row : Activation). nat_lt row.offset limit) mode.activations k d within.below l)
+  activations k d l = ltb-true _ limit
+      (list_all_get (λ (row : Activation). nat_lt row.offset limit) mode.activations k d within.below l)
 
   pub enables_within : All (λ (row : Enable). row.offset < limit) mode.enables
-  enables_within k d l = ltb-true _ limit (list_all_get (λ (row : Enable). nat_lt row.offset limit) mode.enables k d within.enables_below l)
+  enables_within k d l = ltb-true _ limit
+      (list_all_get (λ (row : Enable). nat_lt row.offset limit) mode.enables k d within.enables_below l)
 
   offsets : All (λ offset. offset ≤ limit) (offsets_in mode)
   offsets =
       All-append (λ o. o ≤ limit) (map (λ (row : Activation). row.offset) mode.activations) _
-      (All-map (λ o. o ≤ limit) (λ (row : Activation). row.offset) mode.activations (λ k d l. let less = activations k d l in omega arith))
-      (All-append (λ o. o ≤ limit) (map (λ (row : Enable). row.offset) mode.enables) (stringent_deadlines mode.activations)
-      (All-map (λ o. o ≤ limit) (λ (row : Enable). row.offset) mode.enables (λ k d l. let less = enables_within k d l in omega arith))
-      (flat_all (λ o. o ≤ limit) (λ (row : Activation). deadline_if row.stringent row) mode.activations (λ k d l. one (get_or mode.activations k d) (deadlines k d l)))) where
+      (All-map (λ o. o ≤ limit) (λ (row : Activation). row.offset) mode.activations
+          (λ k d l. let less = activations k d l in omega arith))
+      (All-append (λ o. o ≤ limit) (map (λ (row : Enable). row.offset) mode.enables)
+          (stringent_deadlines mode.activations)
+      (All-map (λ o. o ≤ limit) (λ (row : Enable). row.offset) mode.enables
+          (λ k d l. let less = enables_within k d l in omega arith))
+      (flat_all (λ o. o ≤ limit) (λ (row : Activation). deadline_if row.stringent row) mode.activations
+          (λ k d l. one (get_or mode.activations k d) (deadlines k d l)))) where
         one : (row : Activation) → row.deadline ≤ limit → All (λ o. o ≤ limit) (deadline_if row.stringent row)
         one row le = by row.stringent where
           by : (stringent : Bool) → All (λ o. o ≤ limit) (deadline_if stringent row)
@@ -119,7 +134,8 @@ module _ (limit : ℕ) (mode : ModeDef) (within : IsWithin limit mode) where
           by false = All-nil (λ o. o ≤ limit)
 
   -- no point comes after the limit
-  pub point_within : (entry : ℕ) → entry < length mode.activations → IfOffset (λ offset. offset ≤ limit) (point_of mode (row_of mode entry))
+  pub point_within : (entry : ℕ) → entry < length mode.activations
+      → IfOffset (λ offset. offset ≤ limit) (point_of mode (row_of mode entry))
   point_within entry l = point_all (λ o. o ≤ limit) mode offsets (row_of mode entry) (λ _. deadlines entry no_row l)
 
   -- nothing stands after the limit
@@ -127,7 +143,8 @@ module _ (limit : ℕ) (mode : ModeDef) (within : IsWithin limit mode) where
   past_free offset l = record {
     checks =
         filter_none (λ entry. is_at offset (point_of mode (row_of mode entry))) (entries_of mode)
-        (all_entries mode (λ entry. is_at offset (point_of mode (row_of mode entry)) ≡ false) (λ entry in'. other (point_of mode (row_of mode entry)) (point_within entry in')));
+        (all_entries mode (λ entry. is_at offset (point_of mode (row_of mode entry)) ≡ false)
+            (λ entry in'. other (point_of mode (row_of mode entry)) (point_within entry in')));
     enables =
         filter_none (λ (row : Enable). row.offset == offset) mode.enables
         (λ k d in'. ne_eqb _ offset (λ same. let less = enables_within k d in' in omega arith));
@@ -140,17 +157,21 @@ module _ (limit : ℕ) (mode : ModeDef) (within : IsWithin limit mode) where
     other point.RoundEnd le = refl
 
   -- where a point is the round's end, all offsets come before its deadline
-  ended : (stringent : Bool) (deadline : ℕ) → is_round_end (point_by stringent mode deadline) ≡ true → All (λ x. x < deadline) (offsets_in mode)
+  ended : (stringent : Bool) (deadline : ℕ) → is_round_end (point_by stringent mode deadline) ≡ true
+      → All (λ x. x < deadline) (offsets_in mode)
   ended true deadline e = cc
   ended false deadline e = by (least_from deadline (offsets_in mode)) refl e where
-    by : (o : Option ℕ) → least_from deadline (offsets_in mode) ≡ o → is_round_end (at_or_end o) ≡ true → All (λ x. x < deadline) (offsets_in mode)
+    by : (o : Option ℕ) → least_from deadline (offsets_in mode) ≡ o → is_round_end (at_or_end o) ≡ true
+        → All (λ x. x < deadline) (offsets_in mode)
     by None is e = least_none deadline (offsets_in mode) is
     by (Some x) is e = cc
 
   -- no mode has both a point at the limit and one at the round's end
   pub one_end : (entry other : ℕ) → entry < length mode.activations → other < length mode.activations
-      → is_at limit (point_of mode (row_of mode entry)) ≡ true → is_round_end (point_of mode (row_of mode other)) ≡ true → ⊥
-  one_end entry other l m here end = not_at (point_of mode row) (point_all (λ x. x < limit) mode before row own) here where
+      → is_at limit (point_of mode (row_of mode entry)) ≡ true
+      → is_round_end (point_of mode (row_of mode other)) ≡ true → ⊥
+  one_end entry other l m here end =
+      not_at (point_of mode row) (point_all (λ x. x < limit) mode before row own) here where
     row : Activation
     row = row_of mode entry
 
@@ -162,11 +183,14 @@ module _ (limit : ℕ) (mode : ModeDef) (within : IsWithin limit mode) where
 
     own : row.stringent ≡ true → row.deadline < limit
     own is =
-        let enables_on = (all_parts (λ x. x < limit) (map (λ (r : Activation). r.offset) mode.activations) _ before).1 in
-        let stringent = (all_parts (λ x. x < limit) (map (λ (r : Enable). r.offset) mode.enables) (stringent_deadlines mode.activations) enables_on).1 in
+        let enables_on = (all_parts (λ x. x < limit)
+            (map (λ (r : Activation). r.offset) mode.activations) _ before).1 in
+        let stringent = (all_parts (λ x. x < limit) (map (λ (r : Enable). r.offset) mode.enables)
+            (stringent_deadlines mode.activations) enables_on).1 in
         All-head (λ x. x < limit) row.deadline []
         (subst (λ b. All (λ x. x < limit) (deadline_if b row)) is
-        (all_flat (λ x. x < limit) (λ (r : Activation). deadline_if r.stringent r) mode.activations entry no_row l stringent))
+        (all_flat (λ x. x < limit) (λ (r : Activation). deadline_if r.stringent r) mode.activations entry no_row l
+            stringent))
 
     not_at : (p : Point) → IfOffset (λ x. x < limit) p → is_at limit p ≡ true → ⊥
     not_at (point.At place) less e = let same = eqb-true place limit e in omega arith

@@ -40,7 +40,8 @@ pub kept : {rows table : TableRows} {points : List Point} {checks : List ℕ} {e
 kept {points} {checks} {end} {expiry} is h = subst (λ (t : TableRows). IsTable t points checks end expiry) is h
 
 -- the rows of a copy
-pub copied : (mode : ModeDef) (activations : List Activation) (enables : List Enable) (limit : ℕ) → activations ≡ mode.activations → enables ≡ mode.enables
+pub copied : (mode : ModeDef) (activations : List Activation) (enables : List Enable) (limit : ℕ)
+    → activations ≡ mode.activations → enables ≡ mode.enables
     → ◌≡◌ {A = TableRows} (record { mode = mode; limit = limit })
     (record { mode = record { activations = activations; enables = enables }; limit = limit })
 copied mode activations enables limit a e = rw (a, e) refl
@@ -61,7 +62,8 @@ module _ (table : TableRows) (within : IsWithin table.limit table.mode) where
   -- the list of enables, offset after offset
   enables_laid : enables_of table ≡ below enabled_at end ++ []
   enables_laid =
-      laid_out (λ (row : Enable). row.offset) table.mode.enables (enables_rise table.limit table.mode within) (λ (row : Enable). row.isr) enabled_at (λ k. refl) end
+      laid_out (λ (row : Enable). row.offset) table.mode.enables (enables_rise table.limit table.mode within)
+          (λ (row : Enable). row.isr) enabled_at (λ k. refl) end
       (λ k d l. let less = enables_within table.limit table.mode within k d l in omega arith)
       ∙ sym (append-nil (below enabled_at end))
 
@@ -69,9 +71,11 @@ module _ (table : TableRows) (within : IsWithin table.limit table.mode) where
   is_due offset due is = subst (IsDue table offset) (sym is) (record {
     exact = refl;
     checks = below_part checks_at end (entries_due is_round_end table.mode) (λ k g. (past k g).checks) offset;
-    checks_within = below_within checks_at end (entries_due is_round_end table.mode) (λ k g. (past k g).checks) (suc offset);
+    checks_within = below_within checks_at end (entries_due is_round_end table.mode) (λ k g. (past k g).checks)
+        (suc offset);
     enables =
-        ap (λ xs. slice_range xs (length (enables_below table.mode offset)) (length (enables_below table.mode (suc offset)))) enables_laid
+        ap (λ xs. slice_range xs (length (enables_below table.mode offset))
+            (length (enables_below table.mode (suc offset)))) enables_laid
         ∙ below_part enabled_at end [] (λ k g. ap isrs_of (past k g).enables) offset;
     enables_within =
         let all = ap length enables_laid in
@@ -79,9 +83,11 @@ module _ (table : TableRows) (within : IsWithin table.limit table.mode) where
     activation = refl;
     activation_within = entry_there (entry_at offset table.mode.activations) refl;
   }) where
-    entry_there : (found : Option ℕ) → entry_at offset table.mode.activations ≡ found → IfSome found (λ entry. entry < length table.mode.activations)
+    entry_there : (found : Option ℕ) → entry_at offset table.mode.activations ≡ found
+        → IfSome found (λ entry. entry < length table.mode.activations)
     entry_there None e = tt
-    entry_there (Some entry) e = (position-Some (λ (row : Activation). row.offset == offset) table.mode.activations entry no_row e).0
+    entry_there (Some entry) e =
+        (position-Some (λ (row : Activation). row.offset == offset) table.mode.activations entry no_row e).0
 
   -- ---- the list of checks
 
@@ -89,8 +95,11 @@ module _ (table : TableRows) (within : IsWithin table.limit table.mode) where
   pub entries_within : All (λ entry. entry < length table.mode.activations) (checks_of table)
   entries_within =
       let of_mode = all_entries table.mode (λ entry. entry < length table.mode.activations) (λ entry l. l) in
-      let due = λ (is_due : Point → Bool). All-filter (λ entry. is_due (point_of table.mode (row_of table.mode entry))) (λ entry. entry < length table.mode.activations) (entries_of table.mode) of_mode in
-      All-append (λ entry. entry < length table.mode.activations) (checks_below table.mode end) (entries_due is_round_end table.mode)
+      let due = λ (is_due : Point → Bool). All-filter
+          (λ entry. is_due (point_of table.mode (row_of table.mode entry)))
+          (λ entry. entry < length table.mode.activations) (entries_of table.mode) of_mode in
+      All-append (λ entry. entry < length table.mode.activations) (checks_below table.mode end)
+          (entries_due is_round_end table.mode)
       (all_below checks_at (λ entry. entry < length table.mode.activations) (λ k. due (is_at k)) end) (due is_round_end)
 
   module _ (checks : List Check) (are : AreChecks table.mode checks) where
@@ -100,16 +109,21 @@ module _ (table : TableRows) (within : IsWithin table.limit table.mode) where
         ⊎_elim (λ (less : offset < end). less)
         (λ (g : end ≤ offset).
         let none : filter (λ (check : Check). check.offset == offset) checks ≡ [] =
-        nil_from_length _ (sym (length-map (filter (λ (check : Check). check.offset == offset) checks) (λ (check : Check). check.entry)) ∙ ap length (are.entries offset ∙ (past offset g).checks)) in
-        absurd (true≢false (sym (eq-eqb offset offset refl) ∙ filter_empty (λ (check : Check). check.offset == offset) checks none k d l)))
+        nil_from_length _ (sym (length-map (filter (λ (check : Check). check.offset == offset) checks)
+            (λ (check : Check). check.entry)) ∙ ap length (are.entries offset ∙ (past offset g).checks)) in
+        absurd (true≢false (sym (eq-eqb offset offset refl)
+            ∙ filter_empty (λ (check : Check). check.offset == offset) checks none k d l)))
         (cases_lt offset end)
 
     entries_laid : entries_in checks ≡ checks_below table.mode end
     entries_laid =
-        laid_out (λ (check : Check). check.offset) checks are.ascending (λ (check : Check). check.entry) checks_at are.entries end offsets_within
+        laid_out (λ (check : Check). check.offset) checks are.ascending
+            (λ (check : Check). check.entry) checks_at are.entries end offsets_within
 
-    pub checks_are : (entries ends : List ℕ) → entries ≡ entries_in checks ++ ends → ends ≡ entries_due is_round_end table.mode → entries ≡ checks_of table
-    checks_are entries ends is last = is ∙ ap (λ es. es ++ ends) entries_laid ∙ ap (λ es. checks_below table.mode end ++ es) last
+    pub checks_are : (entries ends : List ℕ) → entries ≡ entries_in checks ++ ends
+        → ends ≡ entries_due is_round_end table.mode → entries ≡ checks_of table
+    checks_are entries ends is last = is ∙ ap (λ es. es ++ ends) entries_laid
+        ∙ ap (λ es. checks_below table.mode end ++ es) last
 
     pub end_is : length checks ≡ length (checks_below table.mode end)
     end_is = sym (length-map checks (λ (check : Check). check.entry)) ∙ ap length entries_laid
@@ -117,23 +131,29 @@ module _ (table : TableRows) (within : IsWithin table.limit table.mode) where
   -- ---- the checks at the end of a round
 
   -- two tests of points that agree up to the limit
-  same_due : (p q : Point → Bool) → ((point : Point) → IfOffset (λ offset. offset ≤ table.limit) point → p point ≡ q point)
+  same_due : (p q : Point → Bool)
+      → ((point : Point) → IfOffset (λ offset. offset ≤ table.limit) point → p point ≡ q point)
       → entries_due p table.mode ≡ entries_due q table.mode
   same_due p q same =
-      filter_alike (λ entry. p (point_of table.mode (row_of table.mode entry))) (λ entry. q (point_of table.mode (row_of table.mode entry))) (entries_of table.mode)
-      (all_entries table.mode (λ entry. p (point_of table.mode (row_of table.mode entry)) ≡ q (point_of table.mode (row_of table.mode entry)))
-      (λ entry l. same (point_of table.mode (row_of table.mode entry)) (point_within table.limit table.mode within entry l)))
+      filter_alike (λ entry. p (point_of table.mode (row_of table.mode entry)))
+          (λ entry. q (point_of table.mode (row_of table.mode entry))) (entries_of table.mode)
+      (all_entries table.mode (λ entry. p (point_of table.mode (row_of table.mode entry))
+          ≡ q (point_of table.mode (row_of table.mode entry)))
+      (λ entry l. same (point_of table.mode (row_of table.mode entry))
+          (point_within table.limit table.mode within entry l)))
 
   abbrev ends : List ℕ
   ends = entries_due is_round_end table.mode
 
   -- at a length that no offset reaches, they are those at the round's end
-  past_limit : (long : ℕ) → table.limit < long → (p : Point) → IfOffset (λ offset. offset ≤ table.limit) p → is_round_end p ≡ is_at_end long p
+  past_limit : (long : ℕ) → table.limit < long → (p : Point) → IfOffset (λ offset. offset ≤ table.limit) p
+      → is_round_end p ≡ is_at_end long p
   past_limit long l (point.At offset) le = sym (lt-leb long offset (omega arith))
   past_limit long l point.RoundEnd le = refl
 
   -- at the limit, they are those at the limit or at the round's end, of which there are not both
-  at_limit : (p : Point) → IfOffset (λ offset. offset ≤ table.limit) p → (is_at table.limit p || is_round_end p) ≡ is_at_end table.limit p
+  at_limit : (p : Point) → IfOffset (λ offset. offset ≤ table.limit) p
+      → (is_at table.limit p || is_round_end p) ≡ is_at_end table.limit p
   at_limit (point.At offset) le = grind (arith, nat_tests)
   at_limit point.RoundEnd le = refl
 
@@ -148,18 +168,22 @@ module _ (table : TableRows) (within : IsWithin table.limit table.mode) where
       ∙ same_due (λ p. is_at table.limit p || is_round_end p) (is_at_end table.limit) at_limit
 
   pub end_range : (long : ℕ) → table.limit ≤ long
-      → slice_range (checks_of table) (length (checks_below table.mode long)) (length (checks_of table)) ≡ entries_due (is_at_end long) table.mode
+      → slice_range (checks_of table) (length (checks_below table.mode long)) (length (checks_of table))
+      ≡ entries_due (is_at_end long) table.mode
   unfolding below
   end_range long le =
       ⊎_elim
       (λ (later : table.limit < long).
-      ap (λ (xs : List ℕ). slice_range (checks_of table) (length xs) (length (checks_of table))) (below_past checks_at end ends (λ k g. (past k g).checks) long later)
+      ap (λ (xs : List ℕ). slice_range (checks_of table) (length xs) (length (checks_of table)))
+          (below_past checks_at end ends (λ k g. (past k g).checks) long later)
       ∙ slice_range-end (checks_below table.mode end) ends
       ∙ same_due is_round_end (is_at_end long) (past_limit long later))
       (λ (no_later : long ≤ table.limit).
       let same : table.limit ≡ long = omega arith in
-      subst (λ n. slice_range (checks_of table) (length (checks_below table.mode n)) (length (checks_of table)) ≡ entries_due (is_at_end n) table.mode) same
-      (ap (λ xs. slice_range xs (length (checks_below table.mode table.limit)) (length xs)) (append_assoc (checks_below table.mode table.limit) (checks_at table.limit) ends)
+      subst (λ n. slice_range (checks_of table) (length (checks_below table.mode n)) (length (checks_of table))
+          ≡ entries_due (is_at_end n) table.mode) same
+      (ap (λ xs. slice_range xs (length (checks_below table.mode table.limit)) (length xs))
+          (append_assoc (checks_below table.mode table.limit) (checks_at table.limit) ends)
       ∙ slice_range-end (checks_below table.mode table.limit) (checks_at table.limit ++ ends)
       ∙ both))
       (cases_lt table.limit long)
@@ -167,11 +191,13 @@ module _ (table : TableRows) (within : IsWithin table.limit table.mode) where
   -- ---- an offset at which nothing stands
 
   due_none : (offset later : ℕ) → offset < later → ((k : ℕ) → offset ≤ k → k < later → IsFree k table.mode)
-      → none_due (length (checks_below table.mode later)) (length (enables_below table.mode later)) ≡ due_at offset table
+      → none_due (length (checks_below table.mode later)) (length (enables_below table.mode later))
+      ≡ due_at offset table
   due_none offset later lt free =
       let here = free offset (omega arith) lt in
       let checks = ap length (below_still checks_at offset later (omega arith) (λ k ok kl. (free k ok kl).checks)) in
-      let enables = ap length (below_still enabled_at offset later (omega arith) (λ k ok kl. ap isrs_of (free k ok kl).enables)) in
+      let enables = ap length (below_still enabled_at offset later (omega arith)
+          (λ k ok kl. ap isrs_of (free k ok kl).enables)) in
       due_same checks (checks ∙ sym (below_nothing checks_at offset here.checks))
       enables (enables ∙ sym (below_nothing enabled_at offset (ap isrs_of here.enables))) (sym here.activation)
 
@@ -185,7 +211,8 @@ module _ (table : TableRows) (within : IsWithin table.limit table.mode) where
         ∙ due_none offset p.offset (omega arith) (λ k ok kl. next.free k ok kl)
 
     -- where there is none
-    pub none_after : (checks enables : ℕ) → checks ≡ length (checks_below table.mode end) → enables ≡ length table.mode.enables
+    pub none_after : (checks enables : ℕ) → checks ≡ length (checks_below table.mode end)
+        → enables ≡ length table.mode.enables
         → IsNextPoint table place offset None → none_due checks enables ≡ due_at offset table
     none_after checks enables c e next =
         let later = suc (offset + table.limit) in
@@ -193,7 +220,8 @@ module _ (table : TableRows) (within : IsWithin table.limit table.mode) where
         let laid = ap length enables_laid in
         let long = length-map table.mode.enables (λ (row : Enable). row.isr) in
         let both = length-append (below enabled_at end) [] in
-        let rest = ap length (below_past enabled_at end [] (λ k g. ap isrs_of (past k g).enables) later (omega arith)) in
+        let rest = ap length (below_past enabled_at end [] (λ k g. ap isrs_of (past k g).enables) later
+            (omega arith)) in
         let c_is : checks ≡ length (checks_below table.mode later) = omega arith in
         let e_is : enables ≡ length (enables_below table.mode later) = omega arith in
         ap (λ n. none_due n enables) c_is ∙ ap (none_due (length (checks_below table.mode later))) e_is
@@ -211,14 +239,20 @@ module _ (table : TableRows) (within : IsWithin table.limit table.mode) where
       let place = length (expiry_below table (suc offset)) in
       by (slice_get (expiry_points table) place) (next_point offset).ahead
       (if_found (λ (p : ExpiryPoint). p.offset < end) (expiry_points table) place _ refl (points_within table)) where
-        by : (found : Option ExpiryPoint) → IfSome found (λ p. suc offset ≤ p.offset) → IfSome found (λ p. p.offset < end)
+        by : (found : Option ExpiryPoint) → IfSome found (λ p. suc offset ≤ p.offset)
+            → IfSome found (λ p. p.offset < end)
             → IfSome (option_map (λ (p : ExpiryPoint). p.offset) found) (λ next. (offset < next) × (next ≤ table.limit))
         by None ahead less = tt
         by (Some p) ahead less = (ahead, omega arith)
 
   -- between the two nothing stands
-  pub free_between : (offset between : ℕ) → offset < between → IfSome (next_after offset table) (λ next. between < next) → IsFree between table.mode
-  free_between offset between lt before = (next_point offset).free between lt (by (slice_get (expiry_points table) (length (expiry_below table (suc offset)))) before) where
-    by : (found : Option ExpiryPoint) → IfSome (option_map (λ (p : ExpiryPoint). p.offset) found) (λ next. between < next) → IfSome found (λ p. between < p.offset)
+  pub free_between : (offset between : ℕ) → offset < between
+      → IfSome (next_after offset table) (λ next. between < next) → IsFree between table.mode
+  free_between offset between lt before =
+      (next_point offset).free between lt
+      (by (slice_get (expiry_points table) (length (expiry_below table (suc offset)))) before) where
+    by : (found : Option ExpiryPoint)
+        → IfSome (option_map (λ (p : ExpiryPoint). p.offset) found) (λ next. between < next)
+        → IfSome found (λ p. between < p.offset)
     by None h = tt
     by (Some p) h = h

@@ -24,9 +24,11 @@ module _ {X : Type 0} (key : X → ℕ) (R : X → X → Type 0) where
   pub rises : ((x y : X) → R x y → key x ≤ key y) → (xs : List X) → AllPairs R xs → IsNonDecreasingBy key xs
   rises weaker xs pairs i j d le l =
       ⊎_elim (λ (lt : i < j). weaker (get_or xs i d) (get_or xs j d) (pairs i j d lt l))
-      (λ (ge : j ≤ i). let same : i ≡ j = omega arith in let keys = ap (λ n. key (get_or xs n d)) same in omega arith) (cases_lt i j)
+      (λ (ge : j ≤ i). let same : i ≡ j = omega arith in let keys = ap (λ n. key (get_or xs n d)) same in omega arith)
+          (cases_lt i j)
 
-  pub increases : (d : X) (xs : List X) → ((x y : X) → R x y → key x < key y) → AllPairs R xs → IsStrictlyIncreasing (map key xs)
+  pub increases : (d : X) (xs : List X) → ((x y : X) → R x y → key x < key y) → AllPairs R xs
+      → IsStrictlyIncreasing (map key xs)
   increases d xs less pairs k l =
       let long = length-map xs key in
       let one = get_or-map key xs k d 0 (omega arith) in
@@ -48,9 +50,11 @@ activation_pairs least (row ∷ rows) h =
     let here = leb-true least row.offset parts.0 in
     let rest = activation_pairs (row.offset + 1) rows parts.1 in (
       All-cons (λ (r : Activation). least ≤ r.offset) row rows here
-          (All-weaker (λ (r : Activation). row.offset + 1 ≤ r.offset) (λ (r : Activation). least ≤ r.offset) (λ r le. omega arith) rows rest.0),
+          (All-weaker (λ (r : Activation). row.offset + 1 ≤ r.offset) (λ (r : Activation). least ≤ r.offset)
+              (λ r le. omega arith) rows rest.0),
       AllPairs-cons IsEarlier row rows
-          (All-weaker (λ (r : Activation). row.offset + 1 ≤ r.offset) (IsEarlier row) (λ r le. omega arith) rows rest.0) rest.1,
+          (All-weaker (λ (r : Activation). row.offset + 1 ≤ r.offset) (IsEarlier row)
+              (λ r le. omega arith) rows rest.0) rest.1,
     )
 
 -- ---- enables
@@ -62,10 +66,12 @@ pub enable_pairs : (rows : List Enable) → enables_ascend rows ≡ true → All
 enable_pairs [] h = λ i j d lt l. absurd (omega arith)
 enable_pairs (row ∷ rows) h =
     let parts = and_parts (list_all (comes_before row) rows) (enables_ascend rows) h in
-    AllPairs-cons IsBefore row rows (λ k d l. list_all_get (comes_before row) rows k d parts.0 l) (enable_pairs rows parts.1)
+    AllPairs-cons IsBefore row rows (λ k d l. list_all_get (comes_before row) rows k d parts.0 l)
+        (enable_pairs rows parts.1)
 
 -- by offset, and then by number
-pub before_cases : (row later : Enable) → IsBefore row later → (row.offset < later.offset) ⊎ ((row.offset ≡ later.offset) × (row.isr.0 < later.isr.0))
+pub before_cases : (row later : Enable) → IsBefore row later
+    → (row.offset < later.offset) ⊎ ((row.offset ≡ later.offset) × (row.isr.0 < later.isr.0))
 before_cases row later h =
     ⊎_elim (λ (less : nat_lt row.offset later.offset ≡ true). inl (ltb-true row.offset later.offset less))
     (λ (tied : ((row.offset == later.offset) && nat_lt row.isr.0 later.isr.0) ≡ true).
@@ -75,30 +81,37 @@ before_cases row later h =
 
 -- ---- the rows of a mode within a limit
 
-pub activations_rise : (limit : ℕ) (mode : ModeDef) → IsWithin limit mode → IsNonDecreasingBy (λ (row : Activation). row.offset) mode.activations
+pub activations_rise : (limit : ℕ) (mode : ModeDef) → IsWithin limit mode
+    → IsNonDecreasingBy (λ (row : Activation). row.offset) mode.activations
 activations_rise limit mode within =
-    rises (λ (row : Activation). row.offset) IsEarlier (λ row later less. omega arith) mode.activations (activation_pairs 0 mode.activations within.ascending).1
+    rises (λ (row : Activation). row.offset) IsEarlier (λ row later less. omega arith) mode.activations
+        (activation_pairs 0 mode.activations within.ascending).1
 
-pub enables_rise : (limit : ℕ) (mode : ModeDef) → IsWithin limit mode → IsNonDecreasingBy (λ (row : Enable). row.offset) mode.enables
+pub enables_rise : (limit : ℕ) (mode : ModeDef) → IsWithin limit mode
+    → IsNonDecreasingBy (λ (row : Enable). row.offset) mode.enables
 enables_rise limit mode within =
     rises (λ (row : Enable). row.offset) IsBefore
     (λ row later h.
     ⊎_elim (λ (less : row.offset < later.offset). omega arith)
-    (λ (tied : (row.offset ≡ later.offset) × (row.isr.0 < later.isr.0)). let same = tied.0 in omega arith) (before_cases row later h))
+    (λ (tied : (row.offset ≡ later.offset) × (row.isr.0 < later.isr.0)). let same = tied.0 in omega arith)
+        (before_cases row later h))
     mode.enables (enable_pairs mode.enables within.enables_ascending)
 
 -- ---- the modes of a configuration
 
-all_weaker : {X : Type 0} (p q : X → Bool) → ((x : X) → p x ≡ true → q x ≡ true) → (xs : List X) → list_all p xs ≡ true → list_all q xs ≡ true
+all_weaker : {X : Type 0} (p q : X → Bool) → ((x : X) → p x ≡ true → q x ≡ true) → (xs : List X)
+    → list_all p xs ≡ true → list_all q xs ≡ true
 all_weaker p q imp [] h = refl
 all_weaker p q imp (x ∷ xs) h =
     let parts = and_parts (p x) (list_all p xs) h in rw (imp x parts.0, all_weaker p q imp xs parts.1) refl
 
 module _ (c : ConfigParts) where
   -- a row's offset comes before its deadline, and that not after the limit
-  pub deadline_parts : (row : Activation) → is_activation c row ≡ true → (row.offset < row.deadline) × (row.deadline ≤ c.round - c.adjust)
+  pub deadline_parts : (row : Activation) → is_activation c row ≡ true
+      → (row.offset < row.deadline) × (row.deadline ≤ c.round - c.adjust)
   deadline_parts row h =
-      let later = (and_parts (nat_lt row.task.0 (length c.tasks)) (nat_lt row.offset row.deadline && nat_le row.deadline (c.round - c.adjust)) h).1 in
+      let later = (and_parts (nat_lt row.task.0 (length c.tasks))
+          (nat_lt row.offset row.deadline && nat_le row.deadline (c.round - c.adjust)) h).1 in
       let both = and_parts (nat_lt row.offset row.deadline) (nat_le row.deadline (c.round - c.adjust)) later in
       (ltb-true row.offset row.deadline both.0, leb-true row.deadline (c.round - c.adjust) both.1)
 
@@ -107,20 +120,29 @@ module _ (c : ConfigParts) where
   mode_within mode h = record {
     ascending = h.ascending;
     enables_ascending = h.enables_ascending;
-    below = all_weaker (is_activation c) (λ (row : Activation). nat_lt row.offset (c.round - c.adjust)) (λ row e. let parts = deadline_parts row e in let one = parts.0 in let other = parts.1 in lt-ltb _ _ (omega arith)) mode.activations h.activations;
-    enables_below = all_weaker (is_enable c) (λ (row : Enable). nat_lt row.offset (c.round - c.adjust)) (λ row e. (and_parts (nat_lt row.isr.0 (length c.isrs)) (nat_lt row.offset (c.round - c.adjust)) e).1) mode.enables h.enables;
-    deadlines = all_weaker (is_activation c) (λ (row : Activation). nat_le row.deadline (c.round - c.adjust)) (λ row e. le-leb _ _ (deadline_parts row e).1) mode.activations h.activations;
+    below = all_weaker (is_activation c) (λ (row : Activation). nat_lt row.offset (c.round - c.adjust))
+        (λ row e. let parts = deadline_parts row e in let one = parts.0 in let other = parts.1 in
+        lt-ltb _ _ (omega arith)) mode.activations h.activations;
+    enables_below = all_weaker (is_enable c) (λ (row : Enable). nat_lt row.offset (c.round - c.adjust))
+        (λ row e. (and_parts (nat_lt row.isr.0 (length c.isrs)) (nat_lt row.offset (c.round - c.adjust)) e).1)
+        mode.enables h.enables;
+    deadlines = all_weaker (is_activation c) (λ (row : Activation). nat_le row.deadline (c.round - c.adjust))
+        (λ row e. le-leb _ _ (deadline_parts row e).1) mode.activations h.activations;
   }
 
   -- each mode of a configuration, also one that is not there
   pub config_within : (n : ℕ) → IsConfig c → IsWithin (c.round - c.adjust) (mode_at c n)
   config_within n rules =
-      ⊎_elim (λ (l : n < length c.modes). mode_within (mode_at c n) (All-get_or (IsMode c) c.modes n no_mode l rules.modes))
-      (λ (g : length c.modes ≤ n). subst (IsWithin (c.round - c.adjust)) (sym (get_or_past c.modes n no_mode g)) no_rows)
+      ⊎_elim (λ (l : n < length c.modes). mode_within (mode_at c n)
+          (All-get_or (IsMode c) c.modes n no_mode l rules.modes))
+      (λ (g : length c.modes ≤ n). subst (IsWithin (c.round - c.adjust))
+          (sym (get_or_past c.modes n no_mode g)) no_rows)
       (cases_lt n (length c.modes)) where
         no_rows : IsWithin (c.round - c.adjust) no_mode
-        no_rows = record { ascending = refl; enables_ascending = refl; below = refl; enables_below = refl; deadlines = refl }
+        no_rows = record { ascending = refl; enables_ascending = refl; below = refl; enables_below = refl; deadlines =
+            refl }
 
-  pub found_within : (n : ℕ) (mode : ModeDef) → IsConfig c → n < length c.modes → mode ≡ get_or c.modes n mode → IsWithin (c.round - c.adjust) mode
+  pub found_within : (n : ℕ) (mode : ModeDef) → IsConfig c → n < length c.modes → mode ≡ get_or c.modes n mode
+      → IsWithin (c.round - c.adjust) mode
   found_within n mode rules l is =
       subst (IsWithin (c.round - c.adjust)) (sym (is ∙ get_or_default c.modes n mode no_mode l)) (config_within n rules)

@@ -35,4 +35,5 @@ entries_in checks = map (λ (check : Check). check.entry) checks
 -- the checks ascend by offset, and those of an offset are of the entries that are due there, in their order
 pub record AreChecks (mode : ModeDef) (checks : List Check) : Type 0 where
   pub ascending : IsNonDecreasingBy (λ (check : Check). check.offset) checks
-  pub entries : (offset : ℕ) → entries_in (filter (λ (check : Check). check.offset == offset) checks) ≡ entries_due (is_at offset) mode
+  pub entries : (offset : ℕ) → entries_in (filter (λ (check : Check). check.offset == offset) checks)
+      ≡ entries_due (is_at offset) mode

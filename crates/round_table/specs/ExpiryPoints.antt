@@ -15,7 +15,8 @@ pub record IsDue (table : TableRows) (offset : ℕ) (due : Due) : Type 0 where
   pub exact : due ≡ due_at offset table
   pub checks : slice_range (checks_of table) due.checks_from due.checks_to ≡ entries_due (is_at offset) table.mode
   pub checks_within : due.checks_to ≤ length (checks_of table)
-  pub enables : slice_range (enables_of table) due.enables_from due.enables_to ≡ isrs_of (enables_at offset table.mode.enables)
+  pub enables : slice_range (enables_of table) due.enables_from due.enables_to
+      ≡ isrs_of (enables_at offset table.mode.enables)
   pub enables_within : due.enables_to ≤ length (enables_of table)
   pub activation : due.activation ≡ entry_at offset table.mode.activations
   pub activation_within : IfSome due.activation (λ entry. entry < length table.mode.activations)
@@ -48,7 +49,8 @@ expiry_points table = expiry_below table (suc table.limit)
 -- the offset of the first expiry point after this offset
 abbrev pub next_after : ℕ → TableRows → Option ℕ
 next_after offset table =
-    option_map (λ (p : ExpiryPoint). p.offset) (slice_get (expiry_points table) (length (expiry_below table (suc offset))))
+    option_map (λ (p : ExpiryPoint). p.offset)
+        (slice_get (expiry_points table) (length (expiry_below table (suc offset))))
 
 -- ---- cursors
 

@@ -27,7 +27,8 @@ OfModes Law = (c : ConfigParts) (mode : ModeDef) → IsMode c mode → Law c mod
 abbrev pub PointsComeAfterActivations : Type 0
 PointsComeAfterActivations =
     OfModes
-    (λ c mode. (entry : ℕ) → entry < length mode.activations → IsAfter c None (offset_at mode entry) (point_at mode entry))
+    (λ c mode. (entry : ℕ) → entry < length mode.activations
+        → IsAfter c None (offset_at mode entry) (point_at mode entry))
 
 -- no mode has both a point at the offset L - A and one at the round's end
 abbrev pub PointsHaveOneEnd : Type 0
@@ -44,4 +45,5 @@ ChecksAreByOffset =
 -- the enables of an offset ascend by the number of the routine
 abbrev pub EnablesAreByNumber : Type 0
 EnablesAreByNumber =
-    OfModes (λ c mode. (offset : ℕ) → IsStrictlyIncreasing (map (λ (row : Enable). row.isr.0) (enables_at offset mode.enables)))
+    OfModes (λ c mode. (offset : ℕ)
+        → IsStrictlyIncreasing (map (λ (row : Enable). row.isr.0) (enables_at offset mode.enables)))

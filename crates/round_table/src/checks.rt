@@ -53,7 +53,8 @@ fn offsets_in(alloc: Global, mode: &ModeDef) -> Result<Vec<u64>, Memory>
     Ok(offsets)
 }
 
-/// A mode, with the offsets at which it has an activation, an enable or a stringent deadline in ascending order. Contracts see the mode.
+/// A mode, with the offsets at which it has an activation, an enable or a stringent deadline in
+/// ascending order. Contracts see the mode.
 #[derive(Drop)]
 struct Monitor<'a> {
     mode: &'a ModeDef,
@@ -116,8 +117,10 @@ impl Checks {
     /// Appends the monitoring point of an entry number.
     fn put(&mut self, entry: usize, point: Point) -> Result<(), Memory>
         ensures points { OnOk result (self.new.points.items ≡ self.old.points.items ++ point ∷ []) }
-        ensures due { OnOk result (self.new.due.items ≡ self.old.due.items ++ check_if entry point) }
-        ensures ends { OnOk result (self.new.ends.items ≡ self.old.ends.items ++ cond (is_round_end point) (entry ∷ []) []) }
+        ensures due { OnOk result (self.new.due.items ≡ self.old.due.items ++ check_if entry point)
+            }
+        ensures ends { OnOk result (self.new.ends.items
+            ≡ self.old.ends.items ++ cond (is_round_end point) (entry ∷ []) []) }
     {
         let wanting = match point {
             Point::At(offset) => self.due.push(Check { offset, entry }).is_err(),
@@ -131,9 +134,12 @@ impl Checks {
 
     /// The monitoring points of a mode, and its checks by entry number.
     fn by_entry(alloc: Global, mode: &ModeDef) -> Result<Checks, Memory>
-        ensures points { IfOk result (λ checks. checks.points.items ≡ map (point_of mode.now) mode.now.activations) }
-        ensures due { IfOk result (λ checks. checks.due.items ≡ checks_among mode.now (length mode.now.activations)) }
-        ensures ends { IfOk result (λ checks. checks.ends.items ≡ ends_among mode.now (length mode.now.activations)) }
+        ensures points { IfOk result
+            (λ checks. checks.points.items ≡ map (point_of mode.now) mode.now.activations) }
+        ensures due { IfOk result (λ checks. checks.due.items
+            ≡ checks_among mode.now (length mode.now.activations)) }
+        ensures ends { IfOk result (λ checks. checks.ends.items
+            ≡ ends_among mode.now (length mode.now.activations)) }
     {
         let monitor = Monitor::new(alloc, mode)?;
         let mut checks = Checks {
@@ -147,12 +153,14 @@ impl Checks {
         Ok(checks)
     }
 
-    /// The monitoring points of a mode, and its checks by offset, and those of one offset by entry number, in time that is n log n in
-    /// its rows.
+    /// The monitoring points of a mode, and its checks by offset, and those of one offset by entry
+    /// number, in time that is n log n in its rows.
     pub(crate) fn of_mode(alloc: Global, mode: &ModeDef) -> Result<Checks, Memory>
-        ensures points { IfOk result (λ checks. checks.points.items ≡ map (point_of mode.now) mode.now.activations) }
+        ensures points { IfOk result
+            (λ checks. checks.points.items ≡ map (point_of mode.now) mode.now.activations) }
         ensures due { IfOk result (λ checks. AreChecks mode.now checks.due.items) }
-        ensures ends { IfOk result (λ checks. checks.ends.items ≡ entries_due is_round_end mode.now) }
+        ensures ends { IfOk result (λ checks. checks.ends.items
+            ≡ entries_due is_round_end mode.now) }
     {
         let mut checks = Checks::by_entry(alloc, mode)?;
         match checks.due.sort_by_key(|check| check.offset) {

@@ -13,7 +13,8 @@ use std::marker::Model;
 use tt_base::Memory;
 use tt_world::ModeDef;
 
-/// A mode with its checks at offsets of the round, by offset, and those of one offset by entry number.
+/// A mode with its checks at offsets of the round, by offset, and those of one offset by entry
+/// number.
 #[derive(Drop)]
 pub(crate) struct CheckedMode<'a> {
     pub(crate) mode: &'a ModeDef,
@@ -92,7 +93,8 @@ impl CheckedMode<'_> {
 
     /// The expiry points of the mode, in ascending order, in one walk along its rows and checks.
     pub(crate) fn expiry_points(&self, alloc: Global) -> Result<Vec<ExpiryPoint>, Memory>
-        ensures { IfOk result (λ points. (limit : ℕ) → IsWithin limit self.now.mode → points.items ≡ expiry_points (record { mode = self.now.mode; limit = limit })) }
+        ensures { IfOk result (λ points. (limit : ℕ) → IsWithin limit self.now.mode
+            → points.items ≡ expiry_points (record { mode = self.now.mode; limit = limit })) }
     {
         let mut points = Vec::new(alloc);
         let mut places = Places {

@@ -20,9 +20,10 @@ use std::marker::Model;
 use tt_base::{IsrNo, Memory, ModeNo};
 use tt_world::{Activation, Config, Enable, ModeDef, Point};
 
-/// The dispatcher table of an application mode: its rows, the checks of its deadlines at their monitoring points, and its expiry points.
-/// Offsets are in ticks from the start of the round. Contracts see the rows, and the round's length less the greatest correction, at
-/// which a round ends at the earliest. No call but `build` takes memory.
+/// The dispatcher table of an application mode: its rows, the checks of its deadlines at their
+/// monitoring points, and its expiry points. Offsets are in ticks from the start of the round.
+/// Contracts see the rows, and the round's length less the greatest correction, at which a round
+/// ends at the earliest. No call but `build` takes memory.
 #[derive(Debug, Drop)]
 pub struct Table {
     activations: Vec<Activation>,
@@ -44,9 +45,13 @@ impl Model for Table {
 
     ghost Value = { TableRows };
 
-    ghost view = { λ t. record { mode = record { activations = t.activations.items; enables = t.enables.items }; limit = t.limit } };
+    ghost view = { λ t. record { mode =
+        record { activations = t.activations.items; enables = t.enables.items }; limit = t.limit }
+        };
 
-    ghost invariant = { λ t. IsTable (record { mode = record { activations = t.activations.items; enables = t.enables.items }; limit = t.limit }) t.points.items t.checks.items t.end t.expiry.items };
+    ghost invariant = { λ t. IsTable
+        (record { mode = record { activations = t.activations.items; enables = t.enables.items };
+        limit = t.limit }) t.points.items t.checks.items t.end t.expiry.items };
 }
 
 fn copied<T: Copy>(alloc: Global, items: &[T]) -> Result<Vec<T>, Memory>
@@ -58,7 +63,8 @@ fn copied<T: Copy>(alloc: Global, items: &[T]) -> Result<Vec<T>, Memory>
     }
 }
 
-/// What is due at an offset where nothing stands, before the checks and the enables at these places.
+/// What is due at an offset where nothing stands, before the checks and the enables at these
+/// places.
 fn nothing_before(check: usize, enable: usize) -> Due
     ensures { result ≡ none_due check enable }
 {
@@ -108,7 +114,8 @@ impl Table {
         })
     }
 
-    /// The dispatcher table of a mode, in time that is n log n in its rows. `Memory` is its one refusal.
+    /// The dispatcher table of a mode, in time that is n log n in its rows. `Memory` is its one
+    /// refusal.
     pub fn build(alloc: Global, config: &Config, mode: ModeNo) -> Result<Table, Memory>
         requires { mode.0 < length config.now.modes }
         ensures { IfOk result (λ table. table ≡ table_of config.now (mode_at config.now mode.0)) }
@@ -125,21 +132,24 @@ impl Table {
         self.activations.len()
     }
 
-    /// The rows that activate, in ascending order of offset: the place of a row is its entry number.
+    /// The rows that activate, in ascending order of offset: the place of a row is its entry
+    /// number.
     pub fn activations(&self) -> &[Activation]
         ensures { result.now ≡ self.now.mode.activations }
     {
         &self.activations
     }
 
-    /// How many activations have offsets below this one, found by binary search: they stand in front of the others.
+    /// How many activations have offsets below this one, found by binary search: they stand in
+    /// front of the others.
     pub fn activations_before(&self, offset: u64) -> usize
         ensures { IsCut (λ row. nat_lt row.offset offset) self.now.mode.activations result }
     {
         before(&self.activations, offset)
     }
 
-    /// How many enables have offsets below this one, found by binary search: they stand in front of the others.
+    /// How many enables have offsets below this one, found by binary search: they stand in front
+    /// of the others.
     pub fn enables_before(&self, offset: u64) -> usize
         ensures { IsCut (λ row. nat_lt row.offset offset) self.now.mode.enables result }
     {
@@ -161,9 +171,10 @@ impl Table {
         self.activations[entry]
     }
 
-    /// The monitoring point of the activation of an entry number: its deadline where that is monitored stringently, else the least
-    /// offset at or after the deadline at which the mode has an activation, an enable or a stringent deadline, or the round's end. Where
-    /// deadlines are monitored is the bench's own rule.
+    /// The monitoring point of the activation of an entry number: its deadline where that is
+    /// monitored stringently, else the least offset at or after the deadline at which the mode has
+    /// an activation, an enable or a stringent deadline, or the round's end. Where deadlines are
+    /// monitored is the bench's own rule.
     pub fn monitor(&self, entry: usize) -> Point
         requires { entry < length self.now.mode.activations }
         ensures { result ≡ point_of self.now.mode (row_of self.now.mode entry) }
@@ -188,20 +199,22 @@ impl Table {
         self.enables[place].isr
     }
 
-    /// The expiry points in ascending order of offset: one for each offset at which a check, an enable or an activation stands. The
-    /// OSEK/VDX standard: the dispatcher table.
+    /// The expiry points in ascending order of offset: one for each offset at which a check, an
+    /// enable or an activation stands. The OSEK/VDX standard: the dispatcher table.
     pub fn expiry_points(&self) -> &[ExpiryPoint]
         ensures { result.now ≡ expiry_points self.now }
     {
         &self.expiry
     }
 
-    /// The expiry point at a place of their list, if there is one. A dispatcher keeps the number of the expiry points before the present
-    /// offset, its cursor: the point there is the one that comes next.
+    /// The expiry point at a place of their list, if there is one. A dispatcher keeps the number
+    /// of the expiry points before the present offset, its cursor: the point there is the one that
+    /// comes next.
     pub fn expiry_at(&self, place: usize) -> Option<ExpiryPoint>
         ensures at { result ≡ slice_get (expiry_points self.now) place }
         ensures due { IfSome result (λ point. IsDue self.now point.offset point.due) }
-        ensures next { (offset : ℕ) → IsCursor self.now place offset → IsNextPoint self.now place offset result }
+        ensures next { (offset : ℕ) → IsCursor self.now place offset
+            → IsNextPoint self.now place offset result }
     {
         item(&self.expiry, place)
     }
@@ -230,39 +243,47 @@ impl Table {
         }
     }
 
-    /// What is due at an offset of the round, found by binary search: the places of the checks whose monitoring point it is, in ascending
-    /// order of entry, which is that of the offset of activation; the places of the enables at it, by number of the routine; and the
-    /// entry number of the activation, which is None exactly where there is none.
+    /// What is due at an offset of the round, found by binary search: the places of the checks
+    /// whose monitoring point it is, in ascending order of entry, which is that of the offset of
+    /// activation; the places of the enables at it, by number of the routine; and the entry number
+    /// of the activation, which is None exactly where there is none.
     pub fn due(&self, offset: u64) -> Due
         ensures exact { result ≡ due_at offset self.now }
-        ensures checks { slice_range (checks_of self.now) result.checks_from result.checks_to ≡ entries_due (is_at offset) self.now.mode }
+        ensures checks { slice_range (checks_of self.now) result.checks_from result.checks_to
+            ≡ entries_due (is_at offset) self.now.mode }
         ensures checks_within { result.checks_to ≤ length (checks_of self.now) }
-        ensures enables { slice_range (enables_of self.now) result.enables_from result.enables_to ≡ isrs_of (enables_at offset self.now.mode.enables) }
+        ensures enables { slice_range (enables_of self.now) result.enables_from result.enables_to
+            ≡ isrs_of (enables_at offset self.now.mode.enables) }
         ensures enables_within { result.enables_to ≤ length (enables_of self.now) }
         ensures activation { result.activation ≡ entry_at offset self.now.mode.activations }
-        ensures activation_within { IfSome result.activation (λ entry. entry < length self.now.mode.activations) }
+        ensures activation_within { IfSome result.activation
+            (λ entry. entry < length self.now.mode.activations) }
     {
         self.found(offset)
     }
 
-    /// The places, from the first up to below the second, of the checks at the end of a round of this length, in ticks: those whose
-    /// monitoring point is not an offset below the length, in ascending order of entry. The length is at least the round's length of the
-    /// configuration less the greatest correction: no correction makes a round shorter.
+    /// The places, from the first up to below the second, of the checks at the end of a round of
+    /// this length, in ticks: those whose monitoring point is not an offset below the length, in
+    /// ascending order of entry. The length is at least the round's length of the configuration
+    /// less the greatest correction: no correction makes a round shorter.
     pub fn end_checks(&self, round_length: u64) -> (usize, usize)
         requires { self.now.limit ≤ round_length }
         ensures from { result.0 ≡ length (checks_below self.now.mode round_length) }
         ensures to { result.1 ≡ length (checks_of self.now) }
-        ensures checks { slice_range (checks_of self.now) result.0 result.1 ≡ entries_due (is_at_end round_length) self.now.mode }
+        ensures checks { slice_range (checks_of self.now) result.0 result.1
+            ≡ entries_due (is_at_end round_length) self.now.mode }
     {
         (self.due(round_length).checks_from, self.checks.len())
     }
 
-    /// The least offset after this one at which a check, an enable or an activation stands, found by binary search. It is None exactly
-    /// where there is none. At no offset between does anything stand.
+    /// The least offset after this one at which a check, an enable or an activation stands, found
+    /// by binary search. It is None exactly where there is none. At no offset between does
+    /// anything stand.
     pub fn next_after(&self, offset: u64) -> Option<u64>
         ensures least { result ≡ next_after offset self.now }
         ensures ahead { IfSome result (λ next. (offset < next) × (next ≤ self.now.limit)) }
-        ensures free { (between : ℕ) → offset < between → IfSome result (λ next. between < next) → IsFree between self.now.mode }
+        ensures free { (between : ℕ) → offset < between → IfSome result (λ next. between < next)
+            → IsFree between self.now.mode }
     {
         offset_at(&self.expiry, self.place_after(offset))
     }

@@ -9,7 +9,8 @@ use std::marker::Model;
 use tt_base::{Memory, ModeNo, Series};
 use tt_world::Config;
 
-/// The dispatcher tables of a configuration. Contracts see them as the list of the tables of its modes, in order.
+/// The dispatcher tables of a configuration. Contracts see them as the list of the tables of its
+/// modes, in order.
 #[derive(Debug, Drop)]
 pub struct Tables {
     tables: Series<Table>,

@@ -100,7 +100,8 @@ words_step new f fs false same =
     let more = sum_by-cons (λ (g : StackFrame). g.words) new (f ∷ fs) in
     omega arith
 
-pub sum-by_level : (new : StackFrame) (fs : List StackFrame) → sum_of_words (by_level new fs) ≡ sum_of_words fs + new.words
+pub sum-by_level : (new : StackFrame) (fs : List StackFrame)
+    → sum_of_words (by_level new fs) ≡ sum_of_words fs + new.words
 sum-by_level new [] = sum_by-cons (λ (g : StackFrame). g.words) new [] ∙ omega arith
 sum-by_level new (f ∷ fs) = words_step new f fs (is_lower new.level f) (sum-by_level new fs)
 
@@ -119,7 +120,8 @@ abbrev Below : StackFrame → StackFrame → Type 0
 Below f later = f.level < later.level
 
 -- a frame below the first of others is below all of them
-below_all : (new f : StackFrame) (fs : List StackFrame) → new.level < f.level → IsByLevel (f ∷ fs) → All (Below new) (f ∷ fs)
+below_all : (new f : StackFrame) (fs : List StackFrame) → new.level < f.level → IsByLevel (f ∷ fs)
+    → All (Below new) (f ∷ fs)
 below_all new f fs less pairs =
     All-more (Below new) f fs less
     (λ k d within. let more = AllPairs-first Below f fs pairs k d within in omega (arith, more))
@@ -227,19 +229,6 @@ stack_small {tasks} {isrs} {words} s =
     let second = sum_by-le (λ (f : StackFrame). f.words) (2 ^ 32 - 1) isrs s.isr_words in
     omega (arith, s.few_tasks, s.few_isrs, s.sum, first, second)
 
--- a task was pushed
-pub stack_pushed : {tasks isrs : List StackFrame} {words : ℕ} (new : StackFrame) → length tasks < 64
-    → new.words ≤ 2 ^ 32 - 1 → IsStack tasks isrs words → IsStack (tasks ++ new ∷ []) isrs (words + new.words)
-stack_pushed {tasks} {isrs} {words} new room fits s = record {
-  few_tasks = omega (arith, length-append tasks (new ∷ []));
-  few_isrs = s.few_isrs;
-  by_level = s.by_level;
-  task_words = All-append (λ g. g.words ≤ 2 ^ 32 - 1) tasks (new ∷ []) s.task_words
-      (All-one (λ g. g.words ≤ 2 ^ 32 - 1) new fits);
-  isr_words = s.isr_words;
-  sum = let more = sum_by_push (λ (g : StackFrame). g.words) tasks new in omega (arith, s.sum, more);
-}
-
 -- a routine was accepted
 pub stack_accepted : {tasks isrs : List StackFrame} {words : ℕ} (new : StackFrame) → length isrs < 16
     → new.words ≤ 2 ^ 32 - 1 → All (λ f. f.level ≢ new.level) isrs → IsStack tasks isrs words
@@ -252,50 +241,6 @@ stack_accepted {tasks} {isrs} {words} new room fits others s = record {
   isr_words = All-by_level (λ g. g.words ≤ 2 ^ 32 - 1) new isrs fits s.isr_words;
   sum = let more = sum-by_level new isrs in omega (arith, s.sum, more);
 }
-
--- the words of a last frame are among those of all
-words_less : (all front : List StackFrame) (gone : StackFrame) → all ≡ front ++ gone ∷ []
-    → sum_of_words all ≡ sum_of_words front + gone.words
-words_less all front gone is = ap sum_of_words is ∙ sum_by_push (λ (g : StackFrame). g.words) front gone
-
-fewer : (all front : List StackFrame) (gone : StackFrame) → all ≡ front ++ gone ∷ [] → length all ≡ length front + 1
-fewer all front gone is = ap length is ∙ length-append front (gone ∷ [])
-
--- the last routine is gone
-pub isr_gone : {tasks isrs : List StackFrame} {words : ℕ} (front : List StackFrame) (gone : StackFrame)
-    → isrs ≡ front ++ gone ∷ [] → IsStack tasks isrs words
-    → (gone.words ≤ words) × IsStack tasks front (words - gone.words)
-isr_gone {tasks} {isrs} {words} front gone is s =
-    let less = words_less isrs front gone is in
-    let count = fewer isrs front gone is in (
-      omega (arith, s.sum, less),
-      record {
-        few_tasks = s.few_tasks;
-        few_isrs = omega (arith, s.few_isrs, count);
-        by_level = AllPairs-front Below front (gone ∷ []) (subst IsByLevel is s.by_level);
-        task_words = s.task_words;
-        isr_words = All-front (λ g. g.words ≤ 2 ^ 32 - 1) front (gone ∷ []) (subst AreWords is s.isr_words);
-        sum = omega (arith, s.sum, less);
-      },
-    )
-
--- the last task is gone
-pub task_gone : {tasks isrs : List StackFrame} {words : ℕ} (front : List StackFrame) (gone : StackFrame)
-    → tasks ≡ front ++ gone ∷ [] → IsStack tasks isrs words
-    → (gone.words ≤ words) × IsStack front isrs (words - gone.words)
-task_gone {tasks} {isrs} {words} front gone is s =
-    let less = words_less tasks front gone is in
-    let count = fewer tasks front gone is in (
-      omega (arith, s.sum, less),
-      record {
-        few_tasks = omega (arith, s.few_tasks, count);
-        few_isrs = s.few_isrs;
-        by_level = s.by_level;
-        task_words = All-front (λ g. g.words ≤ 2 ^ 32 - 1) front (gone ∷ []) (subst AreWords is s.task_words);
-        isr_words = s.isr_words;
-        sum = omega (arith, s.sum, less);
-      },
-    )
 
 -- the last routine stands elsewhere
 pub isr_moved : {tasks isrs : List StackFrame} {words : ℕ} (moved : List StackFrame) → Keeps isrs moved

@@ -30,8 +30,9 @@ pub struct StackFrame {
     pub frame: Frame,
 }
 
-/// The unfinished activations of tasks, in the order of activation, and the unfinished interrupt service routines by
-/// level, the lowest first. It takes no memory beside its own. Contracts see it as these two lists.
+/// The unfinished activations of tasks, in the order of activation, and the unfinished interrupt
+/// service routines by level, the lowest first. It takes no memory beside its own. Contracts see
+/// it as these two lists.
 #[derive(Drop)]
 pub struct RunStack {
     /// The sum of the words of all frames.
@@ -138,8 +139,8 @@ impl RunStack {
         insert_by_level(&mut self.isrs, new);
     }
 
-    /// The frame on top: that of the routine of the highest level, else that of the task activated last. None exactly
-    /// where the stack is empty.
+    /// The frame on top: that of the routine of the highest level, else that of the task activated
+    /// last. None exactly where the stack is empty.
     pub fn top(&self) -> Option<Top>
         ensures top { result ≡ option_map seen (top_of self.now) }
         ensures none { IsNone result ↔ (depth_of self.now ≡ 0) }

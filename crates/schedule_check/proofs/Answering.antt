@@ -80,7 +80,8 @@ module _ (c : ConfigParts) where
 
   by_answer : (first : Option ℕ) → first ≡ late_mode c → answer_at c first ≡ Yes → late_mode c ≡ None
   by_answer None is e = sym is
-  by_answer (Some n) is e = absurd (let differ : No (record { 0 = n }) (unwrap_or (late_entry c (mode_at c n)) 0) ≡ Yes = e in cc)
+  by_answer (Some n) is e = absurd
+      (let differ : No (record { 0 = n }) (unwrap_or (late_entry c (mode_at c n)) 0) ≡ Yes = e in cc)
 
   -- where the answer is yes each activation has a response end
   pub each_responds : answer_of c ≡ Yes → EachResponds c

@@ -145,9 +145,6 @@ module _ (c : ConfigParts) (s : ScriptParts) (isr T : ℕ) (w : World) where
   unfolding now_rows
   ignores n v _ _ _ _ _ p = (record { tick = p.0.tick; started = p.0.started; same = p.0.same }, p.1)
 
-  ignores_here : IgnoresGates (Here T T w)
-  ignores_here v _ _ _ _ _ p = record { tick = p.tick; started = p.started; same = p.same }
-
   none_more : (es fs : List Event) → Of (IsNoEnable isr) fs → enables_of isr (es ++ fs) ≡ enables_of isr es
   none_more es fs p = let a = count_more (is_enable isr) es fs in let b = none_of isr fs p in omega arith
 

@@ -57,7 +57,8 @@ routine_more isr d e t u l k =
     let h : 2 + most_begins isr.distance d t ≤ 2 + most_begins isr.distance e u = omega arith in
     mul-le-mul_left isr.budget h
 
-pub demand_more : (c : ConfigParts) (mode : ModeDef) (from t u : ℕ) → t ≤ u → demand c mode from t ≤ demand c mode from u
+pub demand_more : (c : ConfigParts) (mode : ModeDef) (from t u : ℕ) → t ≤ u
+    → demand c mode from t ≤ demand c mode from u
 unfolding demand
 demand_more c mode from t u l =
     let tasks = tasks_more from t u l c mode in

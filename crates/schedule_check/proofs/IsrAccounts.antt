@@ -7,7 +7,6 @@ use Rattle.std.proofs.lemmas.List.Sums.{sum_by-append}
 use Rattle.std.proofs.lemmas.List.Elements.{All-get_or}
 use Rattle.std.proofs.lemmas.Bool.{false≢true}
 use Rattle.tt_base.specs.declared.event.Event.{Event}
-use Rattle.tt_base.specs.declared.event.Event.TheVariants.{Arrive}
 use Rattle.tt_base.specs.declared.number.IsrNo.{IsrNo}
 use Rattle.tt_base.specs.declared.event.Owner.TheVariants as owner
 use Rattle.task_lang.specs.declared.syntax.Stmt.{Stmt}
@@ -31,16 +30,8 @@ use Rattle.tt_world.proofs.Keeps.{IsOsek, IsLeftAfter}
 
 -- ---- the account
 
--- how many of these events are enables, and how many are arrivals
-abbrev pub is_arrive : ℕ → Event → Bool
-is_arrive isr (Arrive at (owner.Isr other)) = other.0 == isr
-is_arrive isr event = false
-
 abbrev pub enables_of : ℕ → List Event → ℕ
 enables_of isr es = count_by (is_enable isr) es
-
-abbrev pub arrives_of : ℕ → List Event → ℕ
-arrives_of isr es = count_by (is_arrive isr) es
 
 pub count_more : (p : Event → Bool) (es fs : List Event) → count_by p (es ++ fs) ≡ count_by p es + count_by p fs
 count_more p es fs = sum_by-append (λ x. cond (p x) 1 0) es fs

@@ -132,11 +132,6 @@ module _ (c : ConfigParts) (s : ScriptParts) where
       (λ (g : length w.isrs ≤ j.0). absurd (false≢true (sym undone ∙ ap is_done (get_or_past w.isrs j.0 [] g))))
       (cases_lt j.0 (length w.isrs))
 
-  runner_cases : (over : Bool) (r : Runner) (j : IsrNo) → ((k : IsrNo) → r ≡ runner.Isr k → k.0 < length c.isrs)
-      → runner_if over r ≡ runner.Isr j → j.0 < length c.isrs
-  runner_cases true r j h e = cc
-  runner_cases false r j h e = h j e
-
   opening_within : (n : ℕ) → GoesOnBefore c s n → (over : Bool) → is_over (opening c s (world_at c s n)).end ≡ over
       → (j : IsrNo) → runner_if over (runner_of c (opening c s (world_at c s n)).world) ≡ runner.Isr j
       → j.0 < length c.isrs

@@ -46,7 +46,8 @@ module _ (c : ConfigParts) (s : ScriptParts) where
           ⊎_elim (λ (l : demand < length s.values). below_passes (keeps_value c s) (length s.values)
           (and_parts values arrivals kept).0 demand l)
           (λ (g : length s.values ≤ demand).
-          ap (list_all (λ value. nat_le value (most_of (slice_get c.demands demand)))) (get_or_past s.values demand [] g))
+          ap (list_all (λ value. nat_le value (most_of (slice_get c.demands demand))))
+              (get_or_past s.values demand [] g))
           (cases_lt demand (length s.values));
       distances = below_passes (keeps_arrivals c s) (length c.isrs) (and_parts values arrivals kept).1;
     },

@@ -20,7 +20,8 @@ module _ (f : ℕ → ℕ) where
   pub largest_le : (n m : ℕ) → ((k : ℕ) → k < n → f k ≤ m) → largest f n ≤ m
   unfolding largest
   largest_le zero m h = omega arith
-  largest_le (suc n) m h = let r = largest_le n m (λ k l. h k (omega arith)) in let here = h n (omega arith) in omega arith
+  largest_le (suc n) m h = let r = largest_le n m (λ k l. h k (omega arith)) in let here = h n (omega arith) in
+      omega arith
 
   -- one number more
   pub largest_more : (n most x : ℕ) → most ≡ largest f n → x ≡ f n → max most x ≡ largest f (n + 1)

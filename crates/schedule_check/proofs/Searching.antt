@@ -14,9 +14,6 @@ module _ (c : ConfigParts) (mode : ModeDef) (row : Activation) where
   abbrev pub NoneBefore : ℕ → Type 0
   NoneBefore end = (t : ℕ) → row.offset < t → t < end → demand_fits c mode row t ≡ false
 
-  pub none_first : NoneBefore (row.offset + 1)
-  none_first t a b = absurd (omega arith)
-
   -- where the demand up to an offset does not fit, it fits at none up to below its own end
   pub none_later : (end d : ℕ) → NoneBefore end → row.offset < end → d ≡ demand c mode row.offset end
       → end - row.offset < d → NoneBefore (row.offset + d)
@@ -31,7 +28,8 @@ module _ (c : ConfigParts) (mode : ModeDef) (row : Activation) where
       → d ≤ end - row.offset → Some end ≡ response c mode row
   unfolding response
   found end d none later early is fits =
-      sym (least_is (demand_fits c mode row) (row.offset + 1) (row.deadline - row.offset) end (omega arith) (omega arith)
+      sym (least_is (demand_fits c mode row) (row.offset + 1) (row.deadline - row.offset) end (omega arith)
+          (omega arith)
       (le-leb (demand c mode row.offset end) (end - row.offset) (omega arith))
       (λ j a b. none j (omega arith) b))
 

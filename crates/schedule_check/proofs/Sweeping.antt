@@ -35,7 +35,8 @@ module _ (c : ConfigParts) (rules : IsConfig c) (table : TableRows) (of : IsTabl
   inside j l = let b = row_within c rules table of j l in let a = b.0 in let d = b.1 in omega arith
 
   -- the checks at an offset or before it stand in front
-  front : (o : ℕ) → o ≤ table.limit → take (length (checks_below table.mode (suc o))) (checks_of table) ≡ checks_below table.mode (suc o)
+  front : (o : ℕ) → o ≤ table.limit
+      → take (length (checks_below table.mode (suc o))) (checks_of table) ≡ checks_below table.mode (suc o)
   front o l =
       let at : ℕ → List ℕ = λ k. entries_due (is_at k) table.mode in
       let rest = below_begins at (suc o) (suc table.limit) (omega arith) in
@@ -87,7 +88,8 @@ module _ (c : ConfigParts) (rules : IsConfig c) (table : TableRows) (of : IsTabl
       ap (λ (d : Due). d.checks_to) e ∙ ap (λ (r : Activation). length (checks_below table.mode (suc r.offset))) is
 
   -- one activation more has opened
-  pub opens : (j : ℕ) (row : Activation) (opened weight : ℕ) → j < length table.mode.activations → row ≡ row_of table.mode j
+  pub opens : (j : ℕ) (row : Activation) (opened weight : ℕ) → j < length table.mode.activations
+      → row ≡ row_of table.mode j
       → opened ≡ sum_by w (take j table.mode.activations) → weight ≡ w row
       → opened + weight ≡ sum_by w (take (j + 1) table.mode.activations)
   opens j row opened weight l is so_far heavy =
@@ -96,7 +98,8 @@ module _ (c : ConfigParts) (rules : IsConfig c) (table : TableRows) (of : IsTabl
       omega arith
 
   -- a step of the sweep: what has opened is what has closed, and what is open
-  pub step : (j : ℕ) (row : Activation) (opened weight next : ℕ) → j < length table.mode.activations → row ≡ row_of table.mode j
+  pub step : (j : ℕ) (row : Activation) (opened weight next : ℕ) → j < length table.mode.activations
+      → row ≡ row_of table.mode j
       → opened ≡ sum_by w (take j table.mode.activations) → weight ≡ w row → next ≡ place_after j
       → opened + weight ≡ sum_by (counted w table.mode) (take next (checks_of table))
       + open_at w c table.mode (row_of table.mode j).offset
@@ -104,7 +107,8 @@ module _ (c : ConfigParts) (rules : IsConfig c) (table : TableRows) (of : IsTabl
       opens j row opened weight l is so_far heavy
       ∙ (let z : j + 1 ≡ suc j = omega arith in ap (λ n. sum_by w (take n table.mode.activations)) z)
       ∙ split j l
-      ∙ ap (λ (n : ℕ). sum_by (counted w table.mode) (take n (checks_of table)) + open_at w c table.mode (row_of table.mode j).offset)
+      ∙ ap (λ (n : ℕ). sum_by (counted w table.mode) (take n (checks_of table)) + open_at w c table.mode
+          (row_of table.mode j).offset)
       (sym there)
 
 -- ---- the checks up to a place
@@ -126,7 +130,8 @@ module _ (w : Activation → ℕ) (table : TableRows) where
       → sum_by (counted w table.mode) (take place (checks_of table))
       ≤ sum_by (counted w table.mode) (take to (checks_of table))
   checked_less place to l =
-      let front : take place (take to (checks_of table)) ≡ take place (checks_of table) = take-take place to (checks_of table) l in
+      let front : take place (take to (checks_of table)) ≡ take place (checks_of table) =
+          take-take place to (checks_of table) l in
       let less = sum_by-take-le (counted w table.mode) (take to (checks_of table)) place in
       let same = ap (sum_by (counted w table.mode)) front in
       omega arith

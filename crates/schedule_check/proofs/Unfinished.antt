@@ -15,10 +15,10 @@ use Rattle.tt_world.specs.Runners.{job_at, is_done, leaving, runner_of}
 use Rattle.tt_world.specs.Correction.{is_length}
 use Rattle.tt_world.specs.Monitoring.{is_at, is_at_end, monitored}
 use Rattle.tt_world.specs.Rounds.{head, latch, next_round, round_end}
-use Rattle.tt_world.specs.Opening.{checks, activated, activation, opening}
+use Rattle.tt_world.specs.Opening.{checks, activated, activation}
 use Rattle.tt_world.specs.Step.{step}
 use Rattle.tt_world.specs.Schedule.{instant}
-use Rattle.tt_world.proofs.Parts.{OpeningKeeps, Alone, Anything, Leads, followed_leads, instant_leads, opening_leads}
+use Rattle.tt_world.proofs.Parts.{OpeningKeeps, Alone, Anything, Leads, followed_leads, instant_leads}
 use Rattle.tt_world.proofs.Keeps.{Holds, monitored_holds, IgnoresGates, enables_hold, arrivals_hold, acceptances_hold, IsLeftAfter, StepKeeps, step_holds}
 use Rattle.tt_world.proofs.JobLists.{IsOldPlace, IsNewPlace, place_of_more, place_of_set, entry_of_set, undone_before}
 use Rattle.tt_world.proofs.TableRows.{row_found}
@@ -140,9 +140,6 @@ module _ (c : ConfigParts) (s : ScriptParts) (rules : IsConfig c) (R : OfEntry) 
       acceptances_are = acceptances_hold (Each c R T) (ignores T) c;
       activation_is = activation_each;
     }
-
-    pub opening_each : (w : World) (es : List Event) → Each c R T w → Holds (Each c R T) es (opening c s w)
-    opening_each w es p = opening_leads c s (λ _. Alone (Each c R T)) Anything opening_keeps w es p
 
     -- it is kept by an instant
     pub instant_each : (w : World) (es : List Event) → Each c R T w → Holds (Each c R (T + 1)) es (instant c s w)

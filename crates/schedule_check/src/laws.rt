@@ -2,9 +2,10 @@
 
 ghost use Rattle.schedule_check.specs.DeadlineLaws.{IsrIsBounded, NoMiss};
 
-/// Where the script keeps its bounds, a time-triggered routine takes in any consecutive instants of a
-/// run at most its budget times two more than the number of its enables there; with a distance, two
-/// more than the smaller of that number and the number of distances that begin in that many ticks.
+/// Where the script keeps its bounds, a time-triggered routine takes in any consecutive instants
+/// of a run at most its budget times two more than the number of its enables there; with a
+/// distance, two more than the smaller of that number and the number of distances that begin in
+/// that many ticks.
 pub fn isr_is_bounded()
     ensures { IsrIsBounded }
 {}

@@ -47,9 +47,12 @@ fn checked_between(
     requires table { IsTableOf parts.now table.now }
     requires order { from ≤ to }
     requires within { to ≤ length (checks_of table.now) }
-    requires small { sum_by (counted (weight_of measure parts.now) table.now.mode) (take to (checks_of table.now)) < 2 ^ 64 }
-    ensures { sum_by (counted (weight_of measure parts.now) table.now.mode) (take from (checks_of table.now)) + result
-        ≡ sum_by (counted (weight_of measure parts.now) table.now.mode) (take to (checks_of table.now)) }
+    requires small { sum_by (counted (weight_of measure parts.now) table.now.mode)
+        (take to (checks_of table.now)) < 2 ^ 64 }
+    ensures { sum_by (counted (weight_of measure parts.now) table.now.mode)
+        (take from (checks_of table.now)) + result
+        ≡ sum_by (counted (weight_of measure parts.now) table.now.mode)
+            (take to (checks_of table.now)) }
 {
     let mut sum = 0;
     for place in from..to {
@@ -59,8 +62,8 @@ fn checked_between(
 }
 
 /// The largest over the offsets of a mode of what the activations count whose windows cover the
-/// offset. A window opens with its activation, so this is the largest at the offsets of activations.
-/// What has closed by then is in front of the checks of later offsets.
+/// offset. A window opens with its activation, so this is the largest at the offsets of
+/// activations. What has closed by then is in front of the checks of later offsets.
 fn most_in(measure: Measure, parts: &ConfigParts, table: &Table) -> u64
     requires rules { IsConfig parts.now }
     requires table { IsTableOf parts.now table.now }
@@ -95,11 +98,11 @@ fn most_open(measure: Measure, config: &Config, tables: &Tables) -> u64
     most
 }
 
-/// How many activations and time-triggered routines are unfinished at once at most, in every run: the
-/// largest number of activations of one mode whose windows cover one offset, and the number of
-/// time-triggered routines. The window of an activation reaches from its offset up to its monitoring
-/// point, and not including it; where the point is the round's end, up to the longest round's. The
-/// tables are those of the configuration.
+/// How many activations and time-triggered routines are unfinished at once at most, in every run:
+/// the largest number of activations of one mode whose windows cover one offset, and the number of
+/// time-triggered routines. The window of an activation reaches from its offset up to its
+/// monitoring point, and not including it; where the point is the round's end, up to the longest
+/// round's. The tables are those of the configuration.
 pub fn depth_bound(config: &Config, tables: &Tables) -> u64
     requires { tables.now ≡ tables_of config.now }
     ensures { result ≡ depth_bound config.now }
@@ -108,8 +111,8 @@ pub fn depth_bound(config: &Config, tables: &Tables) -> u64
 }
 
 /// How many stack words unfinished activations and time-triggered routines take at most, in every
-/// run: the largest sum over activations of one mode whose windows cover one offset, and that over the
-/// time-triggered routines. The tables are those of the configuration.
+/// run: the largest sum over activations of one mode whose windows cover one offset, and that over
+/// the time-triggered routines. The tables are those of the configuration.
 pub fn words_bound(config: &Config, tables: &Tables) -> u64
     requires { tables.now ≡ tables_of config.now }
     ensures { result ≡ words_bound config.now }

@@ -26,16 +26,19 @@ spread count c = add-mul 1 count c ∙ ap (λ k. k + count * c) (one-mul c)
 pulled : (count c : ℕ) → count * (65536 * c) ≡ 65536 * (count * c)
 pulled count c = mul_left_comm count 65536 c
 
-if_bound : (first second m n c : ℕ) → first ≤ m * c → second ≤ n * c → 1 ≤ c → 1 + max first second ≤ (1 + (m + n)) * (65536 * c)
+if_bound : (first second m n c : ℕ) → first ≤ m * c → second ≤ n * c → 1 ≤ c
+    → 1 + max first second ≤ (1 + (m + n)) * (65536 * c)
 if_bound first second m n c p q one =
     omega (arith, spread (m + n) (65536 * c), add-mul m n (65536 * c), pulled m c, pulled n c)
 
-repeat_bound : (turns inner n c : ℕ) → turns ≤ 65535 → inner ≤ n * c → 1 ≤ c → turns * (1 + inner) ≤ (1 + n) * (65536 * c)
+repeat_bound : (turns inner n c : ℕ) → turns ≤ 65535 → inner ≤ n * c → 1 ≤ c
+    → turns * (1 + inner) ≤ (1 + n) * (65536 * c)
 repeat_bound turns inner n c few p one =
     let more : turns * (1 + inner) ≤ 65535 * (1 + inner) = mul-le-mul_right (1 + inner) few in
     omega (arith, more, spread n (65536 * c), pulled n c)
 
-add_bound : (worst count c : ℕ) (worsts counts : List ℕ) → worst ≤ count * c → sum worsts ≤ sum counts * c → sum (worst ∷ worsts) ≤ sum (count ∷ counts) * c
+add_bound : (worst count c : ℕ) (worsts counts : List ℕ) → worst ≤ count * c → sum worsts ≤ sum counts * c
+    → sum (worst ∷ worsts) ≤ sum (count ∷ counts) * c
 add_bound worst count c worsts counts here there =
     let both : worst + sum worsts ≤ (count + sum counts) * c = omega (arith, add-mul count (sum counts) c) in
     rw (sum_by-cons (λ x. x) worst worsts, sum_by-cons (λ x. x) count counts) both
@@ -47,20 +50,25 @@ numbers_step stmt = is_number_in_range stmt && inner_pass stmt
 
 module _ (demands : List Demand) (mosts : AreMostsInRange demands) where
   abbrev IsBelow : Stmt → Type 0
-  IsBelow stmt = (depth : ℕ) → nesting_of stmt ≤ depth → each_of is_number_in_range stmt ≡ true → worst_of demands stmt ≤ count_of stmt * cap depth
+  IsBelow stmt = (depth : ℕ) → nesting_of stmt ≤ depth → each_of is_number_in_range stmt ≡ true
+      → worst_of demands stmt ≤ count_of stmt * cap depth
 
   -- a statement with the proof
   abbrev Below : Type 0
   Below = (stmt : Stmt) × IsBelow stmt
 
-  body_below : (body : List Below) (depth : ℕ) → nesting_in (map (λ p. p.0) body) ≤ depth → AreNumbersInRange (map (λ p. p.0) body)
+  body_below : (body : List Below) (depth : ℕ) → nesting_in (map (λ p. p.0) body) ≤ depth
+      → AreNumbersInRange (map (λ p. p.0) body)
       → worst_in demands (map (λ p. p.0) body) ≤ count_in (map (λ p. p.0) body) * cap depth
   body_below [] depth nested numbers = omega arith
   body_below (p ∷ body) depth nested numbers =
       let rest = map (λ (p : Below). p.0) body in
-      let here : worst_of demands p.0 ≤ count_of p.0 * cap depth = p.1 depth (omega arith) (and_left (each_of is_number_in_range p.0) _ numbers) in
-      let there : worst_in demands rest ≤ count_in rest * cap depth = body_below body depth (omega arith) (and_right (each_of is_number_in_range p.0) _ numbers) in
-      add_bound (worst_of demands p.0) (count_of p.0) (cap depth) (map (worst_of demands) rest) (map count_of rest) here there
+      let here : worst_of demands p.0 ≤ count_of p.0 * cap depth =
+          p.1 depth (omega arith) (and_left (each_of is_number_in_range p.0) _ numbers) in
+      let there : worst_in demands rest ≤ count_in rest * cap depth =
+          body_below body depth (omega arith) (and_right (each_of is_number_in_range p.0) _ numbers) in
+      add_bound (worst_of demands p.0) (count_of p.0) (cap depth) (map (worst_of demands) rest)
+          (map count_of rest) here there
 
   abbrev plain : Stmt-F Below → Stmt-F Stmt
   plain = map-Stmt Below Stmt (λ p. p.0)
@@ -68,10 +76,14 @@ module _ (demands : List Demand) (mosts : AreMostsInRange demands) where
   one_below : (worst depth : ℕ) → worst ≤ 10000001 → worst ≤ 1 * cap depth
   one_below worst depth small = omega (arith, cap_some depth)
 
-  level : (y : Stmt-F Below) (depth : ℕ) → nesting_step (map-Stmt Stmt ℕ nesting_of (plain y)) ≤ depth → numbers_step (map-Stmt Stmt Bool (each_of is_number_in_range) (plain y)) ≡ true
-      → worst_step demands (map-Stmt Stmt ℕ (worst_of demands) (plain y)) ≤ count_step (map-Stmt Stmt ℕ count_of (plain y)) * cap depth
+  level : (y : Stmt-F Below) (depth : ℕ) → nesting_step (map-Stmt Stmt ℕ nesting_of (plain y)) ≤ depth
+      → numbers_step (map-Stmt Stmt Bool (each_of is_number_in_range) (plain y)) ≡ true
+      → worst_step demands (map-Stmt Stmt ℕ (worst_of demands) (plain y))
+          ≤ count_step (map-Stmt Stmt ℕ count_of (plain y)) * cap depth
   level (Stmt-F.Work ticks) depth nested numbers =
-      let few : ticks ≤ 10000000 = from_nat_le ticks 10000000 (and_right (nat_le 1 ticks) _ (and_left (nat_le 1 ticks && nat_le ticks 10000000) _ numbers)) in
+      let few : ticks ≤ 10000000 =
+          from_nat_le ticks 10000000 (and_right (nat_le 1 ticks) _
+          (and_left (nat_le 1 ticks && nat_le ticks 10000000) _ numbers)) in
       one_below ticks depth (omega arith)
   level (Stmt-F.Take demand) depth nested numbers =
       one_below (1 + most_of (slice_get demands demand.0)) depth (omega (arith, most_small demands demand.0 mosts))
@@ -94,20 +106,27 @@ module _ (demands : List Demand) (mosts : AreMostsInRange demands) where
   stmt_below : (stmt : Stmt) → IsBelow stmt
   stmt_below = ind-Stmt IsBelow (λ x y is depth nested numbers.
       let nested' : nesting_step (map-Stmt Stmt ℕ nesting_of (plain y)) ≤ depth =
-      subst (λ k. k ≤ depth) (fold-roll-Stmt ℕ nesting_step x ∙ sym (ap (λ z. nesting_step (map-Stmt Stmt ℕ nesting_of z)) is)) nested in
+      subst (λ k. k ≤ depth) (fold-roll-Stmt ℕ nesting_step x
+          ∙ sym (ap (λ z. nesting_step (map-Stmt Stmt ℕ nesting_of z)) is)) nested in
       let numbers' : numbers_step (map-Stmt Stmt Bool (each_of is_number_in_range) (plain y)) ≡ true =
-      ap (λ z. numbers_step (map-Stmt Stmt Bool (each_of is_number_in_range) z)) is ∙ sym (fold-roll-Stmt Bool numbers_step x) ∙ numbers in
-      let worst = ap (λ z. worst_step demands (map-Stmt Stmt ℕ (worst_of demands) z)) is ∙ sym (fold-roll-Stmt ℕ (worst_step demands) x) in
+      ap (λ z. numbers_step (map-Stmt Stmt Bool (each_of is_number_in_range) z)) is
+          ∙ sym (fold-roll-Stmt Bool numbers_step x) ∙ numbers in
+      let worst = ap (λ z. worst_step demands (map-Stmt Stmt ℕ (worst_of demands) z)) is
+          ∙ sym (fold-roll-Stmt ℕ (worst_step demands) x) in
       let count = ap (λ z. count_step (map-Stmt Stmt ℕ count_of z)) is ∙ sym (fold-roll-Stmt ℕ count_step x) in
       subst (λ k. k ≤ count_of (roll-Stmt x) * cap depth) worst
-      (subst (λ k. worst_step demands (map-Stmt Stmt ℕ (worst_of demands) (plain y)) ≤ k * cap depth) count (level y depth nested' numbers')))
+      (subst (λ k. worst_step demands (map-Stmt Stmt ℕ (worst_of demands) (plain y)) ≤ k * cap depth) count
+          (level y depth nested' numbers')))
 
-  all_below : (body : List Stmt) (depth : ℕ) → nesting_in body ≤ depth → AreNumbersInRange body → worst_in demands body ≤ count_in body * cap depth
+  all_below : (body : List Stmt) (depth : ℕ) → nesting_in body ≤ depth → AreNumbersInRange body
+      → worst_in demands body ≤ count_in body * cap depth
   all_below [] depth nested numbers = omega arith
   all_below (stmt ∷ body) depth nested numbers =
       let here = stmt_below stmt depth (omega arith) (and_left (each_of is_number_in_range stmt) _ numbers) in
       let there = all_below body depth (omega arith) (and_right (each_of is_number_in_range stmt) _ numbers) in
-      add_bound (worst_of demands stmt) (count_of stmt) (cap depth) (map (worst_of demands) body) (map count_of body) here there
+      add_bound (worst_of demands stmt) (count_of stmt) (cap depth) (map (worst_of demands) body)
+          (map count_of body) here there
 
-  pub worst_fits : (body : List Stmt) → IsNestedInLimit body → IsCountInLimit body → AreNumbersInRange body → worst_in demands body < 2 ^ 128
+  pub worst_fits : (body : List Stmt) → IsNestedInLimit body → IsCountInLimit body → AreNumbersInRange body
+      → worst_in demands body < 2 ^ 128
   worst_fits body nested counted numbers = omega (arith, all_below body 4 nested numbers, counted)

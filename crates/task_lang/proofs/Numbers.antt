@@ -21,7 +21,8 @@ pub from_nat_le : (a b : ℕ) → nat_le a b ≡ true → a ≤ b
 from_nat_le a b is = grind (arith, nat_tests, is)
 
 -- no demand asks for more than the rules allow
-pub most_small : (demands : List Demand) (demand : ℕ) → AreMostsInRange demands → most_of (slice_get demands demand) ≤ 10000000
+pub most_small : (demands : List Demand) (demand : ℕ) → AreMostsInRange demands
+    → most_of (slice_get demands demand) ≤ 10000000
 most_small [] demand small = omega arith
 most_small (first ∷ rest) zero small = from_nat_le first.most 10000000 (and_left (nat_le first.most 10000000) _ small)
 most_small (first ∷ rest) (suc demand) small = most_small rest demand (and_right (nat_le first.most 10000000) _ small)
@@ -39,9 +40,11 @@ inner_less : (turns inner top : ℕ) → 1 ≤ turns → turns * (1 + inner) < t
 inner_less turns inner top some fits = grind arith
 
 -- the body of a `repeat` has numbers in range too, and its worst case is no larger
-pub repeat_body : (demands : List Demand) (turns : ℕ) (body : List Stmt) (top : ℕ) → each_of is_number_in_range (s.Repeat turns body) ≡ true
+pub repeat_body : (demands : List Demand) (turns : ℕ) (body : List Stmt) (top : ℕ)
+    → each_of is_number_in_range (s.Repeat turns body) ≡ true
     → worst_of demands (s.Repeat turns body) < top → AreNumbersInRange body × (worst_in demands body < top)
 repeat_body demands turns body top passed fits =
     let parts = repeat_tests turns body passed in
-    let worst : worst_of demands (s.Repeat turns body) ≡ turns * (1 + worst_in demands body) = fold-Repeat ℕ (worst_step demands) turns body in
+    let worst : worst_of demands (s.Repeat turns body) ≡ turns * (1 + worst_in demands body) =
+        fold-Repeat ℕ (worst_step demands) turns body in
     (parts.1, inner_less turns (worst_in demands body) top parts.0 (rw (← worst) fits))

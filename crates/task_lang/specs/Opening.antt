@@ -1,4 +1,5 @@
--- What is seen of an expression or a statement that is opened, and what a definition by steps gives of it, for each variant.
+-- What is seen of an expression or a statement that is opened, and what a definition by steps gives of it, for each
+-- variant.
 use Rattle.std.specs.Prelude.{◌≡◌, ℕ, ℤ, List, map}
 use Rattle.std.proofs.Common.{sym, ap, ◌∙◌}
 use Rattle.tt_base.specs.declared.event.Call.{Call}
@@ -26,7 +27,8 @@ module _ (A : Type 0) (step : Expr-F A → A) where
 
   pub fold-Bin : (op : Op) (left right : Expr) →
       fold-Expr A step (e.Bin op left right) ≡ step (Expr-F.Bin op (fold-Expr A step left) (fold-Expr A step right))
-  fold-Bin op left right = ap (fold-Expr A step) (sym (e.rolls-Bin op left right)) ∙ fold-roll-Expr A step (Expr-F.Bin op left right)
+  fold-Bin op left right = ap (fold-Expr A step) (sym (e.rolls-Bin op left right))
+      ∙ fold-roll-Expr A step (Expr-F.Bin op left right)
 
 module _ (A : Type 0) (step : Stmt-F A → A) where
   pub fold-Work : (ticks : ℕ) → fold-Stmt A step (s.Work ticks) ≡ step (Stmt-F.Work ticks)
@@ -39,12 +41,15 @@ module _ (A : Type 0) (step : Stmt-F A → A) where
   fold-Set var expr = ap (fold-Stmt A step) (sym (s.rolls-Set var expr)) ∙ fold-roll-Stmt A step (Stmt-F.Set var expr)
 
   pub fold-If : (expr : Expr) (first second : List Stmt) →
-      fold-Stmt A step (s.If expr first second) ≡ step (Stmt-F.If expr (map (fold-Stmt A step) first) (map (fold-Stmt A step) second))
-  fold-If expr first second = ap (fold-Stmt A step) (sym (s.rolls-If expr first second)) ∙ fold-roll-Stmt A step (Stmt-F.If expr first second)
+      fold-Stmt A step (s.If expr first second)
+          ≡ step (Stmt-F.If expr (map (fold-Stmt A step) first) (map (fold-Stmt A step) second))
+  fold-If expr first second = ap (fold-Stmt A step) (sym (s.rolls-If expr first second))
+      ∙ fold-roll-Stmt A step (Stmt-F.If expr first second)
 
   pub fold-Repeat : (turns : ℕ) (body : List Stmt) →
       fold-Stmt A step (s.Repeat turns body) ≡ step (Stmt-F.Repeat turns (map (fold-Stmt A step) body))
-  fold-Repeat turns body = ap (fold-Stmt A step) (sym (s.rolls-Repeat turns body)) ∙ fold-roll-Stmt A step (Stmt-F.Repeat turns body)
+  fold-Repeat turns body = ap (fold-Stmt A step) (sym (s.rolls-Repeat turns body))
+      ∙ fold-roll-Stmt A step (Stmt-F.Repeat turns body)
 
   pub fold-Out : (expr : Expr) → fold-Stmt A step (s.Out expr) ≡ step (Stmt-F.Out expr)
   fold-Out expr = ap (fold-Stmt A step) (sym (s.rolls-Out expr)) ∙ fold-roll-Stmt A step (Stmt-F.Out expr)
@@ -53,4 +58,5 @@ module _ (A : Type 0) (step : Stmt-F A → A) where
   fold-Service call = ap (fold-Stmt A step) (sym (s.rolls-Service call)) ∙ fold-roll-Stmt A step (Stmt-F.Service call)
 
 -- the equations above
-pub ruleset folds = (fold-Const, fold-Var, fold-Bin, fold-Work, fold-Take, fold-Set, fold-If, fold-Repeat, fold-Out, fold-Service)
+pub ruleset folds = (fold-Const, fold-Var, fold-Bin, fold-Work, fold-Take, fold-Set, fold-If, fold-Repeat, fold-Out,
+    fold-Service)

@@ -14,7 +14,8 @@ KeepsMost supply = (demand used : ℕ) → given supply demand used ≤ most_of 
 -- Each value that the script gives for a demand is at most its most.
 abbrev pub AreValuesKept : Supply → Type 0
 AreValuesKept supply =
-    (demand : ℕ) → IsTrue (list_all (λ value. nat_le value (most_of (slice_get supply.demands demand))) (values_of supply demand))
+    (demand : ℕ) → IsTrue (list_all (λ value. nat_le value (most_of (slice_get supply.demands demand)))
+        (values_of supply demand))
 
 -- A tick lowers the worst case by at least one.
 abbrev pub TickLowersWorst : Type 0
@@ -24,20 +25,25 @@ TickLowersWorst = (supply : Supply) (state : State) → KeepsMost supply → Are
 -- A test that passes at a statement passes at what a tick makes of it.
 pub record LastsThroughTicks (supply : Supply) (test : Stmt-F Bool → Bool) : Type 0 where
   pub work : (n : ℕ) → test (Stmt-F.Work (suc (suc n))) ≡ true → test (Stmt-F.Work (suc n)) ≡ true
-  pub repeat : (n : ℕ) (body : List Bool) → test (Stmt-F.Repeat (suc (suc n)) body) ≡ true → test (Stmt-F.Repeat (suc n) body) ≡ true
-  pub take : (demand : DemandNo) (used n : ℕ) → given supply demand.0 used ≡ suc n → test (Stmt-F.Take demand) ≡ true → test (Stmt-F.Work (suc n)) ≡ true
+  pub repeat : (n : ℕ) (body : List Bool) → test (Stmt-F.Repeat (suc (suc n)) body) ≡ true
+      → test (Stmt-F.Repeat (suc n) body) ≡ true
+  pub take : (demand : DemandNo) (used n : ℕ) → given supply demand.0 used ≡ suc n → test (Stmt-F.Take demand) ≡ true
+      → test (Stmt-F.Work (suc n)) ≡ true
 
 -- A tick leaves statements that all pass such a test, inner ones too.
 abbrev pub TickKeepsEach : Type 0
-TickKeepsEach = (supply : Supply) (state : State) (test : Stmt-F Bool → Bool) → LastsThroughTicks supply test → each_in test state.left ≡ true
+TickKeepsEach = (supply : Supply) (state : State) (test : Stmt-F Bool → Bool) → LastsThroughTicks supply test
+    → each_in test state.left ≡ true
     → each_in test (tick supply state).left ≡ true
 
 -- A tick leaves numbers that are in range.
 abbrev pub TickKeepsNumbers : Type 0
-TickKeepsNumbers = (supply : Supply) (state : State) → KeepsMost supply → AreMostsInRange supply.demands → AreNumbersInRange state.left
+TickKeepsNumbers = (supply : Supply) (state : State) → KeepsMost supply → AreMostsInRange supply.demands
+    → AreNumbersInRange state.left
     → AreNumbersInRange (tick supply state).left
 
 -- After as many ticks as the worst case nothing is left.
 abbrev pub TicksEnd : Type 0
-TicksEnd = (supply : Supply) (state : State) (n : ℕ) → KeepsMost supply → AreMostsInRange supply.demands → AreNumbersInRange state.left
+TicksEnd = (supply : Supply) (state : State) (n : ℕ) → KeepsMost supply → AreMostsInRange supply.demands
+    → AreNumbersInRange state.left
     → worst_in supply.demands state.left ≤ n → (ticks supply n state).left ≡ []

@@ -21,7 +21,8 @@ pub type Demands = Series<Demand>;
 /// For each demand, by number, the values that the script gives, in order.
 pub type Values = Series<Series<u64>>;
 
-/// For each demand, by number, how many of its script values were used. Contracts see them as a list.
+/// For each demand, by number, how many of its script values were used. Contracts see them as a
+/// list.
 #[derive(Debug, Drop)]
 pub struct Cursors {
     used: Vec<usize>,
@@ -53,8 +54,8 @@ impl Cursors {
         self.used.as_slice()
     }
 
-    /// Uses one value more of a demand, where it has so many, and answers how many were used before. A demand that is not
-    /// there has none.
+    /// Uses one value more of a demand, where it has so many, and answers how many were used
+    /// before. A demand that is not there has none.
     pub(crate) fn use_one(&mut self, demand: DemandNo, values: usize) -> usize
         ensures before { result ≡ slice_index self.old demand.0 }
         ensures after { self.new

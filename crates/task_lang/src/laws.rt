@@ -2,14 +2,15 @@
 
 ghost use Rattle.task_lang.specs.TickLaws.{TickLowersWorst, TickKeepsEach, TickKeepsNumbers, TicksEnd};
 
-/// A tick of a list of statements lowers its worst case by at least one, where its numbers are in range, it is not empty, and
-/// the script gives no demand more than its most.
+/// A tick of a list of statements lowers its worst case by at least one, where its numbers are in
+/// range, it is not empty, and the script gives no demand more than its most.
 pub fn tick_lowers_worst()
     ensures { TickLowersWorst }
 {}
 
-/// A tick leaves statements that all pass a test, inner ones too, where a statement that passes leaves one that passes. Such are
-/// the tests of names, of expressions, and of who may have a statement.
+/// A tick leaves statements that all pass a test, inner ones too, where a statement that passes
+/// leaves one that passes. Such are the tests of names, of expressions, and of who may have a
+/// statement.
 pub fn tick_keeps_each()
     ensures { TickKeepsEach }
 {}
@@ -19,8 +20,8 @@ pub fn tick_keeps_numbers()
     ensures { TickKeepsNumbers }
 {}
 
-/// After as many ticks as the worst case of a list nothing is left of it, where its numbers are in range, and the script gives
-/// no demand more than its most.
+/// After as many ticks as the worst case of a list nothing is left of it, where its numbers are in
+/// range, and the script gives no demand more than its most.
 pub fn ticks_end()
     ensures { TicksEnd }
 {}

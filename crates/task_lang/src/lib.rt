@@ -1,5 +1,5 @@
-//! The task language: the statements that a body is made of, the value of an expression, the ticks that a body takes at most,
-//! and one tick of what is left of a body.
+//! The task language: the statements that a body is made of, the value of an expression, the ticks
+//! that a body takes at most, and one tick of what is left of a body.
 #![tactic(auto)]
 
 pub mod allowed;

@@ -3,7 +3,8 @@
 use sqlite_items::{Boxed, Items};
 use tt_base::{Call, DemandNo, VarNo};
 
-/// An operator of two values. Sums, differences and products are taken modulo 2^32; a comparison gives 1 or 0.
+/// An operator of two values. Sums, differences and products are taken modulo 2^32; a comparison
+/// gives 1 or 0.
 #[derive(Clone, Copy, Debug, PartialEq, Eq)]
 pub enum Op {
     /// `+`: the sum.

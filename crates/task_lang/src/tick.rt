@@ -77,8 +77,9 @@ impl Left {
         self.stack.is_empty()
     }
 
-    /// One tick of the statement in front, and its effect, if it has one. Where nothing is left, nothing happens. A variable or
-    /// a demand that is not there counts as 0 and keeps nothing. Each expression has at most 100 terms. `Memory`: nothing has changed.
+    /// One tick of the statement in front, and its effect, if it has one. Where nothing is left,
+    /// nothing happens. A variable or a demand that is not there counts as 0 and keeps nothing.
+    /// Each expression has at most 100 terms. `Memory`: nothing has changed.
     #[tactic(auto, unfolding(crate::specs::Tick::tick))]
     pub fn tick(
         &mut self,
@@ -227,7 +228,8 @@ fn put_branch(
     Ok(())
 }
 
-/// Puts one turn of a `repeat` in front, and behind it the turns that are left. `Memory`: the `repeat` is there again.
+/// Puts one turn of a `repeat` in front, and behind it the turns that are left. `Memory`: the
+/// `repeat` is there again.
 fn put_turn(stack: &mut Vec<Stmt>, alloc: Global, turns: u64, body: Body) -> Result<(), Memory>
     requires { vec_len stack.old < vec_capacity stack.old }
     ensures ok { OnOk result (reverse stack.new.items

@@ -7,8 +7,8 @@ ghost use Rattle.task_lang.specs.Value.{value_of, result_of};
 use crate::syntax::{Expr, Op};
 use crate::vars::Vars;
 
-/// The value of an expression of at most 100 terms. A variable that `vars` does not have counts as 0. It
-/// calls itself once for each term, so that the bound on terms bounds the native stack too.
+/// The value of an expression of at most 100 terms. A variable that `vars` does not have counts as
+/// 0. It calls itself once for each term, so that the bound on terms bounds the native stack too.
 pub fn value(expr: &Expr, vars: &Vars) -> i32
     requires { terms_of expr.now ≤ 100 }
     ensures { result ≡ value_of vars.now expr.now }

@@ -8,8 +8,8 @@ use crate::demand::{Demand, Demands};
 use crate::syntax::{Body, Stmt};
 use tt_base::DemandNo;
 
-/// The worst case of a body: how many ticks it takes at most. A demand that `demands` does not have counts as 0. The time is
-/// linear in the number of statements.
+/// The worst case of a body: how many ticks it takes at most. A demand that `demands` does not
+/// have counts as 0. The time is linear in the number of statements.
 pub fn worst(body: &Body, demands: &Demands) -> u128
     requires nested { IsNestedInLimit body.now }
     requires counted { IsCountInLimit body.now }

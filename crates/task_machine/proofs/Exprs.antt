@@ -31,7 +31,8 @@ layer_value vars (Expr-F.Const n) = n
 layer_value vars (Expr-F.Var x) = slice_index_or vars x.0 (pos 0)
 layer_value vars (Expr-F.Bin op a b) = result_of op (value_of vars a) (value_of vars b)
 
-value_same : (vars : List ℤ) (x : Expr-F Expr) → value_step vars (map-Expr Expr ℤ (value_of vars) x) ≡ layer_value vars x
+value_same : (vars : List ℤ) (x : Expr-F Expr)
+    → value_step vars (map-Expr Expr ℤ (value_of vars) x) ≡ layer_value vars x
 value_same vars (Expr-F.Const n) = refl
 value_same vars (Expr-F.Var x) = refl
 value_same vars (Expr-F.Bin op a b) = refl
@@ -55,17 +56,22 @@ module _ (code : List Instr) (vars : List ℤ) where
   Begins (Some (t.Apply op)) p v q = AtOperator (p + 1) op v q
   Begins None p v q = ⊥
 
-  seen : (a : Instr) (j : Option Term) (p : ℕ) (v : ℤ) (q : ℕ) → slice_get code p ≡ Some a → j ≡ term_in (slice_get code p) → Begins (term_in (Some a)) p v q → Begins j p v q
-  seen a j p v q h e f = let same : term_in (Some a) ≡ j = sym (ap term_in h) ∙ sym e in subst (λ k. Begins k p v q) same f
+  seen : (a : Instr) (j : Option Term) (p : ℕ) (v : ℤ) (q : ℕ) → slice_get code p ≡ Some a
+      → j ≡ term_in (slice_get code p) → Begins (term_in (Some a)) p v q → Begins j p v q
+  seen a j p v q h e f = let same : term_in (Some a) ≡ j = sym (ap term_in h) ∙ sym e in
+      subst (λ k. Begins k p v q) same f
 
-  begins_by : (x : Expr-F Expr) (p q : ℕ) → Stands code p (layer x) q → (j : Option Term) → j ≡ term_in (slice_get code p) → Begins j p (layer_value vars x) q
+  begins_by : (x : Expr-F Expr) (p q : ℕ) → Stands code p (layer x) q → (j : Option Term)
+      → j ≡ term_in (slice_get code p) → Begins j p (layer_value vars x) q
   begins_by (Expr-F.Const n) p q h j e = seen (i.Term (t.Const n)) j p _ q h.0 e (refl, h.1)
   begins_by (Expr-F.Var x) p q h j e = seen (i.Term (t.Var x)) j p _ q h.0 e (refl, h.1)
   begins_by (Expr-F.Bin op a b) p q h j e =
       let r = stands_parts code (p + 1) (expr_code a) (expr_code b) q h.1 in
-      seen (i.Term (t.Apply op)) j p _ q h.0 e (record { a = a; b = b; middle = r.middle; first = r.first; second = r.second; is = refl })
+      seen (i.Term (t.Apply op)) j p _ q h.0 e
+          (record { a = a; b = b; middle = r.middle; first = r.first; second = r.second; is = refl })
 
-  pub begins : (x : Expr) (p q : ℕ) → Stands code p (expr_code x) q → (j : Option Term) → j ≡ term_in (slice_get code p) → Begins j p (value_of vars x) q
+  pub begins : (x : Expr) (p q : ℕ) → Stands code p (expr_code x) q → (j : Option Term)
+      → j ≡ term_in (slice_get code p) → Begins j p (value_of vars x) q
   begins x p q h j e =
       let by = begins_by (out-Expr x) p q (subst (λ c. Stands code p c q) (expr_layer x) h) j e in
       subst (λ v. Begins j p v q) (sym (value_layer vars x)) by

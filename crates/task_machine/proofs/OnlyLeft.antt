@@ -33,7 +33,8 @@ drop_get (y ∷ ys) (suc p) x is = drop_get ys p x is
 drop_next : (code : List Instr) (p : ℕ) (x : Instr) → slice_get code p ≡ Some x → drop p code ≡ x ∷ drop (p + 1) code
 drop_next code p x is = let next : suc p ≡ p + 1 = omega arith in drop_get code p x is ∙ ap (λ n. x ∷ drop n code) next
 
-drop_stands : (code : List Instr) (p : ℕ) (xs : List Instr) (q : ℕ) → Stands code p xs q → drop p code ≡ xs ++ drop q code
+drop_stands : (code : List Instr) (p : ℕ) (xs : List Instr) (q : ℕ) → Stands code p xs q
+    → drop p code ≡ xs ++ drop q code
 drop_stands code p [] q h = ap (λ n. drop n code) h
 drop_stands code p (x ∷ xs) q h = drop_next code p x h.0 ∙ ap (λ zs. x ∷ zs) (drop_stands code (p + 1) xs q h.1)
 
@@ -51,10 +52,12 @@ module _ (code : List Instr) (cs : List ℕ) where
   unfolding left_at
   left_is p seen is = ap unwound is
 
-  at_stmt : (d p q : ℕ) (s : Stmt) (rest : List Stmt) → Stands code p (layer_code d (out-Stmt s)) q → left_at code cs q ≡ rest → left_at code cs p ≡ s ∷ rest
+  at_stmt : (d p q : ℕ) (s : Stmt) (rest : List Stmt) → Stands code p (layer_code d (out-Stmt s)) q
+      → left_at code cs q ≡ rest → left_at code cs p ≡ s ∷ rest
   at_stmt d p q s rest h later =
       let here : seen_at code p ≡ put s (seen_of (drop q code)) =
-      seen_drop code p ∙ ap seen_of (drop_stands code p (layer_code d (out-Stmt s)) q h ∙ ap (λ xs. xs ++ drop q code) (sym (stmt_layer s d)))
+      seen_drop code p ∙ ap seen_of
+          (drop_stands code p (layer_code d (out-Stmt s)) q h ∙ ap (λ xs. xs ++ drop q code) (sym (stmt_layer s d)))
       ∙ stmt_reads s d (drop q code) in
       left_is p _ here ∙ ap (λ l. s ∷ l) (sym (left_is q _ (seen_drop code q)) ∙ later)
 
@@ -65,8 +68,10 @@ module _ (code : List Instr) (cs : List ℕ) where
       let after = drop q code in
       let seen = seen_of after in
       let there : drop p code ≡ i.Skip (length two) ∷ (two ++ after) =
-      drop_next code p (i.Skip (length two)) g ∙ ap (λ xs. i.Skip (length two) ∷ xs) (drop_stands code (p + 1) two q h) in
-      let here : seen_at code p ≡ record { exprs = seen.exprs; block = []; around = First second seen.block ∷ seen.around } =
+      drop_next code p (i.Skip (length two)) g
+          ∙ ap (λ xs. i.Skip (length two) ∷ xs) (drop_stands code (p + 1) two q h) in
+      let here : seen_at code p ≡ record { exprs = seen.exprs; block = []; around =
+          First second seen.block ∷ seen.around } =
       seen_drop code p ∙ ap seen_of there ∙ seen_cons (i.Skip (length two)) (two ++ after)
       ∙ ap (λ k. open_first (seen_of (two ++ after)) k) (later_at two after)
       ∙ ap (λ k. open_first k seen) (body_reads second d after) ∙ skipped seen second in
@@ -77,7 +82,8 @@ module _ (code : List Instr) (cs : List ℕ) where
   at_start n p start back long far within = omega arith
 
   at_again : (d p start back : ℕ) (inner rest : List Stmt) → slice_get code p ≡ Some (i.Again d back) → start + back ≡ p
-      → Stands code start (body_code (suc d) inner) p → left_at code cs (p + 1) ≡ rest → left_at code cs p ≡ repeat_then (slice_index cs d) inner rest
+      → Stands code start (body_code (suc d) inner) p → left_at code cs (p + 1) ≡ rest
+      → left_at code cs p ≡ repeat_then (slice_index cs d) inner rest
   at_again d p start back inner rest g far body later =
       let after = drop (p + 1) code in
       let seen = seen_of after in
@@ -88,10 +94,12 @@ module _ (code : List Instr) (cs : List ℕ) where
       let counted : from_end ≡ length code - (p + 1) + 1 + back =
       ap (λ n. n + back) (length-reading after ∙ ap (λ n. n + 1) (length-drop (p + 1) code)) in
       let begins : length code - from_end ≡ start =
-      ap (λ n. length code - n) counted ∙ at_start (length code) p start back refl far (slice_get_within code p (i.Again d back) g) in
+      ap (λ n. length code - n) counted
+          ∙ at_start (length code) p start back refl far (slice_get_within code p (i.Again d back) g) in
       let whole : (seen_at code (length code - from_end)).block ≡ inner =
       ap (λ n. (seen_at code n).block) begins ∙ ap (λ k. k.block)
-      (seen_drop code start ∙ ap seen_of (drop_stands code start (body_code (suc d) inner) p body) ∙ body_reads inner (suc d) (drop p code) ∙ ap (puts inner) there)
+      (seen_drop code start ∙ ap seen_of (drop_stands code start (body_code (suc d) inner) p body)
+          ∙ body_reads inner (suc d) (drop p code) ∙ ap (puts inner) there)
       ∙ append-nil inner in
       left_is p _ here ∙ ap (λ b. repeat_then (slice_index cs d) b (unwound seen)) whole
       ∙ ap (λ l. repeat_then (slice_index cs d) inner l) (sym (left_is (p + 1) _ (seen_drop code (p + 1))) ∙ later)

@@ -26,13 +26,16 @@ abbrev AreFine : (before : ℕ) → List Instr → (after : ℕ) → Type 0
 AreFine before [] after = Unit {0}
 AreFine before (x ∷ xs) after = IsFine before x (length xs + after) × AreFine (before + 1) xs after
 
-fine_append : (before : ℕ) (xs ys : List Instr) (after : ℕ) → AreFine before xs (length ys + after) → AreFine (before + length xs) ys after
+fine_append : (before : ℕ) (xs ys : List Instr) (after : ℕ) → AreFine before xs (length ys + after)
+    → AreFine (before + length xs) ys after
     → AreFine before (xs ++ ys) after
-fine_append before [] ys after front back = let same : before + 0 ≡ before = omega arith in subst (λ n. AreFine n ys after) same back
+fine_append before [] ys after front back = let same : before + 0 ≡ before = omega arith in
+    subst (λ n. AreFine n ys after) same back
 fine_append before (x ∷ xs) ys after front back =
     let same : length xs + (length ys + after) ≡ length (xs ++ ys) + after = omega (arith, length-append xs ys) in
     let moved : before + length (x ∷ xs) ≡ before + 1 + length xs = omega arith in
-    (subst (λ n. IsFine before x n) same front.0, fine_append (before + 1) xs ys after front.1 (subst (λ n. AreFine n ys after) moved back))
+    (subst (λ n. IsFine before x n) same front.0,
+        fine_append (before + 1) xs ys after front.1 (subst (λ n. AreFine n ys after) moved back))
 
 -- ---- expressions
 
@@ -40,7 +43,8 @@ abbrev FineExpr : Expr → Type 0
 FineExpr expr = (before after : ℕ) → AreFine before (expr_code expr) after
 
 expr_level : (y : Expr-F ((expr : Expr) × FineExpr expr)) (before after : ℕ)
-    → AreFine before (expr_step (map-Expr Expr (List Instr) expr_code (map-Expr ((expr : Expr) × FineExpr expr) Expr (λ p. p.0) y))) after
+    → AreFine before (expr_step
+        (map-Expr Expr (List Instr) expr_code (map-Expr ((expr : Expr) × FineExpr expr) Expr (λ p. p.0) y))) after
 expr_level (Expr-F.Const number) before after = (tt, tt)
 expr_level (Expr-F.Var var) before after = (tt, tt)
 expr_level (Expr-F.Bin op left right) before after =
@@ -49,7 +53,8 @@ expr_level (Expr-F.Bin op left right) before after =
 expr_fine : (expr : Expr) → FineExpr expr
 expr_fine = ind-Expr FineExpr (λ x y is before after.
     subst (λ code. AreFine before code after) (sym (fold-roll-Expr (List Instr) expr_step x))
-    (subst (λ z. AreFine before (expr_step (map-Expr Expr (List Instr) expr_code z)) after) is (expr_level y before after)))
+    (subst (λ z. AreFine before (expr_step (map-Expr Expr (List Instr) expr_code z)) after) is
+        (expr_level y before after)))
 
 -- ---- statements
 
@@ -57,7 +62,8 @@ abbrev numbers_step : Stmt-F Bool → Bool
 numbers_step stmt = is_number_in_range stmt && inner_pass stmt
 
 abbrev FineStmt : Stmt → Type 0
-FineStmt stmt = (depth before after : ℕ) → depth + nesting_of stmt ≤ 4 → each_of is_number_in_range stmt ≡ true → AreFine before (stmt_code stmt depth) after
+FineStmt stmt = (depth before after : ℕ) → depth + nesting_of stmt ≤ 4 → each_of is_number_in_range stmt ≡ true
+    → AreFine before (stmt_code stmt depth) after
 
 abbrev stmts : List ((stmt : Stmt) × FineStmt stmt) → List Stmt
 stmts ys = map (λ p. p.0) ys
@@ -73,25 +79,31 @@ body_fine (y ∷ ys) depth before after deep fits =
 abbrev down : Stmt-F ((stmt : Stmt) × FineStmt stmt) → Stmt-F Stmt
 down = map-Stmt ((stmt : Stmt) × FineStmt stmt) Stmt (λ p. p.0)
 
-if_fine : (before after : ℕ) (test first second : List Instr) → ((b a : ℕ) → AreFine b test a) → ((b a : ℕ) → AreFine b first a) → ((b a : ℕ) → AreFine b second a)
+if_fine : (before after : ℕ) (test first second : List Instr) → ((b a : ℕ) → AreFine b test a)
+    → ((b a : ℕ) → AreFine b first a) → ((b a : ℕ) → AreFine b second a)
     → AreFine before (i.If (length first + 1) ∷ (test ++ (first ++ i.Skip (length second) ∷ second))) after
 if_fine before after test first second t f s =
-    let n : length (test ++ (first ++ i.Skip (length second) ∷ second)) ≡ length test + (length first + length (i.Skip (length second) ∷ second)) =
-    length-append test (first ++ i.Skip (length second) ∷ second) ∙ ap (λ k. length test + k) (length-append first (i.Skip (length second) ∷ second)) in
-    let jump : length first + 1 ≤ length (test ++ (first ++ i.Skip (length second) ∷ second)) + after = omega (arith, n) in
+    let n : length (test ++ (first ++ i.Skip (length second) ∷ second))
+        ≡ length test + (length first + length (i.Skip (length second) ∷ second)) =
+    length-append test (first ++ i.Skip (length second) ∷ second)
+        ∙ ap (λ k. length test + k) (length-append first (i.Skip (length second) ∷ second)) in
+    let jump : length first + 1 ≤ length (test ++ (first ++ i.Skip (length second) ∷ second)) + after =
+        omega (arith, n) in
     let skip : length second ≤ length second + after = omega arith in (
       jump,
       fine_append (before + 1) test (first ++ i.Skip (length second) ∷ second) after (t _ _)
           (fine_append (before + 1 + length test) first (i.Skip (length second) ∷ second) after (f _ _) (skip, s _ _)),
     )
 
-repeat_fine : (before after depth turns : ℕ) (inner : List Instr) → 1 ≤ turns → depth < 4 → ((b a : ℕ) → AreFine b inner a)
+repeat_fine : (before after depth turns : ℕ) (inner : List Instr) → 1 ≤ turns → depth < 4
+    → ((b a : ℕ) → AreFine b inner a)
     → AreFine before (i.Repeat depth turns ∷ (inner ++ i.Again depth (length inner) ∷ [])) after
 repeat_fine before after depth turns inner some few fine =
     let back : length inner ≤ before + 1 + length inner = omega arith in
     ((some, few), fine_append (before + 1) inner (i.Again depth (length inner) ∷ []) after (fine _ _) ((back, few), tt))
 
-stmt_level : (y : Stmt-F ((stmt : Stmt) × FineStmt stmt)) (depth before after : ℕ) → depth + nesting_step (map-Stmt Stmt ℕ nesting_of (down y)) ≤ 4
+stmt_level : (y : Stmt-F ((stmt : Stmt) × FineStmt stmt)) (depth before after : ℕ)
+    → depth + nesting_step (map-Stmt Stmt ℕ nesting_of (down y)) ≤ 4
     → numbers_step (map-Stmt Stmt Bool (each_of is_number_in_range) (down y)) ≡ true
     → AreFine before (stmt_step (map-Stmt Stmt (ℕ → List Instr) stmt_code (down y)) depth) after
 stmt_level (Stmt-F.Work ticks) depth before after deep fits =
@@ -100,9 +112,12 @@ stmt_level (Stmt-F.Work ticks) depth before after deep fits =
 stmt_level (Stmt-F.Take demand) depth before after deep fits = (tt, tt)
 stmt_level (Stmt-F.Set var expr) depth before after deep fits = (tt, expr_fine expr _ _)
 stmt_level (Stmt-F.If expr first second) depth before after deep fits =
-    let one = λ (b a : ℕ). body_fine first depth b a (omega arith) (and_left (each_in is_number_in_range (stmts first)) _ fits) in
-    let two = λ (b a : ℕ). body_fine second depth b a (omega arith) (and_right (each_in is_number_in_range (stmts first)) _ fits) in
-    if_fine before after (expr_code expr) (body_code depth (stmts first)) (body_code depth (stmts second)) (expr_fine expr) one two
+    let one = λ (b a : ℕ). body_fine first depth b a (omega arith)
+        (and_left (each_in is_number_in_range (stmts first)) _ fits) in
+    let two = λ (b a : ℕ). body_fine second depth b a (omega arith)
+        (and_right (each_in is_number_in_range (stmts first)) _ fits) in
+    if_fine before after (expr_code expr) (body_code depth (stmts first)) (body_code depth (stmts second))
+        (expr_fine expr) one two
 stmt_level (Stmt-F.Repeat turns inner) depth before after deep fits =
     let range = nat_le 1 turns && nat_le turns 65535 in
     let some : 1 ≤ turns = from_nat_le 1 turns (and_left (nat_le 1 turns) _ (and_left range _ fits)) in
@@ -115,13 +130,17 @@ stmt_level (Stmt-F.Service call) depth before after deep fits = (tt, tt)
 stmt_fine : (stmt : Stmt) → FineStmt stmt
 stmt_fine = ind-Stmt FineStmt (λ x y is depth before after deep fits.
     let deep' : depth + nesting_step (map-Stmt Stmt ℕ nesting_of (down y)) ≤ 4 =
-    subst (λ k. depth + k ≤ 4) (fold-roll-Stmt ℕ nesting_step x ∙ sym (ap (λ z. nesting_step (map-Stmt Stmt ℕ nesting_of z)) is)) deep in
+    subst (λ k. depth + k ≤ 4) (fold-roll-Stmt ℕ nesting_step x
+        ∙ sym (ap (λ z. nesting_step (map-Stmt Stmt ℕ nesting_of z)) is)) deep in
     let fits' : numbers_step (map-Stmt Stmt Bool (each_of is_number_in_range) (down y)) ≡ true =
-    ap (λ z. numbers_step (map-Stmt Stmt Bool (each_of is_number_in_range) z)) is ∙ sym (fold-roll-Stmt Bool numbers_step x) ∙ fits in
+    ap (λ z. numbers_step (map-Stmt Stmt Bool (each_of is_number_in_range) z)) is
+        ∙ sym (fold-roll-Stmt Bool numbers_step x) ∙ fits in
     subst (λ f. AreFine before (f depth) after) (sym (fold-roll-Stmt (ℕ → List Instr) stmt_step x))
-    (subst (λ z. AreFine before (stmt_step (map-Stmt Stmt (ℕ → List Instr) stmt_code z) depth) after) is (stmt_level y depth before after deep' fits')))
+    (subst (λ z. AreFine before (stmt_step (map-Stmt Stmt (ℕ → List Instr) stmt_code z) depth) after) is
+        (stmt_level y depth before after deep' fits')))
 
-code_fine : (body : List Stmt) (depth before after : ℕ) → depth + nesting_in body ≤ 4 → each_in is_number_in_range body ≡ true
+code_fine : (body : List Stmt) (depth before after : ℕ) → depth + nesting_in body ≤ 4
+    → each_in is_number_in_range body ≡ true
     → AreFine before (body_code depth body) after
 code_fine [] depth before after deep fits = tt
 code_fine (stmt ∷ body) depth before after deep fits =
@@ -136,16 +155,20 @@ record FineAt (place : ℕ) (instr : Instr) (most : ℕ) : Type 0 where
   pub few : after ≤ most
   pub fine : IsFine place instr after
 
-fine_at : (xs : List Instr) (before after p : ℕ) (instr : Instr) → AreFine before xs after → slice_get xs p ≡ Some instr → FineAt (before + p) instr (length xs + after)
+fine_at : (xs : List Instr) (before after p : ℕ) (instr : Instr) → AreFine before xs after
+    → slice_get xs p ≡ Some instr → FineAt (before + p) instr (length xs + after)
 fine_at [] before after p instr fine is = cc
 fine_at (x ∷ xs) before after zero instr fine is =
     let same : x ≡ instr = cc in
     let here : before ≡ before + zero = omega arith in
-    record { after = length xs + after; few = omega arith; fine = subst (λ n. IsFine n instr (length xs + after)) here (subst (λ k. IsFine before k (length xs + after)) same fine.0) }
+    record { after = length xs + after; few = omega arith; fine =
+        subst (λ n. IsFine n instr (length xs + after)) here
+        (subst (λ k. IsFine before k (length xs + after)) same fine.0) }
 fine_at (x ∷ xs) before after (suc p) instr fine is =
     let there = fine_at xs (before + 1) after p instr fine.1 is in
     let here : before + 1 + p ≡ before + suc p = omega arith in
-    record { after = there.after; few = omega (arith, there.few); fine = subst (λ n. IsFine n instr there.after) here there.fine }
+    record { after = there.after; few = omega (arith, there.few); fine =
+        subst (λ n. IsFine n instr there.after) here there.fine }
 
 to_range : (len place after : ℕ) (instr : Instr) → after ≤ len → IsFine place instr after → IsInRange len place instr
 to_range len place after (i.Work ticks) few fine = fine
@@ -159,12 +182,14 @@ to_range len place after i.Out few fine = tt
 to_range len place after (i.Service call) few fine = tt
 to_range len place after (i.Term term) few fine = tt
 
-pub code_in_range : (body : List Stmt) → nesting_in body ≤ 4 → each_in is_number_in_range body ≡ true → length (body_code 0 body) < 2 ^ 48
+pub code_in_range : (body : List Stmt) → nesting_in body ≤ 4 → each_in is_number_in_range body ≡ true
+    → length (body_code 0 body) < 2 ^ 48
     → AreInRange (body_code 0 body)
 code_in_range body deep fits short = record {
   short = short;
   each = λ p instr is.
       let at = fine_at (body_code 0 body) 0 0 p instr (code_fine body 0 0 0 (omega arith) fits) is in
       let here : 0 + p ≡ p = omega arith in
-      to_range (length (body_code 0 body)) p at.after instr (omega (arith, at.few)) (subst (λ n. IsFine n instr at.after) here at.fine);
+      to_range (length (body_code 0 body)) p at.after instr (omega (arith, at.few))
+          (subst (λ n. IsFine n instr at.after) here at.fine);
 }

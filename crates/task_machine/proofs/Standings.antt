@@ -20,27 +20,34 @@ use Rattle.task_machine.proofs.OnlyLeft.{rests_is}
 use Rattle.task_machine.proofs.Steps.{rests_left, never_passed, never_done}
 
 -- A frame that rests where a list is left stands for it.
-pub stands_for : (codes : List (List Stmt)) (frame : Frame) (l : List Stmt) → frame.program < length codes → IsAt (code_of codes frame.program) frame l → StandsFor codes frame l
+pub stands_for : (codes : List (List Stmt)) (frame : Frame) (l : List Stmt) → frame.program < length codes
+    → IsAt (code_of codes frame.program) frame l → StandsFor codes frame l
 unfolding left_of
 stands_for codes frame l exists at =
-    let left : left_of codes frame ≡ l = rests_is (code_of codes frame.program) frame.counters frame.place frame.work l at.rests in
-    record { sound = record { exists = exists; is_at = subst (λ m. IsAt (code_of codes frame.program) frame m) (sym left) at }; left = left }
+    let left : left_of codes frame ≡ l =
+        rests_is (code_of codes frame.program) frame.counters frame.place frame.work l at.rests in
+    record { sound = record { exists = exists; is_at =
+        subst (λ m. IsAt (code_of codes frame.program) frame m) (sym left) at }; left = left }
 
 -- ---- more codes
 
-more_codes : (codes more : List (List Stmt)) (program : ℕ) → program < length codes → body_of (codes ++ more) program ≡ body_of codes program
+more_codes : (codes more : List (List Stmt)) (program : ℕ) → program < length codes
+    → body_of (codes ++ more) program ≡ body_of codes program
 more_codes codes more program exists = get_or_append_left codes more [] program exists
 
-pub codes_grow : (codes more : List (List Stmt)) (frame : Frame) (l : List Stmt) → StandsFor codes frame l → StandsFor (codes ++ more) frame l
+pub codes_grow : (codes more : List (List Stmt)) (frame : Frame) (l : List Stmt) → StandsFor codes frame l
+    → StandsFor (codes ++ more) frame l
 codes_grow codes more frame l stands =
     let same = more_codes codes more frame.program stands.sound.exists in
-    let at : IsAt (code_of codes frame.program) frame l = subst (λ m. IsAt (code_of codes frame.program) frame m) stands.left stands.sound.is_at in
+    let at : IsAt (code_of codes frame.program) frame l =
+        subst (λ m. IsAt (code_of codes frame.program) frame m) stands.left stands.sound.is_at in
     stands_for (codes ++ more) frame l (omega (arith, length-append codes more, stands.sound.exists))
     (subst (λ body. IsAt (code_of (body ∷ []) 0) frame l) (sym same) at)
 
 -- ---- what is in front
 
-front_is : (code : List Instr) (cs : List ℕ) (l : List Stmt) (x : Stmt-F Stmt) (Then : List Stmt → Type 0) → Fronts code cs l x Then → work_in_front l ≡ work_of x
+front_is : (code : List Instr) (cs : List ℕ) (l : List Stmt) (x : Stmt-F Stmt) (Then : List Stmt → Type 0)
+    → Fronts code cs l x Then → work_in_front l ≡ work_of x
 front_is code cs l x Then f = ap work_in_front f.is ∙ ap work_of f.front
 
 module _ (code : List Instr) (cs : List ℕ) (l : List Stmt) (p : ℕ) (r : Rests code cs l p 0) where
@@ -53,16 +60,22 @@ module _ (code : List Instr) (cs : List ℕ) (l : List Stmt) (p : ℕ) (r : Rest
   idle_front (Some (i.Work n)) g =
       let f = front_at code cs r.depth p l (rests_left code cs l p r) (i.Work n) g in
       sym (front_is code cs l _ _ f ∙ ap work_in (sym g) ∙ (r.still refl).idle)
-  idle_front (Some (i.Take x)) g = sym (front_is code cs l _ _ (front_at code cs r.depth p l (rests_left code cs l p r) (i.Take x) g))
-  idle_front (Some (i.Set x)) g = sym (front_is code cs l _ _ (front_at code cs r.depth p l (rests_left code cs l p r) (i.Set x) g).fronts)
-  idle_front (Some (i.If n)) g = sym (front_is code cs l _ _ (front_at code cs r.depth p l (rests_left code cs l p r) (i.If n) g).fronts)
+  idle_front (Some (i.Take x)) g =
+      sym (front_is code cs l _ _ (front_at code cs r.depth p l (rests_left code cs l p r) (i.Take x) g))
+  idle_front (Some (i.Set x)) g =
+      sym (front_is code cs l _ _ (front_at code cs r.depth p l (rests_left code cs l p r) (i.Set x) g).fronts)
+  idle_front (Some (i.If n)) g =
+      sym (front_is code cs l _ _ (front_at code cs r.depth p l (rests_left code cs l p r) (i.If n) g).fronts)
   idle_front (Some (i.Skip n)) g = absurd (never_passed code cs l p (i.Skip n) r g tt)
-  idle_front (Some (i.Repeat c n)) g = sym (front_is code cs l _ _ (front_at code cs r.depth p l (rests_left code cs l p r) (i.Repeat c n) g).fronts)
+  idle_front (Some (i.Repeat c n)) g =
+      sym (front_is code cs l _ _ (front_at code cs r.depth p l (rests_left code cs l p r) (i.Repeat c n) g).fronts)
   idle_front (Some (i.Again c back)) g =
       let f = front_at code cs r.depth p l (rests_left code cs l p r) (i.Again c back) g in
       again_front (slice_index cs c) f.inner f.rest f.is (never_done code cs l p back c r g)
-  idle_front (Some i.Out) g = sym (front_is code cs l _ _ (front_at code cs r.depth p l (rests_left code cs l p r) i.Out g).fronts)
-  idle_front (Some (i.Service call)) g = sym (front_is code cs l _ _ (front_at code cs r.depth p l (rests_left code cs l p r) (i.Service call) g))
+  idle_front (Some i.Out) g =
+      sym (front_is code cs l _ _ (front_at code cs r.depth p l (rests_left code cs l p r) i.Out g).fronts)
+  idle_front (Some (i.Service call)) g =
+      sym (front_is code cs l _ _ (front_at code cs r.depth p l (rests_left code cs l p r) (i.Service call) g))
   idle_front (Some (i.Term t)) g = absurd (never_passed code cs l p (i.Term t) r g tt)
 
 -- The work that was begun is the `work` in front.
@@ -70,26 +83,33 @@ front_work : (code : List Instr) (cs : List ℕ) (l : List Stmt) (p w : ℕ) →
 front_work code cs l p zero r = idle_front code cs l p r (slice_get code p) refl
 front_work code cs l p (suc w) r = sym (ap work_in_front r.is ∙ ap work_of (outs-Work (suc w)))
 
-pub begun_is_front : (codes : List (List Stmt)) (frame : Frame) → IsSound codes frame → frame.work ≡ work_in_front (left_of codes frame)
+pub begun_is_front : (codes : List (List Stmt)) (frame : Frame) → IsSound codes frame
+    → frame.work ≡ work_in_front (left_of codes frame)
 begun_is_front codes frame sound =
-    front_work (code_of codes frame.program) frame.counters (left_of codes frame) frame.place frame.work sound.is_at.rests
+    front_work (code_of codes frame.program) frame.counters
+        (left_of codes frame) frame.place frame.work sound.is_at.rests
 
 -- ---- ticks
 
 -- what ticks of a frame leave, with its codes
-pub record Outcome (codes : List (List Stmt)) (frame : Frame) (vars : List ℤ) (cursors : List ℕ) (effect : Option Effect) (state : State) : Type 0 where
+pub record Outcome (codes : List (List Stmt)) (frame : Frame) (vars : List ℤ) (cursors : List ℕ)
+    (effect : Option Effect) (state : State) : Type 0 where
   pub sound : IsSound codes frame
   pub is : state_of (left_of codes frame) vars cursors (option_to_list effect) ≡ state
   pub ended : IsTrue frame.ended ↔ (left_of codes frame ≡ [])
 
-outcome_is : (left : List Stmt) (vars : List ℤ) (cursors : List ℕ) (effects : List Effect) (state : State) → left ≡ state.left → vars ≡ state.vars
+outcome_is : (left : List Stmt) (vars : List ℤ) (cursors : List ℕ) (effects : List Effect) (state : State)
+    → left ≡ state.left → vars ≡ state.vars
     → cursors ≡ state.cursors → state.effects ≡ effects → state_of left vars cursors effects ≡ state
 outcome_is left vars cursors effects state a b d e =
-    ap (λ k. state_of k vars cursors effects) a ∙ ap (λ k. state_of state.left k cursors effects) b ∙ ap (λ k. state_of state.left state.vars k effects) d
+    ap (λ k. state_of k vars cursors effects) a ∙ ap (λ k. state_of state.left k cursors effects) b
+        ∙ ap (λ k. state_of state.left state.vars k effects) d
     ∙ ap (λ k. state_of state.left state.vars state.cursors k) (sym e)
 
-module _ (codes : List (List Stmt)) (code : List Instr) (old new : Frame) (vars : List ℤ) (cursors : List ℕ) (effect : Option Effect) where
-  outcome_by : (state : List Stmt → State) → code ≡ code_of codes old.program → new.program ≡ old.program → IsSound codes old → left_of codes old ≢ []
+module _ (codes : List (List Stmt)) (code : List Instr) (old new : Frame) (vars : List ℤ) (cursors : List ℕ)
+    (effect : Option Effect) where
+  outcome_by : (state : List Stmt → State) → code ≡ code_of codes old.program → new.program ≡ old.program
+      → IsSound codes old → left_of codes old ≢ []
       → ((l : List Stmt) → IsAt code old l → l ≢ [] → Advanced code new vars cursors effect (state l))
       → Outcome codes new vars cursors effect (state (left_of codes old))
   outcome_by state layout same sound some taken =
@@ -101,7 +121,8 @@ module _ (codes : List (List Stmt)) (code : List Instr) (old new : Frame) (vars 
       let stands = stands_for codes new (state l).left exists at in
       record {
         sound = stands.sound;
-        is = outcome_is (left_of codes new) vars cursors (option_to_list effect) (state l) stands.left advanced.vars_are advanced.cursors_are advanced.effects_are;
+        is = outcome_is (left_of codes new) vars cursors (option_to_list effect)
+            (state l) stands.left advanced.vars_are advanced.cursors_are advanced.effects_are;
         ended = stands.sound.is_at.ended;
       }
 
@@ -109,16 +130,21 @@ module _ (codes : List (List Stmt)) (code : List Instr) (old new : Frame) (vars 
   abbrev pub after : ℕ → Store → List Stmt → State
   after k store l = ticks (supply_of store.demands store.values) k (begin l store.vars store.cursors)
 
-  pub outcome : (k : ℕ) (stored now : Store) → stored ≡ now → code ≡ code_of codes old.program → new.program ≡ old.program → IsSound codes old → left_of codes old ≢ []
+  pub outcome : (k : ℕ) (stored now : Store) → stored ≡ now → code ≡ code_of codes old.program
+      → new.program ≡ old.program → IsSound codes old → left_of codes old ≢ []
       → ((l : List Stmt) → IsAt code old l → l ≢ [] → Advanced code new vars cursors effect (after k stored l))
       → Outcome codes new vars cursors effect (after k now (left_of codes old))
   outcome k stored now is layout same sound some taken =
-      subst (λ store. Outcome codes new vars cursors effect (after k store (left_of codes old))) is (outcome_by (after k stored) layout same sound some taken)
+      subst (λ store. Outcome codes new vars cursors effect (after k store (left_of codes old))) is
+          (outcome_by (after k stored) layout same sound some taken)
 
 -- A frame that rests at the start of a program stands for its body.
-pub started : (codes : List (List Stmt)) (code : List Instr) (counters : List ℕ) (frame : Frame) (program : ℕ) → code ≡ code_of codes program → program < length codes
-    → frame.program ≡ program → ((d : ℕ) (l : List Stmt) → Left code counters d 0 l → IsAt code frame l) → StandsFor codes frame (body_of codes program)
+pub started : (codes : List (List Stmt)) (code : List Instr) (counters : List ℕ) (frame : Frame) (program : ℕ)
+    → code ≡ code_of codes program → program < length codes
+    → frame.program ≡ program → ((d : ℕ) (l : List Stmt) → Left code counters d 0 l → IsAt code frame l)
+    → StandsFor codes frame (body_of codes program)
 started codes code counters frame program layout exists same at =
-    let here : IsAt code frame (body_of codes program) = at 0 (body_of codes program) (whole code counters (body_of codes program) layout) in
+    let here : IsAt code frame (body_of codes program) =
+        at 0 (body_of codes program) (whole code counters (body_of codes program) layout) in
     stands_for codes frame (body_of codes program) (subst (λ n. n < length codes) (sym same) exists)
     (subst (λ c. IsAt c frame (body_of codes program)) (layout ∙ ap (code_of codes) (sym same)) here)

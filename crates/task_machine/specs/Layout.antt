@@ -54,7 +54,8 @@ abbrev pub layer_code : ℕ → Stmt-F Stmt → List Instr
 layer_code depth (Stmt-F.Work ticks) = i.Work ticks ∷ []
 layer_code depth (Stmt-F.Take demand) = i.Take demand ∷ []
 layer_code depth (Stmt-F.Set var expr) = i.Set var ∷ expr_code expr
-layer_code depth (Stmt-F.If expr first second) = if_code (expr_code expr) (body_code depth first) (body_code depth second)
+layer_code depth (Stmt-F.If expr first second) =
+    if_code (expr_code expr) (body_code depth first) (body_code depth second)
 layer_code depth (Stmt-F.Repeat turns inner) = repeat_code depth turns (body_code (suc depth) inner)
 layer_code depth (Stmt-F.Out expr) = i.Out ∷ expr_code expr
 layer_code depth (Stmt-F.Service call) = i.Service call ∷ []

@@ -8,10 +8,12 @@ use Rattle.task_machine.specs.Layout.{layer_code, body_code, Stands}
 use Rattle.task_machine.specs.declared.instr.Instr.{Instr}
 use Rattle.task_machine.specs.declared.instr.Instr.TheVariants as i
 
--- Under so many repetitions, at this place of the code, these statements are left. The counters say how many turns are left.
+-- Under so many repetitions, at this place of the code, these statements are left. The counters say how many turns
+-- are left.
 pub data Left (code : List Instr) (counters : List ℕ) : ℕ → ℕ → List Stmt → Type 0 where
   At_end : (p : ℕ) → length code ≤ p → Left code counters 0 p []
-  At_stmt : (d p q : ℕ) (s : Stmt) (x : Stmt-F Stmt) (rest : List Stmt) → out-Stmt s ≡ x → Stands code p (layer_code d x) q → Left code counters d q rest
+  At_stmt : (d p q : ℕ) (s : Stmt) (x : Stmt-F Stmt) (rest : List Stmt) → out-Stmt s ≡ x
+      → Stands code p (layer_code d x) q → Left code counters d q rest
       → Left code counters d p (s ∷ rest)
   At_skip : (d p q : ℕ) (second rest : List Stmt) → slice_get code p ≡ Some (i.Skip (length (body_code d second)))
       → Stands code (p + 1) (body_code d second) q → Left code counters d q rest → Left code counters d p rest

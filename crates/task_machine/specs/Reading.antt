@@ -1,4 +1,5 @@
--- The body that instructions are the code of, and what is left of it at a place. The instructions are read from the last to the first.
+-- The body that instructions are the code of, and what is left of it at a place. The instructions are read from the
+-- last to the first.
 use Rattle.std.specs.Prelude.{ℕ, ◌+◌, ◌-◌, List, [], ◌∷◌, ◌++◌, length, take, slice_index, slice_index_or}
 use Rattle.task_lang.specs.declared.syntax.Op.{Op}
 use Rattle.task_lang.specs.declared.syntax.Expr.{Expr}
@@ -10,14 +11,14 @@ use Rattle.task_machine.specs.declared.instr.Instr.{Instr}
 use Rattle.task_machine.specs.declared.instr.Instr.TheVariants as i
 use Rattle.task_machine.specs.declared.instr.Term.TheVariants as t
 
--- A block that is open at a place, and the statements after it: the first body of an `if`, with its second body; or the body of a
--- `repeat`, with its counter and the number of instructions from its start to the end of the code.
+-- A block that is open at a place, and the statements after it: the first body of an `if`, with its second body; or
+-- the body of a `repeat`, with its counter and the number of instructions from its start to the end of the code.
 pub data Block : Type 0 where
   First : (second rest : List Stmt) → Block
   Turn : (counter from_end : ℕ) (rest : List Stmt) → Block
 
--- what the instructions from a place on say: the expressions that begin there, the statements left of the innermost block, and the blocks
--- that are open there, the innermost first
+-- what the instructions from a place on say: the expressions that begin there, the statements left of the innermost
+-- block, and the blocks that are open there, the innermost first
 pub record Seen : Type 0 where
   pub exprs : List Expr
   pub block : List Stmt
@@ -55,14 +56,17 @@ open_first here after = record {
 }
 
 abbrev pub close_if : List Expr → List Block → Seen → Seen
-close_if (expr ∷ exprs) (First second rest ∷ around) seen = record { exprs = exprs; block = s.If expr seen.block second ∷ rest; around = around }
+close_if (expr ∷ exprs) (First second rest ∷ around) seen =
+    record { exprs = exprs; block = s.If expr seen.block second ∷ rest; around = around }
 close_if _ _ seen = seen
 
 abbrev pub open_turn : (counter from_end : ℕ) → Seen → Seen
-open_turn counter from_end seen = record { exprs = seen.exprs; block = []; around = Turn counter from_end seen.block ∷ seen.around }
+open_turn counter from_end seen =
+    record { exprs = seen.exprs; block = []; around = Turn counter from_end seen.block ∷ seen.around }
 
 abbrev pub close_turn : ℕ → List Block → Seen → Seen
-close_turn turns (Turn counter from_end rest ∷ around) seen = record { exprs = seen.exprs; block = s.Repeat turns seen.block ∷ rest; around = around }
+close_turn turns (Turn counter from_end rest ∷ around) seen =
+    record { exprs = seen.exprs; block = s.Repeat turns seen.block ∷ rest; around = around }
 close_turn turns _ seen = seen
 
 -- one instruction before what is seen at the places after it
@@ -93,12 +97,14 @@ seen_at code p = at p (reading code)
 abbrev pub body_in : List Instr → List Stmt
 body_in code = (seen_at code 0).block
 
--- what is left of the blocks that are open: past the second body of an `if`, and the turns of a `repeat` that its counter says
+-- what is left of the blocks that are open: past the second body of an `if`, and the turns of a `repeat` that its
+-- counter says
 abbrev pub left_around : List Instr → (counters : List ℕ) → List Block → List Stmt
 left_around code counters [] = []
 left_around code counters (First second rest ∷ around) = rest ++ left_around code counters around
 left_around code counters (Turn counter from_end rest ∷ around) =
-    repeat_then (slice_index counters counter) (seen_at code (length code - from_end)).block (rest ++ left_around code counters around)
+    repeat_then (slice_index counters counter) (seen_at code (length code - from_end)).block
+        (rest ++ left_around code counters around)
 
 -- the statements that are left at a place of the code
 unfoldable pub left_at : List Instr → (counters : List ℕ) → ℕ → List Stmt

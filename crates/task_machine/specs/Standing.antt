@@ -64,4 +64,5 @@ IsNoFrame frame = (codes : List (List Stmt)) → length codes ≤ 256 → IsSoun
 
 -- A frame stands for the same list once more codes were appended.
 abbrev pub CodesMayGrow : Type 0
-CodesMayGrow = (codes more : List (List Stmt)) (frame : Frame) (l : List Stmt) → StandsFor codes frame l → StandsFor (codes ++ more) frame l
+CodesMayGrow = (codes more : List (List Stmt)) (frame : Frame) (l : List Stmt) → StandsFor codes frame l
+    → StandsFor (codes ++ more) frame l

@@ -2,7 +2,8 @@
 use Rattle.std.specs.Prelude.{ℕ, ℤ, List}
 use Rattle.task_lang.specs.declared.demand.Demand.{Demand}
 
--- the variables, how many script values of each demand were used, the demands, and the values that the script gives for each
+-- the variables, how many script values of each demand were used, the demands, and the values that the script gives
+-- for each
 pub record Store : Type 0 where
   pub vars : List ℤ
   pub cursors : List ℕ

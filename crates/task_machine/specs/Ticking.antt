@@ -13,7 +13,8 @@ abbrev pub begin : List Stmt → List ℤ → List ℕ → State
 begin l vars cursors = state_of l vars cursors []
 
 -- what a tick leaves, before the places that take no time are passed
-pub record Stepped (code : List Instr) (counters : List ℕ) (p : ℕ) (vars : List ℤ) (cursors : List ℕ) (effect : Option Effect) (state : State) : Type 0 where
+pub record Stepped (code : List Instr) (counters : List ℕ) (p : ℕ) (vars : List ℤ) (cursors : List ℕ)
+    (effect : Option Effect) (state : State) : Type 0 where
   pub depth : ℕ
   pub left : Left code counters depth p state.left
   pub vars_are : vars ≡ state.vars
@@ -21,7 +22,8 @@ pub record Stepped (code : List Instr) (counters : List ℕ) (p : ℕ) (vars : L
   pub effects_are : state.effects ≡ option_to_list effect
 
 -- what the ticks of a frame leave
-pub record Advanced (code : List Instr) (frame : Frame) (vars : List ℤ) (cursors : List ℕ) (effect : Option Effect) (state : State) : Type 0 where
+pub record Advanced (code : List Instr) (frame : Frame) (vars : List ℤ) (cursors : List ℕ) (effect : Option Effect)
+    (state : State) : Type 0 where
   pub is_at : IsAt code frame state.left
   pub vars_are : vars ≡ state.vars
   pub cursors_are : cursors ≡ state.cursors

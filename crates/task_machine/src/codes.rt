@@ -63,7 +63,8 @@ impl Codes {
         }
     }
 
-    /// Appends a code and answers its number. When out of memory, nothing has changed, and the code is given up.
+    /// Appends a code and answers its number. When out of memory, nothing has changed, and the
+    /// code is given up.
     pub fn push(&mut self, code: Code) -> Result<u16, Memory>
         requires { length self.old < 256 }
         ensures number { IfOk result (λ number. number ≡ length self.old) }

@@ -13,8 +13,8 @@ use tt_base::Memory;
 /// More instructions than any memory holds.
 const TOO_MANY: usize = 0x1_0000_0000_0000;
 
-/// The code of a body. The time is linear in the number of statements. It calls itself once for each term of an expression, of
-/// which the rules allow 100.
+/// The code of a body. The time is linear in the number of statements. It calls itself once for
+/// each term of an expression, of which the rules allow 100.
 pub fn compile(alloc: Global, body: &Body) -> Result<Code, Memory>
     requires nested { IsNestedInLimit body.now }
     requires numbers { AreNumbersInRange body.now }

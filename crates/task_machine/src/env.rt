@@ -1,4 +1,5 @@
-//! What the ticks of a body read and change: variables, and the values that the script gives for demands.
+//! What the ticks of a body read and change: variables, and the values that the script gives for
+//! demands.
 
 ghost use Rattle.std.specs.Prelude.{◌≡◌, ◌∷◌, ◌++◌, [], length, take, replicate, slice_set, IfOk};
 ghost use Rattle.task_machine.specs.Stored.{Store};
@@ -8,7 +9,8 @@ use std::marker::Model;
 use task_lang::{Cursors, Demand, Demands, Values, Vars};
 use tt_base::{Memory, Series, VarNo};
 
-/// The variables, the demands, the values that the script gives for them, and how many of each were used.
+/// The variables, the demands, the values that the script gives for them, and how many of each
+/// were used.
 #[derive(Drop)]
 pub struct Env {
     pub(crate) vars: Vars,

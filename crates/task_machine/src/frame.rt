@@ -7,8 +7,8 @@ ghost use Rattle.task_machine.specs.Standing.{body_of, left_of, program_of, work
 use crate::codes::Codes;
 use crate::rest::settle;
 
-/// An unfinished activation of a program. With its codes it stands for the list of statements that are left. Only `advance`
-/// changes it.
+/// An unfinished activation of a program. With its codes it stands for the list of statements that
+/// are left. Only `advance` changes it.
 #[derive(Clone, Copy, Debug, PartialEq, Eq)]
 pub struct Frame {
     pub(crate) place: usize,

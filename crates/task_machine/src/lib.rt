@@ -1,4 +1,5 @@
-//! The machine of task code: a body as flat code, an unfinished activation as a small frame in it, and the ticks of a frame.
+//! The machine of task code: a body as flat code, an unfinished activation as a small frame in it,
+//! and the ticks of a frame.
 #![tactic(auto)]
 
 mod codes;

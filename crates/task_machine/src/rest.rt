@@ -13,7 +13,8 @@ use crate::instr::Instr;
 pub(crate) fn settle(frame: &mut Frame, code: &[Instr], start: usize)
     requires { AreInRange code.now }
     ensures program { frame.new.program ≡ frame.old.program }
-    ensures at { (d : ℕ) (l : List Stmt) → Left code.now frame.old.counters d start l → IsAt code.now frame.new l }
+    ensures at { (d : ℕ) (l : List Stmt) → Left code.now frame.old.counters d start l
+        → IsAt code.now frame.new l }
 {
     let (place, work) = resting_place(code, start, &frame.counters);
     frame.place = place;

@@ -33,8 +33,9 @@ struct Step {
     effect: Option<Effect>,
 }
 
-/// Takes k ticks of the list that a frame stands for: one, or at most as many as the `work` at its front has left. It counts one
-/// step and takes no memory. A variable or a demand that is not there counts as 0 and keeps nothing.
+/// Takes k ticks of the list that a frame stands for: one, or at most as many as the `work` at its
+/// front has left. It counts one step and takes no memory. A variable or a demand that is not
+/// there counts as 0 and keeps nothing.
 pub fn advance<L: Ledger>(
     frame: &mut Frame,
     codes: &Codes,
@@ -50,7 +51,8 @@ pub fn advance<L: Ledger>(
     ensures program { program_of frame.new ≡ program_of frame.old }
 
     // The list, the variables, the cursors and the effect are those of k ticks of the list.
-    ensures ticks { state_of (left_of codes.now frame.new) env.new.vars env.new.cursors (option_to_list result.effect)
+    ensures ticks { state_of (left_of codes.now frame.new) env.new.vars env.new.cursors
+        (option_to_list result.effect)
         ≡ ticks (supply_of env.old.demands env.old.values) k
         (state_of (left_of codes.now frame.old) env.old.vars env.old.cursors []) }
     ensures demands { env.new.demands ≡ env.old.demands }
@@ -116,7 +118,8 @@ fn work_on(frame: &mut Frame, code: &[Instr], k: u64)
     requires some { 1 ≤ k }
     requires within { k ≤ frame.old.work }
     ensures program { frame.new.program ≡ frame.old.program }
-    ensures ticks { (l : List Stmt) (supply : Supply) (vars : List ℤ) (cursors : List ℕ) → IsAt code.now frame.old l
+    ensures ticks { (l : List Stmt) (supply : Supply) (vars : List ℤ) (cursors : List ℕ)
+        → IsAt code.now frame.old l
         → Advanced code.now frame.new vars cursors None (ticks supply k (begin l vars cursors)) }
 {
     frame.work -= k;
@@ -155,7 +158,8 @@ fn draw(
 /// One tick of another statement at a place.
 fn take_step(code: &[Instr], place: usize, counters: &mut [u16; 4], vars: &mut Vars) -> Step
     requires { AreInRange code.now }
-    ensures { (l : List Stmt) (supply : Supply) (cursors : List ℕ) → Rests code.now counters.old l place 0
+    ensures { (l : List Stmt) (supply : Supply) (cursors : List ℕ)
+        → Rests code.now counters.old l place 0
         → l ≢ [] → take_in (slice_get code.now place) ≡ None
         → Stepped code.now counters.new result.place vars.new cursors result.effect
         (tick supply (begin l vars.old cursors)) }
@@ -221,7 +225,8 @@ fn silent(place: usize) -> Step
 fn demand_at(code: &[Instr], place: usize) -> Option<DemandNo>
     ensures demand { result ≡ take_in (slice_get code.now place) }
     ensures there { OnSome result (place < length code.now) }
-    ensures here { MatchOption result (Unit {0}) (λ demand. slice_get code.now place ≡ Some (Instr.Take demand)) }
+    ensures here { MatchOption result (Unit {0})
+        (λ demand. slice_get code.now place ≡ Some (Instr.Take demand)) }
 {
     match instr_at(code, place) {
         Some(Instr::Take(demand)) => Some(demand),

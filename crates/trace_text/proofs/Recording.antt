@@ -1,5 +1,5 @@
 -- What a recorder did over two lists of events, one after the other.
-use Rattle.std.proofs.Common.{◌≡◌, ◌≤◌, ℕ, IsTrue, List, [], ◌∷◌, ◌++◌, refl, sym, ap, ◌∙◌, subst, arith, append_assoc}
+use Rattle.std.proofs.Common.{◌≡◌, ◌≤◌, ℕ, List, [], ◌∷◌, ◌++◌, refl, sym, ap, ◌∙◌, subst, arith, append_assoc}
 use Rattle.std.specs.Prelude.{Result, Ok, Err}
 use Rattle.std.specs.List.{FoldsTo}
 use Rattle.tt_base.specs.declared.event.Event.{Event}
@@ -13,16 +13,6 @@ pub folds_append : {S A : Type 0} (R : S → A → S → Type 0) (s m t : S) (xs
     → FoldsTo R s xs m → FoldsTo R m ys t → FoldsTo R s (xs ++ ys) t
 folds_append R s m t [] ys p q = subst (λ u. FoldsTo R u ys t) (sym p) q
 folds_append R s m t (x ∷ xs) ys p q = (p.0, p.1, folds_append R p.0 m t xs ys p.2 q)
-
--- of no event nothing is noted
-pub notes_none : {S : Type 0} (r : Ghosts S) (names : List NameEntry) (s : S) → IsTrue (r.ready s) → Notes r names s [] s
-notes_none r names s ready = record { kept = refl; ready = ready; never_falls = omega arith }
-
--- one event was kept
-pub notes_event : {S : Type 0} (r : Ghosts S) (names : List NameEntry) (s : S) (event : Event) (t : S)
-    → r.kept s event names t → IsTrue (r.ready t) → r.faults s ≤ r.faults t → Notes r names s (event ∷ []) t
-notes_event r names s event t kept ready never_falls =
-    record { kept = (t, kept, refl); ready = ready; never_falls = never_falls }
 
 -- one event was cut
 pub cut_event : {S : Type 0} (r : Ghosts S) (names : List NameEntry) (s : S) (event : Event) (t : S)
@@ -41,7 +31,8 @@ cut_event r names s event t cut cause never_falls = record {
 }
 
 -- some events were noted, and then others
-pub notes_then : {S : Type 0} {r : Ghosts S} {names : List NameEntry} {s m t : S} {xs ys : List Event} (all : List Event)
+pub notes_then : {S : Type 0} {r : Ghosts S} {names : List NameEntry} {s m t : S} {xs ys : List Event}
+    (all : List Event)
     → all ≡ xs ++ ys → Notes r names s xs m → Notes r names m ys t → Notes r names s all t
 notes_then {S} {r} {names} {s} {m} {t} {xs} {ys} all split p q = record {
   kept = subst (λ l. KeptAll r names s l t) (sym split)
@@ -83,13 +74,6 @@ cut_before {S} {r} {names} {s} {t} {xs} ys all split p = record {
   cause = p.cause;
   never_falls = p.never_falls;
 }
-
--- some events were noted, and then what was done over others decides
-pub records_then : {S T E : Type 0} {r : Ghosts S} {names : List NameEntry} {s m : S} {xs : List Event}
-    (ys all : List Event) (t : S) (result : Result T E)
-    → all ≡ xs ++ ys → Notes r names s xs m → Records r names m ys t result → Records r names s all t result
-records_then ys all t (Ok value) split p q = notes_then all split p q
-records_then ys all t (Err error) split p q = cut_then all split p q
 
 -- the count of faults did not fall
 pub records_never_falls : {S T E : Type 0} (r : Ghosts S) (names : List NameEntry) (s : S) (events : List Event) (t : S)

@@ -49,14 +49,16 @@ module _ {O : Type 0} (written : O → Option (List ℕ)) where
       p.passes q.part in
       record {
         part = part_of_front (written (sink_of s).now) (written (sink_of t).now) both rest
-            (waiting_in s ++ ((first ++ second) ++ rest)) (sym (append_assoc (waiting_in s) (first ++ second) rest)) part;
+            (waiting_in s ++ ((first ++ second) ++ rest))
+                (sym (append_assoc (waiting_in s) (first ++ second) rest)) part;
         same_sink = q.same_sink ∙ p.same_sink;
         over = q.over;
       }
 
   -- each line was put, so their text was
   puts_all : (names : List NameEntry) (events : List Event) (s t : SinkRecorder O)
-      → FoldsTo (λ a event b. Puts written a (line_of names event) b) s events t → Puts written s (text_of names events) t
+      → FoldsTo (λ a event b. Puts written a (line_of names event) b) s events t
+      → Puts written s (text_of names events) t
   unfolding text_of
   puts_all names [] s t p = subst (Puts written s []) p (puts_none s)
   puts_all names (event ∷ events) s t (m, first, rest) =
@@ -72,12 +74,14 @@ module _ {O : Type 0} (written : O → Option (List ℕ)) where
   }
 
   -- events were noted: their text was put
-  pub noted_text : (faults : O → ℕ) (names : List NameEntry) (s : SinkRecorder O) (events : List Event) (t : SinkRecorder O)
+  pub noted_text : (faults : O → ℕ) (names : List NameEntry) (s : SinkRecorder O) (events : List Event)
+      (t : SinkRecorder O)
       → Notes (to_sink faults) names s events t → Puts written s (text_of names events) t
   noted_text faults names s events t p = puts_all names events s t p.kept
 
   -- it was cut within events: their text was cut
-  pub cut_text : (faults : O → ℕ) (names : List NameEntry) (s : SinkRecorder O) (events : List Event) (t : SinkRecorder O)
+  pub cut_text : (faults : O → ℕ) (names : List NameEntry) (s : SinkRecorder O) (events : List Event)
+      (t : SinkRecorder O)
       → CutWithin (to_sink faults) names s events t → Cuts written s (text_of names events) t
   cut_text faults names s events t p =
       subst (λ text. Cuts written s text t) (sym (ap (text_of names) p.split ∙ text_split names p.done p.next p.rest))
@@ -85,7 +89,8 @@ module _ {O : Type 0} (written : O → Option (List ℕ)) where
       (puts_all names p.done s p.middle p.kept) p.cut)
 
   -- by an answer
-  pub recorded_text : {T E : Type 0} (faults : O → ℕ) (names : List NameEntry) (s : SinkRecorder O) (events : List Event)
+  pub recorded_text : {T E : Type 0} (faults : O → ℕ) (names : List NameEntry) (s : SinkRecorder O)
+      (events : List Event)
       (t : SinkRecorder O) (result : Result T E)
       → Records (to_sink faults) names s events t result → Writes written s (text_of names events) t result
   recorded_text faults names s events t (Ok value) p = noted_text faults names s events t p

@@ -22,19 +22,23 @@ abbrev pub SameSink : {O : Type 0} → SinkRecorder O → SinkRecorder O → Typ
 SameSink before after = (sink_of after).ghost_name ≡ (sink_of before).ghost_name
 
 -- a text came to what waited: of both a front was appended to the sink, where it tells its bytes, and the others wait
-pub record Puts {O : Type 0} (written : O → Option (List ℕ)) (before : SinkRecorder O) (text : List ℕ) (after : SinkRecorder O)
+pub record Puts {O : Type 0} (written : O → Option (List ℕ)) (before : SinkRecorder O) (text : List ℕ)
+    (after : SinkRecorder O)
     : Type 0 where
-  pub passes : Passes (written (sink_of before).now) (written (sink_of after).now) (waiting_in before ++ text) (waiting_in after)
+  pub passes : Passes (written (sink_of before).now) (written (sink_of after).now) (waiting_in before ++ text)
+      (waiting_in after)
   pub same_sink : SameSink before after
 
 -- a text came to what waited, and a proper prefix of both was appended to the sink, where it tells its bytes
-pub record Cuts {O : Type 0} (written : O → Option (List ℕ)) (before : SinkRecorder O) (text : List ℕ) (after : SinkRecorder O)
+pub record Cuts {O : Type 0} (written : O → Option (List ℕ)) (before : SinkRecorder O) (text : List ℕ)
+    (after : SinkRecorder O)
     : Type 0 where
   pub part : AppendsPart (written (sink_of before).now) (written (sink_of after).now) (waiting_in before ++ text)
   pub same_sink : SameSink before after
   pub over : takes after ≡ false
 
 -- by an answer: a text was put, or cut
-abbrev pub Writes : {O T E : Type 0} → (O → Option (List ℕ)) → SinkRecorder O → List ℕ → SinkRecorder O → Result T E → Type 0
+abbrev pub Writes : {O T E : Type 0} → (O → Option (List ℕ)) → SinkRecorder O → List ℕ → SinkRecorder O → Result T E
+    → Type 0
 Writes written before text after (Ok value) = Puts written before text after
 Writes written before text after (Err error) = Cuts written before text after

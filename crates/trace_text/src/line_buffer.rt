@@ -13,8 +13,8 @@ use std::marker::Model;
 use tt_base::{Declared, NAME_BYTES, Names, Owner};
 use tt_io::{CAPACITY, Sink, WriteFault, put_all};
 
-/// Bytes that wait for a sink, and to which printed lines are appended word by word. It takes no memory, and contracts
-/// see it as the list of the bytes that wait.
+/// Bytes that wait for a sink, and to which printed lines are appended word by word. It takes no
+/// memory, and contracts see it as the list of the bytes that wait.
 #[derive(Drop)]
 pub(crate) struct LineBuffer {
     /// How many bytes wait, from the front of `bytes` on.
@@ -77,8 +77,8 @@ impl LineBuffer {
         self.len = end;
     }
 
-    /// Appends the first bytes of a name with zeros after it. Sixteen bytes are copied at once, and those past the name
-    /// are written over by what comes next.
+    /// Appends the first bytes of a name with zeros after it. Sixteen bytes are copied at once,
+    /// and those past the name are written over by what comes next.
     #[inline(always)]
     fn front_of_name(&mut self, text: &[u8; NAME_BYTES], len: usize)
         requires short { len ≤ NAME_BYTES }

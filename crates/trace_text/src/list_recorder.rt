@@ -8,7 +8,8 @@ use crate::{Noted, Recorder};
 use std::alloc::Global;
 use tt_base::{Event, Memory, Names};
 
-/// Keeps the events that it notes, in the room that it has. A note that finds no room left fails, and no other does.
+/// Keeps the events that it notes, in the room that it has. A note that finds no room left fails,
+/// and no other does.
 #[derive(Drop)]
 pub struct ListRecorder {
     events: Vec<Event>,

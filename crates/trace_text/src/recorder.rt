@@ -28,7 +28,8 @@ pub trait Recorder {
     /// Whether it takes an event.
     ghost ready: { Self → Bool };
 
-    /// What a note that succeeds does: the recorder before, the event, the names, the recorder after.
+    /// What a note that succeeds does: the recorder before, the event, the names, the recorder
+    /// after.
     ghost kept: { Self → Event → List NameEntry → Self → Type 0 };
 
     /// What a note that fails leaves: the same four.

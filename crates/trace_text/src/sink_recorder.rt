@@ -14,8 +14,8 @@ use tt_io::{Sink, WriteFault};
 /// How many bytes a line has at most, its LF included.
 const LINE_BYTES: usize = 96;
 
-/// Appends the line of each event to a sink. Lines wait in a buffer, so that many make one write: `finish` sends what
-/// waits at the end. After a note that failed it takes no event.
+/// Appends the line of each event to a sink. Lines wait in a buffer, so that many make one write:
+/// `finish` sends what waits at the end. After a note that failed it takes no event.
 #[derive(Drop)]
 pub struct SinkRecorder<'a, O: Sink> {
     sink: &'a mut O,

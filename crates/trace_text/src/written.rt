@@ -22,7 +22,8 @@ fn put_lines<O: Sink>(
         recorder.new result }
     ensures cause { OnErr result (
         Rose (O.faults (sink_of recorder.old).now) (O.faults (sink_of recorder.new).now)) }
-    ensures never_falls { O.faults (sink_of recorder.old).now ≤ O.faults (sink_of recorder.new).now }
+    ensures never_falls { O.faults (sink_of recorder.old).now
+        ≤ O.faults (sink_of recorder.new).now }
 {
     note_all(recorder, events, names)
 }

@@ -19,16 +19,19 @@ broken_first : (number : ℕ) (line : Option ℕ) (later : Option Broken) → br
 broken_first number None later is = refl
 broken_first number (Some line) later is = cc
 
-broken_later : (number : ℕ) (line : Option ℕ) (later : Option Broken) → broken_or number line later ≡ None → later ≡ None
+broken_later : (number : ℕ) (line : Option ℕ) (later : Option Broken) → broken_or number line later ≡ None
+    → later ≡ None
 broken_later number None later is = is
 broken_later number (Some line) later is = cc
 
-none_then : (number : ℕ) (line : Option ℕ) (first all rest : Option Broken) → broken_or number line first ≡ None → (first ≡ None → all ≡ rest)
+none_then : (number : ℕ) (line : Option ℕ) (first all rest : Option Broken) → broken_or number line first ≡ None
+    → (first ≡ None → all ≡ rest)
     → broken_or number line all ≡ rest
 none_then number (Some line) first all rest kept later = cc
 none_then number None first all rest kept later = later kept
 
-some_then : (number : ℕ) (line : Option ℕ) (first all : Option Broken) (broken : Broken) → broken_or number line first ≡ Some broken
+some_then : (number : ℕ) (line : Option ℕ) (first all : Option Broken) (broken : Broken)
+    → broken_or number line first ≡ Some broken
     → (first ≡ Some broken → all ≡ Some broken) → broken_or number line all ≡ Some broken
 some_then number (Some line) first all broken is later = is
 some_then number None first all broken is later = later is
@@ -38,15 +41,18 @@ module _ (d : Document) where
   pub kept : (number : ℕ) (rules : List Rule) → first_broken number rules d ≡ None → AreKept rules d
   kept number [] is zero = refl
   kept number [] is (suc n) = refl
-  kept number (rule ∷ rules) is zero = least_none (rule d) (broken_first number (least_line (rule d)) (first_broken (number + 1) rules d) is)
-  kept number (rule ∷ rules) is (suc n) = kept (number + 1) rules (broken_later number (least_line (rule d)) (first_broken (number + 1) rules d) is) n
+  kept number (rule ∷ rules) is zero =
+      least_none (rule d) (broken_first number (least_line (rule d)) (first_broken (number + 1) rules d) is)
+  kept number (rule ∷ rules) is (suc n) =
+      kept (number + 1) rules (broken_later number (least_line (rule d)) (first_broken (number + 1) rules d) is) n
 
   -- where none of the first rules is broken, it is the first of the others
   pub join_none : (number : ℕ) (first others : List Rule) → first_broken number first d ≡ None
       → first_broken number (first ++ others) d ≡ first_broken (number + length first) others d
   join_none number [] others kept = ap (λ n. first_broken n others d) (omega arith)
   join_none number (rule ∷ first) others kept =
-      none_then number (least_line (rule d)) (first_broken (number + 1) first d) (first_broken (number + 1) (first ++ others) d) (first_broken (number + length (rule ∷ first)) others d) kept
+      none_then number (least_line (rule d)) (first_broken (number + 1) first d)
+          (first_broken (number + 1) (first ++ others) d) (first_broken (number + length (rule ∷ first)) others d) kept
       (λ later. join_none (number + 1) first others later ∙ ap (λ n. first_broken n others d) (omega arith))
 
   -- where one of the first rules is broken, it is that one
@@ -54,49 +60,65 @@ module _ (d : Document) where
       → first_broken number (first ++ others) d ≡ Some broken
   join_some number [] others broken is = cc
   join_some number (rule ∷ first) others broken is =
-      some_then number (least_line (rule d)) (first_broken (number + 1) first d) (first_broken (number + 1) (first ++ others) d) broken is
+      some_then number (least_line (rule d)) (first_broken (number + 1) first d)
+          (first_broken (number + 1) (first ++ others) d) broken is
       (λ later. join_some (number + 1) first others broken later)
 
 -- ---- the groups in which the rules are asked
 
 module _ (d : Document) where
-  pub first_one : (broken : Broken) → Some broken ≡ first_broken 1 structure_rules d → Some broken ≡ first_broken 1 first_rules d
+  pub first_one : (broken : Broken) → Some broken ≡ first_broken 1 structure_rules d
+      → Some broken ≡ first_broken 1 first_rules d
   first_one broken a = sym (join_some d 1 structure_rules (round_rules ++ name_rules) broken (sym a))
 
-  pub first_two : (broken : Broken) → None ≡ first_broken 1 structure_rules d → Some broken ≡ first_broken 4 round_rules d → Some broken ≡ first_broken 1 first_rules d
-  first_two broken a b = sym (join_none d 1 structure_rules (round_rules ++ name_rules) (sym a) ∙ join_some d 4 round_rules name_rules broken (sym b))
+  pub first_two : (broken : Broken) → None ≡ first_broken 1 structure_rules d
+      → Some broken ≡ first_broken 4 round_rules d → Some broken ≡ first_broken 1 first_rules d
+  first_two broken a b = sym (join_none d 1 structure_rules (round_rules ++ name_rules) (sym a)
+      ∙ join_some d 4 round_rules name_rules broken (sym b))
 
-  pub first_rest : None ≡ first_broken 1 structure_rules d → None ≡ first_broken 4 round_rules d → first_broken 7 name_rules d ≡ first_broken 1 first_rules d
-  first_rest a b = sym (join_none d 1 structure_rules (round_rules ++ name_rules) (sym a) ∙ join_none d 4 round_rules name_rules (sym b))
+  pub first_rest : None ≡ first_broken 1 structure_rules d → None ≡ first_broken 4 round_rules d
+      → first_broken 7 name_rules d ≡ first_broken 1 first_rules d
+  first_rest a b = sym (join_none d 1 structure_rules (round_rules ++ name_rules) (sym a)
+      ∙ join_none d 4 round_rules name_rules (sym b))
 
-  pub later_one : (broken : Broken) → Some broken ≡ first_broken 9 declaration_rules d → Some broken ≡ first_broken 9 later_rules d
+  pub later_one : (broken : Broken) → Some broken ≡ first_broken 9 declaration_rules d
+      → Some broken ≡ first_broken 9 later_rules d
   later_one broken a = sym (join_some d 9 declaration_rules (body_rules ++ (table_rules ++ input_rules)) broken (sym a))
 
-  pub later_two : (broken : Broken) → None ≡ first_broken 9 declaration_rules d → Some broken ≡ first_broken 14 body_rules d → Some broken ≡ first_broken 9 later_rules d
-  later_two broken a b = sym (join_none d 9 declaration_rules (body_rules ++ (table_rules ++ input_rules)) (sym a) ∙ join_some d 14 body_rules (table_rules ++ input_rules) broken (sym b))
+  pub later_two : (broken : Broken) → None ≡ first_broken 9 declaration_rules d
+      → Some broken ≡ first_broken 14 body_rules d → Some broken ≡ first_broken 9 later_rules d
+  later_two broken a b = sym (join_none d 9 declaration_rules (body_rules ++ (table_rules ++ input_rules)) (sym a)
+      ∙ join_some d 14 body_rules (table_rules ++ input_rules) broken (sym b))
 
-  pub later_three : (broken : Broken) → None ≡ first_broken 9 declaration_rules d → None ≡ first_broken 14 body_rules d → Some broken ≡ first_broken 18 table_rules d
+  pub later_three : (broken : Broken) → None ≡ first_broken 9 declaration_rules d
+      → None ≡ first_broken 14 body_rules d → Some broken ≡ first_broken 18 table_rules d
       → Some broken ≡ first_broken 9 later_rules d
   later_three broken a b c =
-      sym (join_none d 9 declaration_rules (body_rules ++ (table_rules ++ input_rules)) (sym a) ∙ join_none d 14 body_rules (table_rules ++ input_rules) (sym b)
+      sym (join_none d 9 declaration_rules (body_rules ++ (table_rules ++ input_rules)) (sym a)
+          ∙ join_none d 14 body_rules (table_rules ++ input_rules) (sym b)
       ∙ join_some d 18 table_rules input_rules broken (sym c))
 
-  pub later_rest : None ≡ first_broken 9 declaration_rules d → None ≡ first_broken 14 body_rules d → None ≡ first_broken 18 table_rules d
+  pub later_rest : None ≡ first_broken 9 declaration_rules d → None ≡ first_broken 14 body_rules d
+      → None ≡ first_broken 18 table_rules d
       → first_broken 25 input_rules d ≡ first_broken 9 later_rules d
   later_rest a b c =
-      sym (join_none d 9 declaration_rules (body_rules ++ (table_rules ++ input_rules)) (sym a) ∙ join_none d 14 body_rules (table_rules ++ input_rules) (sym b)
+      sym (join_none d 9 declaration_rules (body_rules ++ (table_rules ++ input_rules)) (sym a)
+          ∙ join_none d 14 body_rules (table_rules ++ input_rules) (sym b)
       ∙ join_none d 18 table_rules input_rules (sym c))
 
 module _ (rows : List NumberedRow) where
-  pub all_none : None ≡ first_broken 1 first_rules (document_of rows) → None ≡ first_broken 9 later_rules (document_of rows) → broken_rule rows ≡ None
+  pub all_none : None ≡ first_broken 1 first_rules (document_of rows)
+      → None ≡ first_broken 9 later_rules (document_of rows) → broken_rule rows ≡ None
   unfolding broken_rule
   all_none a b = join_none (document_of rows) 1 first_rules later_rules (sym a) ∙ sym b
 
-  pub all_first : (broken : Broken) → Some broken ≡ first_broken 1 first_rules (document_of rows) → broken_rule rows ≡ Some broken
+  pub all_first : (broken : Broken) → Some broken ≡ first_broken 1 first_rules (document_of rows)
+      → broken_rule rows ≡ Some broken
   unfolding broken_rule
   all_first broken a = join_some (document_of rows) 1 first_rules later_rules broken (sym a)
 
-  pub all_second : (broken : Broken) → None ≡ first_broken 1 first_rules (document_of rows) → Some broken ≡ first_broken 9 later_rules (document_of rows)
+  pub all_second : (broken : Broken) → None ≡ first_broken 1 first_rules (document_of rows)
+      → Some broken ≡ first_broken 9 later_rules (document_of rows)
       → broken_rule rows ≡ Some broken
   unfolding broken_rule
   all_second broken a b = join_none (document_of rows) 1 first_rules later_rules (sym a) ∙ sym b

@@ -16,7 +16,8 @@ get_or-below : (n k d : ℕ) → k < n → get_or (below n) k d ≡ k
 get_or-below zero k d lt = absurd (omega arith)
 get_or-below (suc n) k d lt = by (k == n) refl (get_or-below n k d) where
   by : (last : Bool) → (k == n) ≡ last → (k < n → get_or (below n) k d ≡ k) → get_or (below n ++ n ∷ []) k d ≡ k
-  by true is rest = let same : k ≡ n = eqb-true k n is in get_or_push (below n) n d k (length-below n ∙ sym same) ∙ sym same
+  by true is rest = let same : k ≡ n = eqb-true k n is in get_or_push (below n) n d k (length-below n ∙ sym same)
+      ∙ sym same
   by false is rest =
       let less : k < n = grind (arith, nat_tests) in
       get_or_append_left (below n) (n ∷ []) d k (omega (arith, length-below n)) ∙ rest less
@@ -29,21 +30,26 @@ length-each : {X : Type 0} (f : ℕ → X) (n : ℕ) → length (map f (below n)
 length-each f n = length-map (below n) f ∙ length-below n
 
 -- lists that belong to the same numbers are one, where each is
-same_each : {X : Type 0} (f : ℕ → X) (n : ℕ) (xs : List X) (d : X) → length xs ≡ n → ((k : ℕ) → k < n → get_or xs k d ≡ f k) → xs ≡ map f (below n)
+same_each : {X : Type 0} (f : ℕ → X) (n : ℕ) (xs : List X) (d : X) → length xs ≡ n
+    → ((k : ℕ) → k < n → get_or xs k d ≡ f k) → xs ≡ map f (below n)
 same_each f n xs d long each =
-    ext_get_or d xs (map f (below n)) (long ∙ sym (length-each f n)) (λ k lt. let less : k < n = omega arith in each k less ∙ sym (get_or-each f n k d less))
+    ext_get_or d xs (map f (below n)) (long ∙ sym (length-each f n))
+        (λ k lt. let less : k < n = omega arith in each k less ∙ sym (get_or-each f n k d less))
 
 module _ {A B : Type 0} (count : ℕ) (place : A → Option (ℕ × B)) where
   -- at first none
   pub by_number-first : (lists : List (List B)) → lists ≡ replicate count [] → lists ≡ by_number count place []
   by_number-first lists is =
-      is ∙ same_each (given place []) count (replicate count []) [] (length-replicate count []) (λ k lt. get_or-replicate count k [] [] lt)
+      is ∙ same_each (given place []) count (replicate count []) [] (length-replicate count [])
+          (λ k lt. get_or-replicate count k [] [] lt)
 
   given-push : (xs : List A) (x : A) (k : ℕ) → given place (xs ++ x ∷ []) k ≡ given place xs k ++ at_number k (place x)
   given-push xs x k =
-      flat_map-append (λ y. at_number k (place y)) xs (x ∷ []) ∙ ap (λ ys. given place xs k ++ ys) (append-nil (at_number k (place x)))
+      flat_map-append (λ y. at_number k (place y)) xs (x ∷ [])
+          ∙ ap (λ ys. given place xs k ++ ys) (append-nil (at_number k (place x)))
 
-  put_one : (xs : List A) (o : Option (ℕ × B)) (k : ℕ) → k < count → get_or (put_at o (by_number count place xs)) k [] ≡ given place xs k ++ at_number k o
+  put_one : (xs : List A) (o : Option (ℕ × B)) (k : ℕ) → k < count
+      → get_or (put_at o (by_number count place xs)) k [] ≡ given place xs k ++ at_number k o
   put_one xs None k lt = get_or-each (given place xs) count k [] lt ∙ sym (append-nil (given place xs k))
   put_one xs (Some p) k lt = by (p.0 == k) refl where
     lists : List (List B)
@@ -51,28 +57,38 @@ module _ {A B : Type 0} (count : ℕ) (place : A → Option (ℕ × B)) where
 
     here : p.0 ≡ k → get_or (set lists p.0 (get_or lists p.0 [] ++ p.1 ∷ [])) k [] ≡ given place xs k ++ p.1 ∷ []
     here same =
-        get_or-set_at lists p.0 k (get_or lists p.0 [] ++ p.1 ∷ []) [] (sym same) (omega (arith, length-each (given place xs) count))
+        get_or-set_at lists p.0 k (get_or lists p.0 [] ++ p.1 ∷ []) [] (sym same)
+            (omega (arith, length-each (given place xs) count))
         ∙ ap (λ ys. ys ++ p.1 ∷ []) (ap (λ m. get_or lists m []) same ∙ get_or-each (given place xs) count k [] lt)
 
-    by : (same : Bool) → (p.0 == k) ≡ same → get_or (set lists p.0 (get_or lists p.0 [] ++ p.1 ∷ [])) k [] ≡ given place xs k ++ (if same then p.1 ∷ [] else [])
+    by : (same : Bool) → (p.0 == k) ≡ same
+        → get_or (set lists p.0 (get_or lists p.0 [] ++ p.1 ∷ [])) k []
+        ≡ given place xs k ++ (if same then p.1 ∷ [] else [])
     by true is = here (eqb-true p.0 k is)
     by false is =
         let apart : k ≢ p.0 = grind (arith, nat_tests) in
-        get_or-set_other lists p.0 k (get_or lists p.0 [] ++ p.1 ∷ []) [] apart ∙ get_or-each (given place xs) count k [] lt ∙ sym (append-nil (given place xs k))
+        get_or-set_other lists p.0 k (get_or lists p.0 [] ++ p.1 ∷ []) [] apart
+            ∙ get_or-each (given place xs) count k [] lt ∙ sym (append-nil (given place xs k))
 
   length-put : (xs : List A) (o : Option (ℕ × B)) → length (put_at o (by_number count place xs)) ≡ count
   length-put xs None = length-each (given place xs) count
-  length-put xs (Some p) = length-set (by_number count place xs) p.0 (get_or (by_number count place xs) p.0 [] ++ p.1 ∷ []) ∙ length-each (given place xs) count
+  length-put xs (Some p) = length-set (by_number count place xs) p.0
+      (get_or (by_number count place xs) p.0 [] ++ p.1 ∷ []) ∙ length-each (given place xs) count
 
   put-push : (xs : List A) (x : A) → put_at (place x) (by_number count place xs) ≡ by_number count place (xs ++ x ∷ [])
   put-push xs x =
-      same_each (given place (xs ++ x ∷ [])) count (put_at (place x) (by_number count place xs)) [] (length-put xs (place x))
+      same_each (given place (xs ++ x ∷ [])) count (put_at (place x) (by_number count place xs)) []
+          (length-put xs (place x))
       (λ k lt. put_one xs (place x) k lt ∙ sym (given-push xs x k))
 
   -- one part more
-  pub by_number-more : (xs : List (At A)) (i : ℕ) (x : At A) (lists more : List (List B)) (o : Option (ℕ × B)) → i < length xs → x ≡ get_or xs i x
-      → lists ≡ by_number count place (parts (take i xs)) → o ≡ place x.part → more ≡ put_at o lists → more ≡ by_number count place (parts (take (i + 1) xs))
+  pub by_number-more : (xs : List (At A)) (i : ℕ) (x : At A) (lists more : List (List B)) (o : Option (ℕ × B))
+      → i < length xs → x ≡ get_or xs i x
+      → lists ≡ by_number count place (parts (take i xs)) → o ≡ place x.part → more ≡ put_at o lists
+      → more ≡ by_number count place (parts (take (i + 1) xs))
   by_number-more xs i x lists more o lt is before gives put =
       let whole : parts (take (i + 1) xs) ≡ parts (take i xs) ++ x.part ∷ [] =
-      ap parts (take_more xs i x lt ∙ ap (λ (y : At A). take i xs ++ y ∷ []) (sym is)) ∙ map-append (λ (y : At A). y.part) (take i xs) (x ∷ []) in
-      put ∙ ap (λ p. put_at p lists) gives ∙ ap (put_at (place x.part)) before ∙ put-push (parts (take i xs)) x.part ∙ ap (by_number count place) (sym whole)
+      ap parts (take_more xs i x lt ∙ ap (λ (y : At A). take i xs ++ y ∷ []) (sym is))
+          ∙ map-append (λ (y : At A). y.part) (take i xs) (x ∷ []) in
+      put ∙ ap (λ p. put_at p lists) gives ∙ ap (put_at (place x.part)) before ∙ put-push (parts (take i xs)) x.part
+          ∙ ap (by_number count place) (sym whole)

@@ -35,12 +35,15 @@ abbrev is_kind : NameKind → Option NameEntry → Bool
 is_kind kind None = false
 is_kind kind (Some entry) = is_same_kind kind entry.kind
 
-count-then : (kind : NameKind) (line : ℕ) (o : Option NameEntry) (rest : List (At NameEntry)) → count_of kind (parts (at_then line o rest)) ≡ one_if (is_kind kind o) + count_of kind (parts rest)
+count-then : (kind : NameKind) (line : ℕ) (o : Option NameEntry) (rest : List (At NameEntry))
+    → count_of kind (parts (at_then line o rest)) ≡ one_if (is_kind kind o) + count_of kind (parts rest)
 count-then kind line None rest = omega arith
 count-then kind line (Some entry) rest = count-cons kind entry (parts rest)
 
-module _ {A : Type 0} (kind : NameKind) (part_of : Row → Option A) (same : (row : Row) → is_some (part_of row) ≡ is_kind kind (declared_in row)) where
-  length-then : (line : ℕ) (o : Option A) (rest : List (At A)) → length (parts (at_then line o rest)) ≡ one_if (is_some o) + length (parts rest)
+module _ {A : Type 0} (kind : NameKind) (part_of : Row → Option A)
+    (same : (row : Row) → is_some (part_of row) ≡ is_kind kind (declared_in row)) where
+  length-then : (line : ℕ) (o : Option A) (rest : List (At A))
+      → length (parts (at_then line o rest)) ≡ one_if (is_some o) + length (parts rest)
   length-then line None rest = omega arith
   length-then line (Some part) rest = omega arith
 
@@ -48,25 +51,33 @@ module _ {A : Type 0} (kind : NameKind) (part_of : Row → Option A) (same : (ro
   count_parts : (rows : List NumberedRow) → count_of kind (names_in rows) ≡ length (parts (each_at part_of rows))
   count_parts [] = refl
   count_parts (row ∷ rows) =
-      omega (arith, count-then kind row.line (declared_in row.row) (each_at declared_in rows), length-then row.line (part_of row.row) (each_at part_of rows), ap one_if (same row.row), count_parts rows)
+      omega (arith, count-then kind row.line (declared_in row.row) (each_at declared_in rows),
+          length-then row.line (part_of row.row) (each_at part_of rows), ap one_if (same row.row), count_parts rows)
 
 -- what a body gives that there may be
 abbrev owned : {A : Type 0} → (BodyPart → List A) → Option BodyPart → List A
 owned part_in None = []
 owned part_in (Some b) = part_in b
 
-module _ {A : Type 0} (kind : NameKind) (part_in : BodyPart → List A) (one : (row : Row) (rest : List Branches) → length (owned part_in (body_of (owner_in row) rest)) ≡ one_if (is_kind kind (declared_in row)))
+module _ {A : Type 0} (kind : NameKind) (part_in : BodyPart → List A)
+    (one : (row : Row) (rest : List Branches)
+    → length (owned part_in (body_of (owner_in row) rest)) ≡ one_if (is_kind kind (declared_in row)))
     (names : List NameEntry) where
-  length-owned : (line : ℕ) (o : Option BodyPart) (rest : List (At BodyPart)) → length (flat_map part_in (parts (at_then line o rest))) ≡ length (owned part_in o) + length (flat_map part_in (parts rest))
+  length-owned : (line : ℕ) (o : Option BodyPart) (rest : List (At BodyPart))
+      → length (flat_map part_in (parts (at_then line o rest)))
+      ≡ length (owned part_in o) + length (flat_map part_in (parts rest))
   length-owned line None rest = omega arith
   length-owned line (Some b) rest = length-append (part_in b) (flat_map part_in (parts rest))
 
   -- bodies give as many owners as names of a kind
-  count_owners : (rows : List NumberedRow) → count_of kind (names_in rows) ≡ length (flat_map part_in (parts (bodies_of names rows)))
+  count_owners : (rows : List NumberedRow)
+      → count_of kind (names_in rows) ≡ length (flat_map part_in (parts (bodies_of names rows)))
   count_owners [] = refl
   count_owners (row ∷ rows) =
       let rest = branches_from names rows in
-      omega (arith, count-then kind row.line (declared_in row.row) (each_at declared_in rows), length-owned row.line (body_of (owner_in row.row) rest) (bodies_of names rows), one row.row rest, count_owners rows)
+      omega (arith, count-then kind row.line (declared_in row.row) (each_at declared_in rows),
+          length-owned row.line (body_of (owner_in row.row) rest) (bodies_of names rows), one row.row rest,
+          count_owners rows)
 
 -- ---- each kind
 
@@ -79,19 +90,23 @@ demand_same (r.Demand name most usual) = refl
 demand_same row = refl
 
 module _ (demands : List Demand) where
-  task_one : (row : Row) (rest : List Branches) → length (owned (task_in demands) (body_of (owner_in row) rest)) ≡ one_if (is_kind Kind.Task (declared_in row))
+  task_one : (row : Row) (rest : List Branches)
+      → length (owned (task_in demands) (body_of (owner_in row) rest)) ≡ one_if (is_kind Kind.Task (declared_in row))
   task_one (r.Task name stack) rest = refl
   task_one row rest = refl
 
-  isr_one : (row : Row) (rest : List Branches) → length (owned (isr_in demands) (body_of (owner_in row) rest)) ≡ one_if (is_kind Kind.Isr (declared_in row))
+  isr_one : (row : Row) (rest : List Branches)
+      → length (owned (isr_in demands) (body_of (owner_in row) rest)) ≡ one_if (is_kind Kind.Isr (declared_in row))
   isr_one (r.Isr name level stack) rest = refl
   isr_one row rest = refl
 
-  osek_one : (row : Row) (rest : List Branches) → length (owned (osek_in demands) (body_of (owner_in row) rest)) ≡ one_if (is_kind Kind.Osek (declared_in row))
+  osek_one : (row : Row) (rest : List Branches)
+      → length (owned (osek_in demands) (body_of (owner_in row) rest)) ≡ one_if (is_kind Kind.Osek (declared_in row))
   osek_one (r.Osek name priority) rest = refl
   osek_one row rest = refl
 
-  oisr_one : (row : Row) (rest : List Branches) → length (owned (oisr_in demands) (body_of (owner_in row) rest)) ≡ one_if (is_kind Kind.Oisr (declared_in row))
+  oisr_one : (row : Row) (rest : List Branches)
+      → length (owned (oisr_in demands) (body_of (owner_in row) rest)) ≡ one_if (is_kind Kind.Oisr (declared_in row))
   oisr_one (r.Oisr name priority) rest = refl
   oisr_one row rest = refl
 
@@ -101,7 +116,8 @@ named rows =
     let names = names_in rows in
     let demands = parts (each_at demand_in rows) in
     record {
-      modes = sym (length-map (below (count_of Kind.Mode names)) (mode_with (parts (elaborated_of rows).said.entries)) ∙ length-below (count_of Kind.Mode names));
+      modes = sym (length-map (below (count_of Kind.Mode names)) (mode_with (parts (elaborated_of rows).said.entries))
+          ∙ length-below (count_of Kind.Mode names));
       vars = count_parts Kind.Var var_in var_same rows;
       demands = count_parts Kind.Demand demand_in demand_same rows;
       tasks = count_owners Kind.Task (task_in demands) (task_one demands) names rows;
@@ -111,7 +127,8 @@ named rows =
     }
 
 -- 8. None has too many.
-pub few : (rows : List NumberedRow) → AreDeclarationsSound (declarations_of rows) → AreFew (config_with (elaborated_of rows))
+pub few : (rows : List NumberedRow) → AreDeclarationsSound (declarations_of rows)
+    → AreFew (config_with (elaborated_of rows))
 few rows sound =
     let n = named rows in
     record {

@@ -39,54 +39,79 @@ module _ (number_of : Owner → Option ℕ) where
   numbers bodies = flat_map (λ b. told (key b)) bodies
 
   -- the owners after one with a number have others
-  others : (n : ℕ) (o : Option ℕ) (bodies : List BodyPart) → o ≡ Some n → Each (λ (b : BodyPart). same_by same_number (λ (x : Option ℕ). x) o (key b) ≡ false) bodies → list_any (λ other. other == n) (numbers bodies) ≡ false
+  others : (n : ℕ) (o : Option ℕ) (bodies : List BodyPart) → o ≡ Some n
+      → Each (λ (b : BodyPart). same_by same_number (λ (x : Option ℕ). x) o (key b) ≡ false) bodies
+      → list_any (λ other. other == n) (numbers bodies) ≡ false
   others n o [] is h = refl
   others n None (b ∷ bodies) is h = cc
   others n (Some m) (b ∷ bodies) is h = by (key b) h.0 (others n (Some m) bodies is h.1) where
-    by : (p : Option ℕ) → same_by same_number (λ (x : Option ℕ). x) (Some m) p ≡ false → list_any (λ other. other == n) (numbers bodies) ≡ false → list_any (λ other. other == n) (told p ++ numbers bodies) ≡ false
+    by : (p : Option ℕ) → same_by same_number (λ (x : Option ℕ). x) (Some m) p ≡ false
+        → list_any (λ other. other == n) (numbers bodies) ≡ false
+        → list_any (λ other. other == n) (told p ++ numbers bodies) ≡ false
     by None apart rest = rest
-    by (Some k) apart rest = let one : m ≡ n = cc in or_from (k == n) _ (ap (λ j. k == j) (sym one) ∙ other_way m k apart) rest
+    by (Some k) apart rest = let one : m ≡ n = cc in
+        or_from (k == n) _ (ap (λ j. k == j) (sym one) ∙ other_way m k apart) rest
 
-  distinct : (bodies : List BodyPart) → Pairs (λ (a b : BodyPart). same_by same_number key a b ≡ false) bodies → are_distinct (numbers bodies) ≡ true
+  distinct : (bodies : List BodyPart) → Pairs (λ (a b : BodyPart). same_by same_number key a b ≡ false) bodies
+      → are_distinct (numbers bodies) ≡ true
   distinct [] h = refl
   distinct (b ∷ bodies) h = by (key b) h.0 (distinct bodies h.1) where
-    by : (o : Option ℕ) → Each (λ (x : BodyPart). same_by same_number (λ (y : Option ℕ). y) o (key x) ≡ false) bodies → are_distinct (numbers bodies) ≡ true → are_distinct (told o ++ numbers bodies) ≡ true
+    by : (o : Option ℕ) → Each (λ (x : BodyPart). same_by same_number (λ (y : Option ℕ). y) o (key x) ≡ false) bodies
+        → are_distinct (numbers bodies) ≡ true → are_distinct (told o ++ numbers bodies) ≡ true
     by None apart rest = rest
-    by (Some n) apart rest = and_from (not (list_any (λ other. other == n) (numbers bodies))) _ (ap not (others n (Some n) bodies refl apart)) rest
+    by (Some n) apart rest = and_from (not (list_any (λ other. other == n) (numbers bodies))) _
+        (ap not (others n (Some n) bodies refl apart)) rest
 
   -- where a field of each thing is the number of its owner
-  fields : {A : Type 0} (field : A → ℕ) (part_in : BodyPart → List A) → ((b : BodyPart) → map field (part_in b) ≡ told (key b)) → (bodies : List BodyPart) → map field (flat_map part_in bodies) ≡ numbers bodies
+  fields : {A : Type 0} (field : A → ℕ) (part_in : BodyPart → List A)
+      → ((b : BodyPart) → map field (part_in b) ≡ told (key b)) → (bodies : List BodyPart)
+      → map field (flat_map part_in bodies) ≡ numbers bodies
   fields field part_in same [] = refl
   fields field part_in same (b ∷ bodies) =
-      map-append field (part_in b) (flat_map part_in bodies) ∙ ap (λ ns. ns ++ map field (flat_map part_in bodies)) (same b) ∙ ap (λ ns. told (key b) ++ ns) (fields field part_in same bodies)
+      map-append field (part_in b) (flat_map part_in bodies)
+          ∙ ap (λ ns. ns ++ map field (flat_map part_in bodies)) (same b)
+          ∙ ap (λ ns. told (key b) ++ ns) (fields field part_in same bodies)
 
-  fields_distinct : {A : Type 0} (field : A → ℕ) (part_in : BodyPart → List A) → ((b : BodyPart) → map field (part_in b) ≡ told (key b)) → (bodies : List (At BodyPart))
+  fields_distinct : {A : Type 0} (field : A → ℕ) (part_in : BodyPart → List A)
+      → ((b : BodyPart) → map field (part_in b) ≡ told (key b)) → (bodies : List (At BodyPart))
       → lines_same number_of bodies ≡ [] → are_distinct (map field (flat_map part_in (parts bodies))) ≡ true
   fields_distinct field part_in same bodies is =
       ap are_distinct (fields field part_in same (parts bodies))
-      ∙ distinct (parts bodies) (pairs_differ (same_by same_number key) (parts bodies) (kept_one 1 (Differ (same_by same_number key)) bodies is))
+      ∙ distinct (parts bodies) (pairs_differ (same_by same_number key) (parts bodies)
+          (kept_one 1 (Differ (same_by same_number key)) bodies is))
 
 module _ (demands : List Demand) where
-  level_told : (body : List Stmt) (o : Owner) → map (λ (isr : IsrDef). isr.level) (isr_by demands body o) ≡ told (level_of o)
+  level_told : (body : List Stmt) (o : Owner)
+      → map (λ (isr : IsrDef). isr.level) (isr_by demands body o) ≡ told (level_of o)
   level_told body (owner.Isr level stack distance) = refl
   level_told body other = refl
 
-  osek_told : (body : List Stmt) (o : Owner) → map (λ (task : OsekDef). task.priority) (osek_by demands body o) ≡ told (osek_priority_of o)
+  osek_told : (body : List Stmt) (o : Owner)
+      → map (λ (task : OsekDef). task.priority) (osek_by demands body o) ≡ told (osek_priority_of o)
   osek_told body (owner.Osek priority auto) = refl
   osek_told body other = refl
 
-  oisr_told : (body : List Stmt) (o : Owner) → map (λ (oisr : OisrDef). oisr.priority) (oisr_by demands body o) ≡ told (oisr_priority_of o)
+  oisr_told : (body : List Stmt) (o : Owner)
+      → map (λ (oisr : OisrDef). oisr.priority) (oisr_by demands body o) ≡ told (oisr_priority_of o)
   oisr_told body (owner.Oisr priority) = refl
   oisr_told body other = refl
 
   -- 10. The levels of interrupt service routines differ.
-  pub levels : (bodies : List (At BodyPart)) → lines_10 bodies ≡ [] → are_distinct (map (λ (isr : IsrDef). isr.level) (flat_map (isr_in demands) (parts bodies))) ≡ true
-  levels bodies is = fields_distinct level_of (λ (isr : IsrDef). isr.level) (isr_in demands) (λ b. level_told b.body b.owner) bodies is
+  pub levels : (bodies : List (At BodyPart)) → lines_10 bodies ≡ []
+      → are_distinct (map (λ (isr : IsrDef). isr.level) (flat_map (isr_in demands) (parts bodies))) ≡ true
+  levels bodies is = fields_distinct level_of (λ (isr : IsrDef). isr.level) (isr_in demands)
+      (λ b. level_told b.body b.owner) bodies is
 
   -- 11. The priorities of OSEK tasks differ.
-  pub osek_priorities : (bodies : List (At BodyPart)) → lines_11 bodies ≡ [] → are_distinct (map (λ (task : OsekDef). task.priority) (flat_map (osek_in demands) (parts bodies))) ≡ true
-  osek_priorities bodies is = fields_distinct osek_priority_of (λ (task : OsekDef). task.priority) (osek_in demands) (λ b. osek_told b.body b.owner) bodies is
+  pub osek_priorities : (bodies : List (At BodyPart)) → lines_11 bodies ≡ []
+      → are_distinct (map (λ (task : OsekDef). task.priority) (flat_map (osek_in demands) (parts bodies))) ≡ true
+  osek_priorities bodies is =
+      fields_distinct osek_priority_of (λ (task : OsekDef). task.priority) (osek_in demands)
+      (λ b. osek_told b.body b.owner) bodies is
 
   -- 12. The priorities of OSEK interrupt service routines differ.
-  pub oisr_priorities : (bodies : List (At BodyPart)) → lines_12 bodies ≡ [] → are_distinct (map (λ (oisr : OisrDef). oisr.priority) (flat_map (oisr_in demands) (parts bodies))) ≡ true
-  oisr_priorities bodies is = fields_distinct oisr_priority_of (λ (oisr : OisrDef). oisr.priority) (oisr_in demands) (λ b. oisr_told b.body b.owner) bodies is
+  pub oisr_priorities : (bodies : List (At BodyPart)) → lines_12 bodies ≡ []
+      → are_distinct (map (λ (oisr : OisrDef). oisr.priority) (flat_map (oisr_in demands) (parts bodies))) ≡ true
+  oisr_priorities bodies is =
+      fields_distinct oisr_priority_of (λ (oisr : OisrDef). oisr.priority) (oisr_in demands)
+      (λ b. oisr_told b.body b.owner) bodies is

@@ -53,9 +53,12 @@ module _ (rows : List NumberedRow) where
     well_nested = no_line 2
 
   -- each part is read with the names
-  pub elaborated_is : (declared : Declarations) (names : List NameEntry) (said : Said) (demands : List Demand) (bodies : List (At BodyPart))
-      → declared ≡ declarations_of rows → names ≡ parts declared.names → said ≡ said_in names rows → demands ≡ parts said.demands → bodies ≡ bodies_of names rows
-      → record { declared = declared; names = names; said = said; demands = demands; bodies = bodies } ≡ elaborated_of rows
+  pub elaborated_is : (declared : Declarations) (names : List NameEntry) (said : Said) (demands : List Demand)
+      (bodies : List (At BodyPart))
+      → declared ≡ declarations_of rows → names ≡ parts declared.names → said ≡ said_in names rows
+      → demands ≡ parts said.demands → bodies ≡ bodies_of names rows
+      → record { declared = declared; names = names; said = said; demands = demands; bodies = bodies }
+      ≡ elaborated_of rows
   elaborated_is declared names said demands bodies a b s e f =
       let named : names ≡ names_in rows = b ∙ ap (λ (d : Declarations). parts d.names) a in
       let told : said ≡ said_in (names_in rows) rows = s ∙ ap (λ ns. said_in ns rows) named in
@@ -64,8 +67,10 @@ module _ (rows : List NumberedRow) where
       λ i. record { declared = a i; names = named i; said = told i; demands = asked i; bodies = owned i }
 
   -- 2, 3, 9. The worst cases of what is elaborated can be told.
-  pub elaborated_tellable : (d : Elaborated) (bodies : List (At BodyPart)) → d ≡ elaborated_of rows → bodies ≡ d.bodies → length rows < 2 ^ 32 → lines_2 rows ≡ [] → lines_3 rows ≡ []
+  pub elaborated_tellable : (d : Elaborated) (bodies : List (At BodyPart)) → d ≡ elaborated_of rows
+      → bodies ≡ d.bodies → length rows < 2 ^ 32 → lines_2 rows ≡ [] → lines_3 rows ≡ []
       → None ≡ first_broken 9 declaration_rules (document_of rows) → AreTellable d.demands bodies
   elaborated_tellable d bodies is same short is_2 is_3 none =
       subst (AreTellable d.demands) (sym same)
-      (subst (λ (e : Elaborated). AreTellable e.demands e.bodies) (sym is) (tellable rows short is_2 is_3 (kept (document_of rows) 9 declaration_rules (sym none) 0)))
+      (subst (λ (e : Elaborated). AreTellable e.demands e.bodies) (sym is)
+          (tellable rows short is_2 is_3 (kept (document_of rows) 9 declaration_rules (sym none) 0)))

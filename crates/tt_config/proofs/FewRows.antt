@@ -16,8 +16,10 @@ last_bound least row last (next ∷ rows) ascend is =
     let here : least ≤ row.line = from_nat_le least row.line (and_left (nat_le least row.line) _ ascend) in
     omega (arith, last_bound (suc row.line) next last rows (and_right (nat_le least row.line) _ ascend) is)
 
-pub few_rows-last : (rows : List NumberedRow) (last : NumberedRow) → AreSound rows → slice_get rows (length rows - 1) ≡ Some last → last.line < 2 ^ 32
+pub few_rows-last : (rows : List NumberedRow) (last : NumberedRow) → AreSound rows
+    → slice_get rows (length rows - 1) ≡ Some last → last.line < 2 ^ 32
     → length rows < 2 ^ 32
 few_rows-last [] last sound is below = omega arith
 few_rows-last (row ∷ rows) last sound is below =
-    omega (arith, last_bound 1 row last rows sound.ascending (subst (λ n. slice_get (row ∷ rows) n ≡ Some last) (omega arith) is))
+    omega (arith, last_bound 1 row last rows sound.ascending
+        (subst (λ n. slice_get (row ∷ rows) n ≡ Some last) (omega arith) is))

@@ -15,12 +15,14 @@ one_if true = 1
 one_if false = 0
 
 -- one name more
-pub count-cons : (kind : NameKind) (first : NameEntry) (names : List NameEntry) → count_of kind (first ∷ names) ≡ one_if (is_same_kind kind first.kind) + count_of kind names
+pub count-cons : (kind : NameKind) (first : NameEntry) (names : List NameEntry)
+    → count_of kind (first ∷ names) ≡ one_if (is_same_kind kind first.kind) + count_of kind names
 count-cons kind first names = by (is_same_kind kind first.kind) where
   rest : List NameEntry
   rest = filter (λ (entry : NameEntry). is_same_kind kind entry.kind) names
 
-  by : (same : Bool) → length (map (λ (entry : NameEntry). entry.name) (cond same (first ∷ rest) rest)) ≡ one_if same + length (map (λ (entry : NameEntry). entry.name) rest)
+  by : (same : Bool) → length (map (λ (entry : NameEntry). entry.name) (cond same (first ∷ rest) rest))
+      ≡ one_if same + length (map (λ (entry : NameEntry). entry.name) rest)
   by true = omega arith
   by false = omega arith
 
@@ -46,18 +48,24 @@ number_of-declared Kind.Osek number = refl
 number_of-declared Kind.Oisr number = refl
 
 -- the number of an entry is below the count of its kind
-below : (names : List NameEntry) (place : ℕ) (entry : NameEntry) → slice_get names place ≡ Some entry → count_of entry.kind (take place names) < count_of entry.kind names
+below : (names : List NameEntry) (place : ℕ) (entry : NameEntry) → slice_get names place ≡ Some entry
+    → count_of entry.kind (take place names) < count_of entry.kind names
 below [] place entry is = cc
 below (first ∷ names) zero entry is =
     let one : first ≡ entry = cc in
-    let same : is_same_kind entry.kind first.kind ≡ true = ap (λ (e : NameEntry). is_same_kind entry.kind e.kind) one ∙ same_itself entry.kind in
-    let more : count_of entry.kind (first ∷ names) ≡ 1 + count_of entry.kind names = count-cons entry.kind first names ∙ ap (λ b. one_if b + count_of entry.kind names) same in
+    let same : is_same_kind entry.kind first.kind ≡ true = ap (λ (e : NameEntry). is_same_kind entry.kind e.kind) one
+        ∙ same_itself entry.kind in
+    let more : count_of entry.kind (first ∷ names) ≡ 1 + count_of entry.kind names = count-cons entry.kind first names
+        ∙ ap (λ b. one_if b + count_of entry.kind names) same in
     omega (arith, more)
-below (first ∷ names) (suc place) entry is = omega (arith, count-cons entry.kind first names, count-cons entry.kind first (take place names), below names place entry is)
+below (first ∷ names) (suc place) entry is =
+    omega (arith, count-cons entry.kind first names, count-cons entry.kind first (take place names),
+    below names place entry is)
 
 -- how many names have a kind at a place among the kinds
 abbrev count_at : ℕ → List NameEntry → ℕ
-count_at place names = length (map (λ (entry : NameEntry). entry.name) (filter (λ (entry : NameEntry). place == index_of entry.kind) names))
+count_at place names = length
+    (map (λ (entry : NameEntry). entry.name) (filter (λ (entry : NameEntry). place == index_of entry.kind) names))
 
 either_same : (a : Bool) → a || a ≡ true → a ≡ true
 either_same true is = refl
@@ -66,7 +74,8 @@ either_same false is = is
 module _ (names : List NameEntry) (kind : NameKind) (name : List ℕ) where
   -- what a name declares that is declared as a kind has a number below its count
   abbrev IsBelow : Option Declared → Type 0
-  IsBelow which = has_kind (uses kind name) (option_map kind_of which) ≡ true → unwrap_or (option_map number_of which) 0 < count_of kind names
+  IsBelow which = has_kind (uses kind name) (option_map kind_of which) ≡ true
+      → unwrap_or (option_map number_of which) 0 < count_of kind names
 
   at_entry : (place : ℕ) (e : Option NameEntry) → slice_get names place ≡ e
       → IsBelow (option_map (λ (entry : NameEntry). declared entry.kind (count_of entry.kind (take place names))) e)
@@ -75,7 +84,8 @@ module _ (names : List NameEntry) (kind : NameKind) (name : List ℕ) where
       let number = count_of e.kind (take place names) in
       let same = either_same (is_same_kind (kind_of (declared e.kind number)) kind) has in
       let index : index_of e.kind ≡ index_of kind =
-      sym (ap index_of (kind_of-declared e.kind number)) ∙ eqb-true (index_of (kind_of (declared e.kind number))) (index_of kind) same in
+      sym (ap index_of (kind_of-declared e.kind number))
+          ∙ eqb-true (index_of (kind_of (declared e.kind number))) (index_of kind) same in
       omega (arith, number_of-declared e.kind number, below names place e is, ap (λ n. count_at n names) index)
 
   at_place : (place : Option ℕ) → IsBelow (option_and_then (declared_at names) place)

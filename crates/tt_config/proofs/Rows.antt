@@ -29,43 +29,53 @@ pub record IsRowFit (names : List NameEntry) (row : Row) : Type 0 where
 abbrev pub EachRow : (Row → Type 0) → List NumberedRow → Type 0
 EachRow P rows = Each (λ (row : NumberedRow). P row.row) rows
 
-pub each_row : (test : Row → Bool) (rows : List NumberedRow) → list_all test (parts (rows_at rows)) ≡ true → EachRow (λ row. test row ≡ true) rows
+pub each_row : (test : Row → Bool) (rows : List NumberedRow) → list_all test (parts (rows_at rows)) ≡ true
+    → EachRow (λ row. test row ≡ true) rows
 each_row test [] is = tt
 each_row test (row ∷ rows) is =
     let both = and_parts (test row.row) (list_all test (parts (rows_at rows))) is in
     (both.0, each_row test rows both.1)
 
 -- 9, 14. Rows that break neither rule.
-pub rows_fit : (rows : List NumberedRow) → AreSound rows → lines_9 rows ≡ [] → lines_14 (names_in rows) rows ≡ [] → EachRow (IsRowFit (names_in rows)) rows
+pub rows_fit : (rows : List NumberedRow) → AreSound rows → lines_9 rows ≡ [] → lines_14 (names_in rows) rows ≡ []
+    → EachRow (IsRowFit (names_in rows)) rows
 rows_fit rows sound is_9 is_14 =
     let known = are_names_declared (names_in rows) in
     let N = λ (row : NumberedRow). has_numbers_in_range row.row ≡ true in
     let K = λ (row : NumberedRow). known row.row ≡ true in
     let S = λ (row : NumberedRow). is_sound_row row.row ≡ true in
-    each_weaker (λ row. N row × (K row × S row)) (λ row. IsRowFit (names_in rows) row.row) (λ row h. record { numbers = h.0; known = h.1.0; sound = h.1.1 }) rows
-    (each_both N (λ row. K row × S row) rows (each_row has_numbers_in_range rows (kept_one 1 (Every has_numbers_in_range) (rows_at rows) is_9))
-    (each_both K S rows (each_row known rows (kept_one 1 (Every known) (rows_at rows) is_14)) (each_from_all (λ (row : NumberedRow). is_sound_row row.row) rows sound.sound)))
+    each_weaker (λ row. N row × (K row × S row)) (λ row. IsRowFit (names_in rows) row.row)
+        (λ row h. record { numbers = h.0; known = h.1.0; sound = h.1.1 }) rows
+    (each_both N (λ row. K row × S row) rows
+        (each_row has_numbers_in_range rows (kept_one 1 (Every has_numbers_in_range) (rows_at rows) is_9))
+    (each_both K S rows (each_row known rows (kept_one 1 (Every known) (rows_at rows) is_14))
+        (each_from_all (λ (row : NumberedRow). is_sound_row row.row) rows sound.sound)))
 
 -- a fact for a part that there may be
 abbrev pub IfPart : {A : Type 0} → (A → Type 0) → Option A → Type 0
 IfPart P None = Unit {0}
 IfPart P (Some part) = P part
 
-module _ {A : Type 0} (P : A → Type 0) (Q : Row → Type 0) (part_of : Row → Option A) (gives : (row : Row) → Q row → IfPart P (part_of row)) where
+module _ {A : Type 0} (P : A → Type 0) (Q : Row → Type 0) (part_of : Row → Option A)
+    (gives : (row : Row) → Q row → IfPart P (part_of row)) where
   -- what each part has, where each row gives it
   pub each_part : (rows : List NumberedRow) → EachRow Q rows → Each P (parts (each_at part_of rows))
   each_part [] h = tt
   each_part (row ∷ rows) h = by (part_of row.row) (gives row.row h.0) (each_part rows h.1) where
-    by : (o : Option A) → IfPart P o → Each P (parts (each_at part_of rows)) → Each P (parts (at_then row.line o (each_at part_of rows)))
+    by : (o : Option A) → IfPart P o → Each P (parts (each_at part_of rows))
+        → Each P (parts (at_then row.line o (each_at part_of rows)))
     by None here rest = rest
     by (Some part) here rest = (here, rest)
 
-module _ (P : Owner → Type 0) (Q : Row → Type 0) (gives : (row : Row) → Q row → IfPart P (owner_in row)) (names : List NameEntry) where
+module _ (P : Owner → Type 0) (Q : Row → Type 0) (gives : (row : Row) → Q row → IfPart P (owner_in row))
+    (names : List NameEntry) where
   -- what each owner of a body has
-  pub each_owner : (rows : List NumberedRow) → EachRow Q rows → Each (λ (x : At BodyPart). P x.part.owner) (bodies_of names rows)
+  pub each_owner : (rows : List NumberedRow) → EachRow Q rows
+      → Each (λ (x : At BodyPart). P x.part.owner) (bodies_of names rows)
   each_owner [] h = tt
   each_owner (row ∷ rows) h = by (owner_in row.row) (gives row.row h.0) (each_owner rows h.1) where
     by : (o : Option Owner) → IfPart P o → Each (λ (x : At BodyPart). P x.part.owner) (bodies_of names rows)
-        → Each (λ (x : At BodyPart). P x.part.owner) (at_then row.line (body_of o (branches_from names rows)) (bodies_of names rows))
+        → Each (λ (x : At BodyPart). P x.part.owner)
+            (at_then row.line (body_of o (branches_from names rows)) (bodies_of names rows))
     by None here rest = rest
     by (Some owner) here rest = (here, rest)

@@ -58,7 +58,8 @@ demand_fits row fit = tt
 -- the numbers of an owner are in range
 abbrev IsInRange : Owner → Type 0
 IsInRange (owner.Task stack) = nat_le stack 65535 ≡ true
-IsInRange (owner.Isr level stack distance) = (is_within 1 255 level ≡ true) × ((nat_le stack 65535 ≡ true) × (is_distance distance ≡ true))
+IsInRange (owner.Isr level stack distance) =
+    (is_within 1 255 level ≡ true) × ((nat_le stack 65535 ≡ true) × (is_distance distance ≡ true))
 IsInRange (owner.Osek priority auto) = is_within 1 255 priority ≡ true
 IsInRange (owner.Oisr priority) = is_within 1 255 priority ≡ true
 IsInRange owner.ErrorHook = Unit {0}
@@ -66,7 +67,8 @@ IsInRange owner.ShutdownHook = Unit {0}
 
 owner_fits : (row : Row) → has_numbers_in_range row ≡ true → IfPart IsInRange (owner_in row)
 owner_fits (r.Task name stack) fit = fit
-owner_fits (r.Isr name level stack) fit = let both = and_parts (is_within 1 255 level) (nat_le stack 65535) fit in (both.0, (both.1, refl))
+owner_fits (r.Isr name level stack) fit = let both = and_parts (is_within 1 255 level) (nat_le stack 65535) fit in
+    (both.0, (both.1, refl))
 owner_fits (r.IsrFar name level stack distance) fit =
     let both = and_parts (is_within 1 255 level) (nat_le stack 65535 && is_within 1 1000000000 distance) fit in
     (both.0, and_parts (nat_le stack 65535) (is_within 1 1000000000 distance) both.1)
@@ -77,20 +79,26 @@ owner_fits r.HookError fit = tt
 owner_fits r.HookShutdown fit = tt
 owner_fits row fit = tt
 
-fits_owner : (demands : List Demand) (body : List Stmt) (o : Owner) → IsInRange o → is_hook o || nat_le (worst_in demands body) (10 ^ 12) ≡ true → FitsOwner demands body o
-fits_owner demands body (owner.Task stack) range light = (leb-true stack 65535 range, leb-true (worst_in demands body) (10 ^ 12) light)
+fits_owner : (demands : List Demand) (body : List Stmt) (o : Owner) → IsInRange o
+    → is_hook o || nat_le (worst_in demands body) (10 ^ 12) ≡ true → FitsOwner demands body o
+fits_owner demands body (owner.Task stack) range light =
+    (leb-true stack 65535 range, leb-true (worst_in demands body) (10 ^ 12) light)
 fits_owner demands body (owner.Isr level stack distance) range light =
-    (leb-true level 255 (and_parts (nat_le 1 level) (nat_le level 255) range.0).1, (leb-true stack 65535 range.1.0, leb-true (worst_in demands body) (10 ^ 12) light))
+    (leb-true level 255 (and_parts (nat_le 1 level) (nat_le level 255) range.0).1,
+        (leb-true stack 65535 range.1.0, leb-true (worst_in demands body) (10 ^ 12) light))
 fits_owner demands body (owner.Osek priority auto) range light =
-    (leb-true priority 255 (and_parts (nat_le 1 priority) (nat_le priority 255) range).1, leb-true (worst_in demands body) (10 ^ 12) light)
+    (leb-true priority 255 (and_parts (nat_le 1 priority) (nat_le priority 255) range).1,
+        leb-true (worst_in demands body) (10 ^ 12) light)
 fits_owner demands body (owner.Oisr priority) range light =
-    (leb-true priority 255 (and_parts (nat_le 1 priority) (nat_le priority 255) range).1, leb-true (worst_in demands body) (10 ^ 12) light)
+    (leb-true priority 255 (and_parts (nat_le 1 priority) (nat_le priority 255) range).1,
+        leb-true (worst_in demands body) (10 ^ 12) light)
 fits_owner demands body owner.ErrorHook range light = tt
 fits_owner demands body owner.ShutdownHook range light = tt
 
 -- ---- bodies whose worst case can be told
 
-module _ (rows : List NumberedRow) (short : length rows < 2 ^ 32) (is_2 : lines_2 rows ≡ []) (is_3 : lines_3 rows ≡ []) (is_9 : lines_9 rows ≡ []) where
+module _ (rows : List NumberedRow) (short : length rows < 2 ^ 32) (is_2 : lines_2 rows ≡ [])
+    (is_3 : lines_3 rows ≡ []) (is_9 : lines_9 rows ≡ []) where
   abbrev demands : List Demand
   demands = parts (each_at demand_in rows)
 
@@ -113,13 +121,17 @@ module _ (rows : List NumberedRow) (short : length rows < 2 ^ 32) (is_2 : lines_
 
   -- 2, 3, 9. The worst case of each body can be told.
   pub tellable : AreTellable demands (bodies_of (names_in rows) rows)
-  tellable = by (bodies_of (names_in rows) rows) (bodies_nested (names_in rows) rows is_2 is_3) (bodies_counted (names_in rows) rows short)
-      (bodies_pass is_number_in_range (shallow-number kind.Task) (names_in rows) (λ row. has_numbers_in_range row ≡ true) (number_passes (names_in rows) kind.Task) rows is_2 in_range) where
-        by : (xs : List (At BodyPart)) → Each (λ (x : At BodyPart). IsNestedInLimit x.part.body) xs → Each (λ (x : At BodyPart). IsCountInLimit x.part.body) xs
+  tellable = by (bodies_of (names_in rows) rows) (bodies_nested (names_in rows) rows is_2 is_3)
+      (bodies_counted (names_in rows) rows short)
+      (bodies_pass is_number_in_range (shallow-number kind.Task) (names_in rows)
+          (λ row. has_numbers_in_range row ≡ true) (number_passes (names_in rows) kind.Task) rows is_2 in_range) where
+        by : (xs : List (At BodyPart)) → Each (λ (x : At BodyPart). IsNestedInLimit x.part.body) xs
+            → Each (λ (x : At BodyPart). IsCountInLimit x.part.body) xs
             → Each (λ (x : At BodyPart). each_in is_number_in_range x.part.body ≡ true) xs → AreTellable demands xs
         by [] nested counted numbers = tt
         by (x ∷ xs) nested counted numbers =
-            (record { nested = nested.0; counted = counted.0; numbers = numbers.0; mosts = mosts_in_range }, by xs nested.1 counted.1 numbers.1)
+            (record { nested = nested.0; counted = counted.0; numbers = numbers.0; mosts = mosts_in_range },
+                by xs nested.1 counted.1 numbers.1)
 
 -- ---- bodies that break no rule
 
@@ -130,34 +142,42 @@ record IsGood (c : ConfigParts) (b : BodyPart) : Type 0 where
   some : has_statement b ≡ true
   light : is_light c.demands b ≡ true
 
-each_every : {A : Type 0} (test : A → Bool) (xs : List (At A)) → failing test xs ≡ [] → Each (λ (x : At A). test x.part ≡ true) xs
+each_every : {A : Type 0} (test : A → Bool) (xs : List (At A)) → failing test xs ≡ []
+    → Each (λ (x : At A). test x.part ≡ true) xs
 each_every test [] is = tt
-each_every test (x ∷ xs) is = let both = none-here (test x.part) x.line (failing test xs) is in (both.0, each_every test xs both.1)
+each_every test (x ∷ xs) is = let both = none-here (test x.part) x.line (failing test xs) is in
+    (both.0, each_every test xs both.1)
 
 module _ (c : ConfigParts) where
   hook : IsBody c kind.Hook []
-  hook = record { nested = omega arith; counted = omega arith; numbers = refl; expressions = refl; variables = refl; demands = refl; callees = refl; allowed = refl }
+  hook = record { nested = omega arith; counted = omega arith; numbers = refl; expressions = refl; variables = refl;
+      demands = refl; callees = refl; allowed = refl }
 
   first_good : (bodies : List (List Stmt)) → Each (IsBody c kind.Hook) bodies → IsBody c kind.Hook (first_body bodies)
   first_good [] h = hook
   first_good (body ∷ bodies) h = h.0
 
-  routine_good : (body : List Stmt) (o : Owner) → IsGood c (record { owner = o; body = body }) → is_hook o ≡ false → IsRoutine c (kind_of o) body (worst_in c.demands body)
+  routine_good : (body : List Stmt) (o : Owner) → IsGood c (record { owner = o; body = body }) → is_hook o ≡ false
+      → IsRoutine c (kind_of o) body (worst_in c.demands body)
   routine_good body o good is = record {
     is_body = good.body;
     some = leb-true 1 (length body) (ap (λ b. b || nat_le 1 (length body)) (sym is) ∙ good.some);
     worst = refl;
-    bounded = leb-true (worst_in c.demands body) (10 ^ 12) (ap (λ b. b || nat_le (worst_in c.demands body) (10 ^ 12)) (sym is) ∙ good.light);
+    bounded = leb-true (worst_in c.demands body) (10 ^ 12)
+        (ap (λ b. b || nat_le (worst_in c.demands body) (10 ^ 12)) (sym is) ∙ good.light);
   }
 
   least : (n : ℕ) → is_within 1 255 n ≡ true → 1 ≤ n
   least n is = leb-true 1 n (and_parts (nat_le 1 n) (nat_le n 255) is).0
 
-  task_good : (body : List Stmt) (o : Owner) → IsGood c (record { owner = o; body = body }) → Each (IsTask c) (task_by c.demands body o)
-  task_good body (owner.Task stack) good = (record { routine = routine_good body (owner.Task stack) good refl; stack = leb-true stack 65535 good.range }, tt)
+  task_good : (body : List Stmt) (o : Owner) → IsGood c (record { owner = o; body = body })
+      → Each (IsTask c) (task_by c.demands body o)
+  task_good body (owner.Task stack) good =
+      (record { routine = routine_good body (owner.Task stack) good refl; stack = leb-true stack 65535 good.range }, tt)
   task_good body other good = tt
 
-  isr_good : (body : List Stmt) (o : Owner) → IsGood c (record { owner = o; body = body }) → Each (IsIsr c) (isr_by c.demands body o)
+  isr_good : (body : List Stmt) (o : Owner) → IsGood c (record { owner = o; body = body })
+      → Each (IsIsr c) (isr_by c.demands body o)
   isr_good body (owner.Isr level stack distance) good = (
     record {
       routine = routine_good body (owner.Isr level stack distance) good refl;
@@ -169,19 +189,26 @@ module _ (c : ConfigParts) where
   )
   isr_good body other good = tt
 
-  osek_good : (body : List Stmt) (o : Owner) → IsGood c (record { owner = o; body = body }) → Each (IsOsek c) (osek_by c.demands body o)
-  osek_good body (owner.Osek priority auto) good = (record { routine = routine_good body (owner.Osek priority auto) good refl; priority = least priority good.range }, tt)
+  osek_good : (body : List Stmt) (o : Owner) → IsGood c (record { owner = o; body = body })
+      → Each (IsOsek c) (osek_by c.demands body o)
+  osek_good body (owner.Osek priority auto) good =
+      (record { routine = routine_good body (owner.Osek priority auto) good refl; priority =
+      least priority good.range }, tt)
   osek_good body other good = tt
 
-  oisr_good : (body : List Stmt) (o : Owner) → IsGood c (record { owner = o; body = body }) → Each (IsOisr c) (oisr_by c.demands body o)
-  oisr_good body (owner.Oisr priority) good = (record { routine = routine_good body (owner.Oisr priority) good refl; priority = least priority good.range }, tt)
+  oisr_good : (body : List Stmt) (o : Owner) → IsGood c (record { owner = o; body = body })
+      → Each (IsOisr c) (oisr_by c.demands body o)
+  oisr_good body (owner.Oisr priority) good =
+      (record { routine = routine_good body (owner.Oisr priority) good refl; priority = least priority good.range }, tt)
   oisr_good body other good = tt
 
-  error_good : (body : List Stmt) (o : Owner) → IsGood c (record { owner = o; body = body }) → Each (IsBody c kind.Hook) (error_hook_by body o)
+  error_good : (body : List Stmt) (o : Owner) → IsGood c (record { owner = o; body = body })
+      → Each (IsBody c kind.Hook) (error_hook_by body o)
   error_good body owner.ErrorHook good = (good.body, tt)
   error_good body other good = tt
 
-  shutdown_good : (body : List Stmt) (o : Owner) → IsGood c (record { owner = o; body = body }) → Each (IsBody c kind.Hook) (shutdown_hook_by body o)
+  shutdown_good : (body : List Stmt) (o : Owner) → IsGood c (record { owner = o; body = body })
+      → Each (IsBody c kind.Hook) (shutdown_hook_by body o)
   shutdown_good body owner.ShutdownHook good = (good.body, tt)
   shutdown_good body other good = tt
 
@@ -203,19 +230,30 @@ module _ (rows : List NumberedRow) (rules : KeepBodyRules rows) where
 
   good_bodies : Each (λ (x : At BodyPart). IsGood c x.part) bodies
   good_bodies =
-      by bodies (bodies_nested names rows rules.rule_2 rules.rule_3) (bodies_counted names rows rules.short) (bodies_sound names rows rules.rule_2 rules.rule_9 rules.rule_15)
-      (bodies_pass is_expression_short (shallow_expressions names) names (IsRowFit names) (row_short names) rows rules.rule_2 fit)
-      (bodies_pass (has_variables (count_of Kind.Var names)) (shallow_variables names) names (IsRowFit names) (row_variables names) rows rules.rule_2 fit)
-      (bodies_pass (has_demand (count_of Kind.Demand names)) (shallow_demand names) names (IsRowFit names) (row_demand names) rows rules.rule_2 fit)
-      (bodies_pass (has_callee (count_of Kind.Mode names) (count_of Kind.Osek names)) (shallow_callee names) names (IsRowFit names) (row_callee names) rows rules.rule_2 fit)
-      ranges (each_every has_statement bodies rules.rule_16) (each_every (is_light c.demands) bodies rules.rule_17) where
-        by : (xs : List (At BodyPart)) → Each (λ (x : At BodyPart). IsNestedInLimit x.part.body) xs → Each (λ (x : At BodyPart). IsCountInLimit x.part.body) xs
-            → Each (λ (x : At BodyPart). IsBodySound x.part) xs → Each (λ (x : At BodyPart). each_in is_expression_short x.part.body ≡ true) xs
+      by bodies (bodies_nested names rows rules.rule_2 rules.rule_3) (bodies_counted names rows rules.short)
+          (bodies_sound names rows rules.rule_2 rules.rule_9 rules.rule_15)
+      (bodies_pass is_expression_short (shallow_expressions names) names (IsRowFit names)
+          (row_short names) rows rules.rule_2 fit)
+      (bodies_pass (has_variables (count_of Kind.Var names)) (shallow_variables names) names (IsRowFit names)
+          (row_variables names) rows rules.rule_2 fit)
+      (bodies_pass (has_demand (count_of Kind.Demand names)) (shallow_demand names) names (IsRowFit names)
+          (row_demand names) rows rules.rule_2 fit)
+      (bodies_pass (has_callee (count_of Kind.Mode names) (count_of Kind.Osek names)) (shallow_callee names) names
+          (IsRowFit names) (row_callee names) rows rules.rule_2 fit)
+      ranges (each_every has_statement bodies rules.rule_16)
+          (each_every (is_light c.demands) bodies rules.rule_17) where
+        by : (xs : List (At BodyPart)) → Each (λ (x : At BodyPart). IsNestedInLimit x.part.body) xs
+            → Each (λ (x : At BodyPart). IsCountInLimit x.part.body) xs
+            → Each (λ (x : At BodyPart). IsBodySound x.part) xs
+            → Each (λ (x : At BodyPart). each_in is_expression_short x.part.body ≡ true) xs
             → Each (λ (x : At BodyPart). each_in (has_variables (count_of Kind.Var names)) x.part.body ≡ true) xs
             → Each (λ (x : At BodyPart). each_in (has_demand (count_of Kind.Demand names)) x.part.body ≡ true) xs
-            → Each (λ (x : At BodyPart). each_in (has_callee (count_of Kind.Mode names) (count_of Kind.Osek names)) x.part.body ≡ true) xs
-            → Each (λ (x : At BodyPart). IsInRange x.part.owner) xs → Each (λ (x : At BodyPart). has_statement x.part ≡ true) xs
-            → Each (λ (x : At BodyPart). is_light c.demands x.part ≡ true) xs → Each (λ (x : At BodyPart). IsGood c x.part) xs
+            → Each (λ (x : At BodyPart). each_in
+                (has_callee (count_of Kind.Mode names) (count_of Kind.Osek names)) x.part.body ≡ true) xs
+            → Each (λ (x : At BodyPart). IsInRange x.part.owner) xs
+            → Each (λ (x : At BodyPart). has_statement x.part ≡ true) xs
+            → Each (λ (x : At BodyPart). is_light c.demands x.part ≡ true) xs
+            → Each (λ (x : At BodyPart). IsGood c x.part) xs
         by [] nested counted own short_ vars dems calls range some light = tt
         by (x ∷ xs) nested counted own short_ vars dems calls range some light = (
           record {
@@ -242,21 +280,36 @@ module _ (rows : List NumberedRow) (rules : KeepBodyRules rows) where
 
   pub bodies_are_sound : HasSoundBodies c
   bodies_are_sound = record {
-    tasks = All-from_recursion (IsTask c) c.tasks (each_flat_map (task_in c.demands) (IsGood c) (IsTask c) (λ b g. task_good c b.body b.owner g) (parts bodies) good);
-    isrs = All-from_recursion (IsIsr c) c.isrs (each_flat_map (isr_in c.demands) (IsGood c) (IsIsr c) (λ b g. isr_good c b.body b.owner g) (parts bodies) good);
-    oseks = All-from_recursion (IsOsek c) c.oseks (each_flat_map (osek_in c.demands) (IsGood c) (IsOsek c) (λ b g. osek_good c b.body b.owner g) (parts bodies) good);
-    oisrs = All-from_recursion (IsOisr c) c.oisrs (each_flat_map (oisr_in c.demands) (IsGood c) (IsOisr c) (λ b g. oisr_good c b.body b.owner g) (parts bodies) good);
-    error_hook = first_good c _ (each_flat_map error_hook_in (IsGood c) (IsBody c kind.Hook) (λ b g. error_good c b.body b.owner g) (parts bodies) good);
-    shutdown_hook = first_good c _ (each_flat_map shutdown_hook_in (IsGood c) (IsBody c kind.Hook) (λ b g. shutdown_good c b.body b.owner g) (parts bodies) good);
+    tasks = All-from_recursion (IsTask c) c.tasks
+        (each_flat_map (task_in c.demands) (IsGood c) (IsTask c) (λ b g. task_good c b.body b.owner g)
+        (parts bodies) good);
+    isrs = All-from_recursion (IsIsr c) c.isrs
+        (each_flat_map (isr_in c.demands) (IsGood c) (IsIsr c) (λ b g. isr_good c b.body b.owner g)
+        (parts bodies) good);
+    oseks = All-from_recursion (IsOsek c) c.oseks
+        (each_flat_map (osek_in c.demands) (IsGood c) (IsOsek c) (λ b g. osek_good c b.body b.owner g)
+        (parts bodies) good);
+    oisrs = All-from_recursion (IsOisr c) c.oisrs
+        (each_flat_map (oisr_in c.demands) (IsGood c) (IsOisr c) (λ b g. oisr_good c b.body b.owner g)
+        (parts bodies) good);
+    error_hook = first_good c _
+        (each_flat_map error_hook_in (IsGood c) (IsBody c kind.Hook) (λ b g. error_good c b.body b.owner g)
+        (parts bodies) good);
+    shutdown_hook = first_good c _
+        (each_flat_map shutdown_hook_in (IsGood c) (IsBody c kind.Hook) (λ b g. shutdown_good c b.body b.owner g)
+        (parts bodies) good);
   }
 
   -- 2, 3, 9, 17. The numbers of each body's owner have the widths of those of a configuration.
   pub bodies_fit : AreFit c.demands bodies
-  bodies_fit = by bodies (tellable rows rules.short rules.rule_2 rules.rule_3 rules.rule_9) ranges (each_every (is_light c.demands) bodies rules.rule_17) where
-    by : (xs : List (At BodyPart)) → AreTellable c.demands xs → Each (λ (x : At BodyPart). IsInRange x.part.owner) xs → Each (λ (x : At BodyPart). is_light c.demands x.part ≡ true) xs → AreFit c.demands xs
+  bodies_fit = by bodies (tellable rows rules.short rules.rule_2 rules.rule_3 rules.rule_9) ranges
+      (each_every (is_light c.demands) bodies rules.rule_17) where
+    by : (xs : List (At BodyPart)) → AreTellable c.demands xs → Each (λ (x : At BodyPart). IsInRange x.part.owner) xs
+        → Each (λ (x : At BodyPart). is_light c.demands x.part ≡ true) xs → AreFit c.demands xs
     by [] told range light = tt
     by (x ∷ xs) told range light =
-        (record { tellable = told.0; owner = fits_owner c.demands x.part.body x.part.owner range.0 light.0 }, by xs told.1 range.1 light.1)
+        (record { tellable = told.0; owner = fits_owner c.demands x.part.body x.part.owner range.0 light.0 },
+            by xs told.1 range.1 light.1)
 
 pub law : BodiesAreSound
 unfolding config_of

@@ -43,27 +43,35 @@ use Rattle.tt_config.proofs.Rows.{EachRow, IsRowFit, IfPart, each_part, rows_fit
 
 -- ---- lists by number
 
-pub length-by_number : {A B : Type 0} (count : ℕ) (place : A → Option (ℕ × B)) (xs : List A) → length (by_number count place xs) ≡ count
+pub length-by_number : {A B : Type 0} (count : ℕ) (place : A → Option (ℕ × B)) (xs : List A)
+    → length (by_number count place xs) ≡ count
 length-by_number count place xs = length-map (below count) (given place xs) ∙ length-below count
 
-all_lists : {X : Type 0} (test : X → Bool) (f : ℕ → X) → ((k : ℕ) → test (f k) ≡ true) → (ks : List ℕ) → list_all test (map f ks) ≡ true
+all_lists : {X : Type 0} (test : X → Bool) (f : ℕ → X) → ((k : ℕ) → test (f k) ≡ true) → (ks : List ℕ)
+    → list_all test (map f ks) ≡ true
 all_lists test f each [] = refl
 all_lists test f each (k ∷ ks) = and_from (test (f k)) _ (each k) (all_lists test f each ks)
 
 -- ---- the start, the number of rounds and the times
 
 module _ (names : List NameEntry) where
-  start_fits : (row : Row) → IsRowFit names row → IfPart (λ (mode : ModeNo). mode.0 < count_of Kind.Mode names) (start_in names row)
-  start_fits (r.Start mode) fit = number_below names Kind.Mode mode (and_parts (is_declared names (uses Kind.Mode mode)) true fit.known).0
+  start_fits : (row : Row) → IsRowFit names row
+      → IfPart (λ (mode : ModeNo). mode.0 < count_of Kind.Mode names) (start_in names row)
+  start_fits (r.Start mode) fit =
+      number_below names Kind.Mode mode (and_parts (is_declared names (uses Kind.Mode mode)) true fit.known).0
   start_fits row fit = tt
 
   time_fits : (row : Row) → IsRowFit names row → IfPart (λ time. nat_lt time (10 ^ 12) ≡ true) (time_in row)
-  time_fits (r.Time global) fit = (and_parts (nat_lt global (10 ^ 12)) true (and_parts (list_all is_sound_item (items_of (r.Time global))) _ fit.sound).0).0
+  time_fits (r.Time global) fit =
+      (and_parts (nat_lt global (10 ^ 12)) true
+      (and_parts (list_all is_sound_item (items_of (r.Time global))) _ fit.sound).0).0
   time_fits row fit = tt
 
-  tick_fits : (row : Row) → IsRowFit names row → IfPart (λ (a : Arrival). nat_lt a.tick (10 ^ 12) ≡ true) (arrival_in names row)
+  tick_fits : (row : Row) → IsRowFit names row
+      → IfPart (λ (a : Arrival). nat_lt a.tick (10 ^ 12) ≡ true) (arrival_in names row)
   tick_fits (r.Arrive source tick) fit =
-      (and_parts (nat_lt tick (10 ^ 12)) true (and_parts _ _ (and_parts (list_all is_sound_item (items_of (r.Arrive source tick))) _ fit.sound).0).1).0
+      (and_parts (nat_lt tick (10 ^ 12)) true
+          (and_parts _ _ (and_parts (list_all is_sound_item (items_of (r.Arrive source tick))) _ fit.sound).0).1).0
   tick_fits row fit = tt
 
 first_holds : (P : ModeNo → Type 0) (modes : List ModeNo) → 1 ≤ length modes → Each P modes → P (first_mode modes)
@@ -72,27 +80,32 @@ first_holds P (mode ∷ modes) some h = h.0
 
 -- ---- values
 
-value_small : (k : ℕ) (value : Value) → nat_le value.ticks 10000000 ≡ true → Each (λ n. nat_le n 10000000 ≡ true) (at_number k (value_place value))
+value_small : (k : ℕ) (value : Value) → nat_le value.ticks 10000000 ≡ true
+    → Each (λ n. nat_le n 10000000 ≡ true) (at_number k (value_place value))
 value_small k value is = one (λ n. nat_le n 10000000 ≡ true) (value.demand.0 == k) value.ticks (λ here. is)
 
-values_small : (count : ℕ) (values : List Value) → list_all (λ (value : Value). nat_le value.ticks 10000000) values ≡ true
+values_small : (count : ℕ) (values : List Value)
+    → list_all (λ (value : Value). nat_le value.ticks 10000000) values ≡ true
     → list_all (list_all (λ n. nat_le n 10000000)) (by_number count value_place values) ≡ true
 values_small count values is =
     all_lists (list_all (λ n. nat_le n 10000000)) (given value_place values)
     (λ k. all_from_each (λ n. nat_le n 10000000) (given value_place values k)
-    (each_flat_map (λ (value : Value). at_number k (value_place value)) (λ (value : Value). nat_le value.ticks 10000000 ≡ true) (λ n. nat_le n 10000000 ≡ true) (value_small k) values
+    (each_flat_map (λ (value : Value). at_number k (value_place value))
+        (λ (value : Value). nat_le value.ticks 10000000 ≡ true) (λ n. nat_le n 10000000 ≡ true) (value_small k) values
     (each_from_all (λ (value : Value). nat_le value.ticks 10000000) values is)))
     (below count)
 
 -- ---- arrivals
 
-ascend : (least : ℕ) (ticks : List ℕ) → Each (λ tick. least ≤ tick) ticks → Each (λ tick. nat_lt tick (10 ^ 12) ≡ true) ticks → Pairs (λ a b. a < b) ticks
+ascend : (least : ℕ) (ticks : List ℕ) → Each (λ tick. least ≤ tick) ticks
+    → Each (λ tick. nat_lt tick (10 ^ 12) ≡ true) ticks → Pairs (λ a b. a < b) ticks
     → ticks_ascend least ticks ≡ true
 ascend least [] low small h = refl
 ascend least (tick ∷ ticks) low small h =
     and_from (nat_le least tick) _ (le-leb least tick low.0)
     (and_from (nat_lt tick (10 ^ 12)) _ small.0
-    (ascend (tick + 1) ticks (each_weaker (λ b. tick < b) (λ b. tick + 1 ≤ b) (λ b lt. omega arith) ticks h.0) small.1 h.1))
+    (ascend (tick + 1) ticks (each_weaker (λ b. tick < b) (λ b. tick + 1 ≤ b) (λ b lt. omega arith) ticks h.0) small.1
+        h.1))
 
 -- one arrival of a source above another
 later : (same : Bool) (a b : ℕ) → same && nat_le b a ≡ false → same ≡ true → a < b
@@ -108,7 +121,8 @@ turned k a is = eq-eqb k a (sym (eqb-true a k is))
 
 module _ (kind : NameKind) (k : ℕ) where
   -- what is an item of a number, where it is one of a kind
-  in_kind : (P : ℕ → Type 0) (own : Bool) (n tick : ℕ) → (own ≡ true → (n == k) ≡ true → P tick) → Each P (at_number k (if own then Some (n, tick) else None))
+  in_kind : (P : ℕ → Type 0) (own : Bool) (n tick : ℕ) → (own ≡ true → (n == k) ≡ true → P tick)
+      → Each P (at_number k (if own then Some (n, tick) else None))
   in_kind P true n tick has = one P (n == k) tick (has refl)
   in_kind P false n tick has = tt
 
@@ -123,27 +137,34 @@ module _ (kind : NameKind) (k : ℕ) where
     by true = alone (λ a b. a < b) (number_of d == k) tick
     by false = tt
 
-  apart : (s t : Option Declared) (a b : ℕ) → is_same_source s t && nat_le b a ≡ false → Each (λ x. Each (λ y. x < y) (at_number k (arrival_by kind t b))) (at_number k (arrival_by kind s a))
+  apart : (s t : Option Declared) (a b : ℕ) → is_same_source s t && nat_le b a ≡ false
+      → Each (λ x. Each (λ y. x < y) (at_number k (arrival_by kind t b))) (at_number k (arrival_by kind s a))
   apart None t a b h = tt
   apart (Some d) None a b h = in_source (λ x. Each (λ y. x < y) []) (Some d) a tt
   apart (Some d) (Some e) a b h =
-      in_kind (λ x. Each (λ y. x < y) (at_number k (arrival_by kind (Some e) b))) (is_same_kind kind (kind_of d)) (number_of d) a (λ own here.
+      in_kind (λ x. Each (λ y. x < y) (at_number k (arrival_by kind (Some e) b))) (is_same_kind kind (kind_of d))
+          (number_of d) a (λ own here.
       in_kind (λ y. a < y) (is_same_kind kind (kind_of e)) (number_of e) b (λ other there.
       later (is_same_thing d e) a b h
-      (and_from (is_same_kind (kind_of d) (kind_of e)) _ (both_are (index_of kind) (index_of (kind_of d)) (index_of (kind_of e)) own other)
+      (and_from (is_same_kind (kind_of d) (kind_of e)) _
+          (both_are (index_of kind) (index_of (kind_of d)) (index_of (kind_of e)) own other)
       (both_are k (number_of d) (number_of e) (turned k (number_of d) here) (turned k (number_of e) there)))))
 
 -- 27. The arrivals of each source ascend.
-arrivals_ascend : (kind : NameKind) (count : ℕ) (arrivals : List Arrival) → Each (λ (a : Arrival). nat_lt a.tick (10 ^ 12) ≡ true) arrivals → differ_from is_not_after [] arrivals ≡ true
+arrivals_ascend : (kind : NameKind) (count : ℕ) (arrivals : List Arrival)
+    → Each (λ (a : Arrival). nat_lt a.tick (10 ^ 12) ≡ true) arrivals → differ_from is_not_after [] arrivals ≡ true
     → list_all (ticks_ascend 0) (by_number count (arrival_place kind) arrivals) ≡ true
 arrivals_ascend kind count arrivals small is =
     all_lists (ticks_ascend 0) (given (arrival_place kind) arrivals)
     (λ k. ascend 0 (given (arrival_place kind) arrivals k)
     (each_always (λ tick. 0 ≤ tick) (λ tick. omega arith) (given (arrival_place kind) arrivals k))
-    (each_flat_map (λ (a : Arrival). at_number k (arrival_place kind a)) (λ (a : Arrival). nat_lt a.tick (10 ^ 12) ≡ true) (λ tick. nat_lt tick (10 ^ 12) ≡ true)
+    (each_flat_map (λ (a : Arrival). at_number k (arrival_place kind a))
+        (λ (a : Arrival). nat_lt a.tick (10 ^ 12) ≡ true) (λ tick. nat_lt tick (10 ^ 12) ≡ true)
     (λ a lt. in_source kind k (λ tick. nat_lt tick (10 ^ 12) ≡ true) a.source a.tick lt) arrivals small)
-    (pairs_flat_map (λ (a : Arrival). at_number k (arrival_place kind a)) (λ (a b : Arrival). is_not_after a b ≡ false) (λ a b. a < b)
-    (λ a b h. apart kind k a.source b.source a.tick b.tick h) (λ a. single kind k a.source a.tick) arrivals (pairs_differ is_not_after arrivals is)))
+    (pairs_flat_map (λ (a : Arrival). at_number k (arrival_place kind a))
+        (λ (a b : Arrival). is_not_after a b ≡ false) (λ a b. a < b)
+    (λ a b h. apart kind k a.source b.source a.tick b.tick h) (λ a. single kind k a.source a.tick) arrivals
+        (pairs_differ is_not_after arrivals is)))
     (below count)
 
 -- ---- the whole
@@ -156,8 +177,10 @@ module _ (rows : List NumberedRow) (kept : AreKept the_rules (document_of rows))
   pub rounds_within : is_within 1 100000 (first_or_zero (parts (each_at rounds_in rows))) ≡ true
   rounds_within =
       let ns = parts (each_at rounds_in rows) in
-      let all = and_parts (nat_le 1 (length ns)) _ (keeps (first_line rows) rule_26 (each_at rounds_in rows) (kept 25)) in
-      first-passes (is_within 1 100000) ns (leb-true 1 (length ns) all.0) (and_parts (list_all (is_within 1 100000) ns) _ all.1).0
+      let all = and_parts (nat_le 1 (length ns)) _
+          (keeps (first_line rows) rule_26 (each_at rounds_in rows) (kept 25)) in
+      first-passes (is_within 1 100000) ns (leb-true 1 (length ns) all.0)
+          (and_parts (list_all (is_within 1 100000) ns) _ all.1).0
 
   module _ (sound : AreSound rows) where
     fit : EachRow (IsRowFit names) rows
@@ -166,15 +189,19 @@ module _ (rows : List NumberedRow) (kept : AreKept the_rules (document_of rows))
     start_sound : (first_mode (parts (each_at (start_in names) rows))).0 < count_of Kind.Mode names
     start_sound =
         let modes = parts (each_at (start_in names) rows) in
-        let some = and_parts (nat_le 1 (length modes)) _ (keeps (first_line rows) rule_25 (each_at (start_in names) rows) (kept 24)) in
+        let some = and_parts (nat_le 1 (length modes)) _
+            (keeps (first_line rows) rule_25 (each_at (start_in names) rows) (kept 24)) in
         first_holds (λ mode. mode.0 < count_of Kind.Mode names) modes (leb-true 1 (length modes) some.0)
-        (each_part (λ (mode : ModeNo). mode.0 < count_of Kind.Mode names) (IsRowFit names) (start_in names) (start_fits names) rows fit)
+        (each_part (λ (mode : ModeNo). mode.0 < count_of Kind.Mode names) (IsRowFit names) (start_in names)
+            (start_fits names) rows fit)
 
     ticks_small : Each (λ (a : Arrival). nat_lt a.tick (10 ^ 12) ≡ true) (parts (each_at (arrival_in names) rows))
-    ticks_small = each_part (λ (a : Arrival). nat_lt a.tick (10 ^ 12) ≡ true) (IsRowFit names) (arrival_in names) (tick_fits names) rows fit
+    ticks_small = each_part (λ (a : Arrival). nat_lt a.tick (10 ^ 12) ≡ true) (IsRowFit names) (arrival_in names)
+        (tick_fits names) rows fit
 
     not_late : differ_from is_not_after [] (parts (each_at (arrival_in names) rows)) ≡ true
-    not_late = (and_parts (differ_from is_not_after [] (parts (each_at (arrival_in names) rows))) true (keeps 1 rule_27 (each_at (arrival_in names) rows) (kept 26))).0
+    not_late = (and_parts (differ_from is_not_after [] (parts (each_at (arrival_in names) rows))) true
+        (keeps 1 rule_27 (each_at (arrival_in names) rows) (kept 26))).0
 
     pub script_sound : IsScript (config_with (elaborated_of rows)) (script_with names (document_of rows).said)
     script_sound =
@@ -184,15 +211,18 @@ module _ (rows : List NumberedRow) (kept : AreKept the_rules (document_of rows))
         let rounds = first_or_zero (parts (each_at rounds_in rows)) in
         let within = and_parts (nat_le 1 rounds) (nat_le rounds 100000) rounds_within in
         record {
-          start = subst (λ n. (first_mode (parts (each_at (start_in names) rows))).0 < n) (named rows).modes start_sound;
+          start = subst (λ n. (first_mode (parts (each_at (start_in names) rows))).0 < n)
+              (named rows).modes start_sound;
           some_round = leb-true 1 rounds within.0;
           few_rounds = leb-true rounds 100000 within.1;
           values = length-by_number (count_of Kind.Demand names) value_place values ∙ (named rows).demands;
           values_small = values_small (count_of Kind.Demand names) values
-              (and_parts (list_all (λ (value : Value). nat_le value.ticks 10000000) values) true (keeps 1 rule_28 (each_at (value_in names) rows) (kept 27))).0;
+              (and_parts (list_all (λ (value : Value). nat_le value.ticks 10000000) values) true
+                  (keeps 1 rule_28 (each_at (value_in names) rows) (kept 27))).0;
           isrs = length-by_number (count_of Kind.Isr names) (arrival_place Kind.Isr) arrivals ∙ (named rows).isrs;
           oisrs = length-by_number (count_of Kind.Oisr names) (arrival_place Kind.Oisr) arrivals ∙ (named rows).oisrs;
           isrs_ascending = arrivals_ascend Kind.Isr (count_of Kind.Isr names) arrivals ticks_small not_late;
           oisrs_ascending = arrivals_ascend Kind.Oisr (count_of Kind.Oisr names) arrivals ticks_small not_late;
-          times = all_from_each (λ time. nat_lt time (10 ^ 12)) times (each_part (λ time. nat_lt time (10 ^ 12) ≡ true) (IsRowFit names) time_in (time_fits names) rows fit);
+          times = all_from_each (λ time. nat_lt time (10 ^ 12)) times
+              (each_part (λ time. nat_lt time (10 ^ 12) ≡ true) (IsRowFit names) time_in (time_fits names) rows fit);
         }

@@ -52,7 +52,8 @@ module _ {X : Type 0} (lt : X → X → Bool) (o : IsStrictWeakOrder lt) where
 
     apart : lt y x ≡ true → ties lt z x ≡ true → ties lt z y ≡ true → ⊥
     apart before one other =
-        let after : lt y x ≡ false = o.chain y z x (tie_right (lt z y) (lt y z) other) (tie_left (lt z x) (lt x z) one) in
+        let after : lt y x ≡ false =
+            o.chain y z x (tie_right (lt z y) (lt y z) other) (tie_left (lt z x) (lt x z) one) in
         cc
 
     at : (before : Bool) → lt y x ≡ before → filter (ties lt z) (inserted lt x ys) ≡ filter (ties lt z) (x ∷ ys)
@@ -78,37 +79,45 @@ module _ {X : Type 0} (lt : X → X → Bool) (o : IsStrictWeakOrder lt) where
   ties_itself x = let below = irreflexive lt o x in tie (lt x x) (lt x x) below below
 
   -- what holds of each element holds of the first that passes
-  first_that_passes : (P : X → Type 0) (test : X → Bool) (xs : List X) (y : X) (rest : List X) → Each P xs → filter test xs ≡ y ∷ rest → P y
+  first_that_passes : (P : X → Type 0) (test : X → Bool) (xs : List X) (y : X) (rest : List X) → Each P xs
+      → filter test xs ≡ y ∷ rest → P y
   first_that_passes P test [] y rest each is = cc
   first_that_passes P test (x ∷ xs) y rest each is = at (test x) is (first_that_passes P test xs y rest each.1) where
-    at : (passes : Bool) → cond passes (x ∷ filter test xs) (filter test xs) ≡ y ∷ rest → (filter test xs ≡ y ∷ rest → P y) → P y
+    at : (passes : Bool) → cond passes (x ∷ filter test xs) (filter test xs) ≡ y ∷ rest
+        → (filter test xs ≡ y ∷ rest → P y) → P y
     at true is later = let same : x ≡ y = cc in subst P same each.0
     at false is later = later is
 
   -- the first of a list that ascends is not after what stands first in a list with the same elements that tie
-  not_after : (x : X) (xs : List X) (y : X) (ys : List X) → Ascends (x ∷ xs) → filter (ties lt y) (x ∷ xs) ≡ filter (ties lt y) (y ∷ ys) → lt y x ≡ false
+  not_after : (x : X) (xs : List X) (y : X) (ys : List X) → Ascends (x ∷ xs)
+      → filter (ties lt y) (x ∷ xs) ≡ filter (ties lt y) (y ∷ ys) → lt y x ≡ false
   not_after x xs y ys up same =
       first_that_passes (λ z. lt z x ≡ false) (ties lt y) (x ∷ xs) y (filter (ties lt y) ys) (irreflexive lt o x, up.0)
       (same ∙ ap (λ passes. cond passes (y ∷ filter (ties lt y) ys) (filter (ties lt y) ys)) (ties_itself y))
 
-  same_rest : (passes : Bool) (x y : X) (xs ys : List X) → x ≡ y → cond passes (x ∷ xs) xs ≡ cond passes (y ∷ ys) ys → xs ≡ ys
+  same_rest : (passes : Bool) (x y : X) (xs ys : List X) → x ≡ y → cond passes (x ∷ xs) xs ≡ cond passes (y ∷ ys) ys
+      → xs ≡ ys
   same_rest true x y xs ys one same = cc
   same_rest false x y xs ys one same = same
 
-  one_ascending : (xs ys : List X) → Ascends xs → Ascends ys → ((z : X) → filter (ties lt z) xs ≡ filter (ties lt z) ys) → xs ≡ ys
+  one_ascending : (xs ys : List X) → Ascends xs → Ascends ys
+      → ((z : X) → filter (ties lt z) xs ≡ filter (ties lt z) ys) → xs ≡ ys
   one_ascending [] [] up other same = refl
   one_ascending [] (y ∷ ys) up other same =
-      let none : [] ≡ y ∷ filter (ties lt y) ys = same y ∙ ap (λ passes. cond passes (y ∷ filter (ties lt y) ys) (filter (ties lt y) ys)) (ties_itself y) in
+      let none : [] ≡ y ∷ filter (ties lt y) ys = same y
+          ∙ ap (λ passes. cond passes (y ∷ filter (ties lt y) ys) (filter (ties lt y) ys)) (ties_itself y) in
       cc
   one_ascending (x ∷ xs) [] up other same =
-      let none : [] ≡ x ∷ filter (ties lt x) xs = sym (same x) ∙ ap (λ passes. cond passes (x ∷ filter (ties lt x) xs) (filter (ties lt x) xs)) (ties_itself x) in
+      let none : [] ≡ x ∷ filter (ties lt x) xs = sym (same x)
+          ∙ ap (λ passes. cond passes (x ∷ filter (ties lt x) xs) (filter (ties lt x) xs)) (ties_itself x) in
       cc
   one_ascending (x ∷ xs) (y ∷ ys) up other same =
       let after : lt y x ≡ false = not_after x xs y ys up (same y) in
       let before : lt x y ≡ false = not_after y ys x xs other (sym (same x)) in
       let front : x ∷ filter (ties lt x) xs ≡ y ∷ filter (ties lt x) ys =
       sym (ap (λ passes. cond passes (x ∷ filter (ties lt x) xs) (filter (ties lt x) xs)) (ties_itself x)) ∙ same x
-      ∙ ap (λ passes. cond passes (y ∷ filter (ties lt x) ys) (filter (ties lt x) ys)) (tie (lt x y) (lt y x) before after) in
+      ∙ ap (λ passes. cond passes (y ∷ filter (ties lt x) ys) (filter (ties lt x) ys))
+          (tie (lt x y) (lt y x) before after) in
       let one : x ≡ y = cc in
       let rest : xs ≡ ys = one_ascending xs ys up.1 other.1
       (λ z. same_rest (ties lt z x) x y (filter (ties lt z) xs) (filter (ties lt z) ys) one
@@ -121,7 +130,8 @@ module _ {X : Type 0} (lt : X → X → Bool) (o : IsStrictWeakOrder lt) where
   each_index P [] at = tt
   each_index P (x ∷ xs) at = (at 0 x (omega arith), each_index P xs (λ k d lt. at (suc k) d (omega arith)))
 
-  ascends_sorted : (xs : List X) → ((i j : ℕ) (d : X) → i ≤ j → j < length xs → lt (get_or xs j d) (get_or xs i d) ≡ false) → Ascends xs
+  ascends_sorted : (xs : List X)
+      → ((i j : ℕ) (d : X) → i ≤ j → j < length xs → lt (get_or xs j d) (get_or xs i d) ≡ false) → Ascends xs
   ascends_sorted [] up = tt
   ascends_sorted (x ∷ xs) up = (
     each_index (λ y. lt y x ≡ false) xs (λ k d below. up 0 (suc k) d (omega arith) (omega arith)),
@@ -135,13 +145,15 @@ module _ {X : Type 0} (lt : X → X → Bool) (o : IsStrictWeakOrder lt) where
       (λ z. stable z ∙ sym (filter_ascending z xs))
 
 -- tests that answer alike insert alike
-inserted_alike : {X : Type 0} (lt other : X → X → Bool) → ((x y : X) → lt x y ≡ other x y) → (x : X) (ys : List X) → inserted lt x ys ≡ inserted other x ys
+inserted_alike : {X : Type 0} (lt other : X → X → Bool) → ((x y : X) → lt x y ≡ other x y) → (x : X) (ys : List X)
+    → inserted lt x ys ≡ inserted other x ys
 inserted_alike lt other same x [] = refl
 inserted_alike lt other same x (y ∷ ys) =
     ap (λ before. cond before (y ∷ inserted lt x ys) (x ∷ y ∷ ys)) (same y x)
     ∙ ap (λ list. cond (other y x) (y ∷ list) (x ∷ y ∷ ys)) (inserted_alike lt other same x ys)
 
-pub ascending_alike : {X : Type 0} (lt other : X → X → Bool) → ((x y : X) → lt x y ≡ other x y) → (xs : List X) → ascending lt xs ≡ ascending other xs
+pub ascending_alike : {X : Type 0} (lt other : X → X → Bool) → ((x y : X) → lt x y ≡ other x y) → (xs : List X)
+    → ascending lt xs ≡ ascending other xs
 ascending_alike lt other same [] = refl
 ascending_alike lt other same (x ∷ xs) =
     inserted_alike lt other same x (ascending lt xs) ∙ ap (inserted other x) (ascending_alike lt other same xs)

@@ -14,7 +14,8 @@ use Rattle.tt_config.specs.Tables.{activation_of, enable_of, entry_place, mode_o
 module _ (mode : ℕ) where
   own_activation : (x : Entry) → flat_map activation_of (at_number mode (entry_place x)) ≡ activation_in mode x
   own_activation (entry.Activates m a) = by (m.0 == mode) where
-    by : (own : Bool) → flat_map activation_of (if own then entry.Activates m a ∷ [] else []) ≡ (if own then a ∷ [] else [])
+    by : (own : Bool) → flat_map activation_of (if own then entry.Activates m a ∷ [] else [])
+        ≡ (if own then a ∷ [] else [])
     by true = refl
     by false = refl
   own_activation (entry.Enables m e) = by (m.0 == mode) where
@@ -32,10 +33,12 @@ module _ (mode : ℕ) where
     by true = refl
     by false = refl
 
-  own : {B : Type 0} (f g : Entry → List B) → ((x : Entry) → flat_map f (at_number mode (entry_place x)) ≡ g x) → (xs : List Entry) → flat_map f (given entry_place xs mode) ≡ flat_map g xs
+  own : {B : Type 0} (f g : Entry → List B) → ((x : Entry) → flat_map f (at_number mode (entry_place x)) ≡ g x)
+      → (xs : List Entry) → flat_map f (given entry_place xs mode) ≡ flat_map g xs
   own f g same [] = refl
   own f g same (x ∷ xs) =
-      flat_map-append f (at_number mode (entry_place x)) (given entry_place xs mode) ∙ ap (λ ys. ys ++ flat_map f (given entry_place xs mode)) (same x)
+      flat_map-append f (at_number mode (entry_place x)) (given entry_place xs mode)
+          ∙ ap (λ ys. ys ++ flat_map f (given entry_place xs mode)) (same x)
       ∙ ap (λ ys. g x ++ ys) (own f g same xs)
 
   own_table : (xs : List Entry) → mode_of_entries (given entry_place xs mode) ≡ mode_with xs mode
@@ -44,12 +47,14 @@ module _ (mode : ℕ) where
       let ens = own enable_of (enable_in mode) own_enable xs in
       λ i. record { activations = ascending is_earlier (acts i); enables = ascending is_enabled_earlier (ens i) }
 
-each_table : (xs : List Entry) (modes : List ℕ) → map mode_of_entries (map (given entry_place xs) modes) ≡ map (mode_with xs) modes
+each_table : (xs : List Entry) (modes : List ℕ)
+    → map mode_of_entries (map (given entry_place xs) modes) ≡ map (mode_with xs) modes
 each_table xs [] = refl
 each_table xs (mode ∷ modes) = λ i. own_table mode xs i ∷ each_table xs modes i
 
 -- the tables of the entries of each mode
-pub tables : (count : ℕ) (xs : List Entry) → map mode_of_entries (by_number count entry_place xs) ≡ map (mode_with xs) (below count)
+pub tables : (count : ℕ) (xs : List Entry)
+    → map mode_of_entries (by_number count entry_place xs) ≡ map (mode_with xs) (below count)
 tables count xs = each_table xs (below count)
 
 -- ---- comparisons
@@ -63,11 +68,14 @@ less_by false false = refl
 pub is_lt-nat_cmp : (a b : ℕ) → is_lt (nat_cmp a b) ≡ nat_lt a b
 is_lt-nat_cmp a b = less_by (nat_lt a b) (a == b)
 
-less_then : (less same : Bool) (later : Ordering) → is_lt (ordering_then (cond less Less (cond same Equal Greater)) later) ≡ less || (same && is_lt later)
+less_then : (less same : Bool) (later : Ordering)
+    → is_lt (ordering_then (cond less Less (cond same Equal Greater)) later) ≡ less || (same && is_lt later)
 less_then true same later = refl
 less_then false true later = refl
 less_then false false later = refl
 
 -- one number is less, or they are the same and another is
-pub is_lt-ordering_then : (a b c d : ℕ) → is_lt (ordering_then (nat_cmp a b) (nat_cmp c d)) ≡ nat_lt a b || ((a == b) && nat_lt c d)
-is_lt-ordering_then a b c d = less_then (nat_lt a b) (a == b) (nat_cmp c d) ∙ ap (λ later. nat_lt a b || ((a == b) && later)) (is_lt-nat_cmp c d)
+pub is_lt-ordering_then : (a b c d : ℕ)
+    → is_lt (ordering_then (nat_cmp a b) (nat_cmp c d)) ≡ nat_lt a b || ((a == b) && nat_lt c d)
+is_lt-ordering_then a b c d = less_then (nat_lt a b) (a == b) (nat_cmp c d)
+    ∙ ap (λ later. nat_lt a b || ((a == b) && later)) (is_lt-nat_cmp c d)

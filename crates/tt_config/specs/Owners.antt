@@ -40,7 +40,8 @@ abbrev pub osek_in : List Demand → BodyPart → List OsekDef
 osek_in demands b = osek_by demands b.body b.owner
 
 abbrev pub oisr_by : List Demand → List Stmt → Owner → List OisrDef
-oisr_by demands body (owner.Oisr priority) = record { priority = priority; body = body; budget = worst_in demands body } ∷ []
+oisr_by demands body (owner.Oisr priority) =
+    record { priority = priority; body = body; budget = worst_in demands body } ∷ []
 oisr_by demands body other = []
 
 abbrev pub oisr_in : List Demand → BodyPart → List OisrDef
@@ -93,7 +94,8 @@ first_body (body ∷ others) = body
 -- the numbers of an owner have the widths of those of a configuration
 abbrev pub FitsOwner : List Demand → List Stmt → Owner → Type 0
 FitsOwner demands body (owner.Task stack) = (stack ≤ 65535) × (worst_in demands body ≤ 10 ^ 12)
-FitsOwner demands body (owner.Isr level stack distance) = (level ≤ 255) × ((stack ≤ 65535) × (worst_in demands body ≤ 10 ^ 12))
+FitsOwner demands body (owner.Isr level stack distance) =
+    (level ≤ 255) × ((stack ≤ 65535) × (worst_in demands body ≤ 10 ^ 12))
 FitsOwner demands body (owner.Osek priority auto) = (priority ≤ 255) × (worst_in demands body ≤ 10 ^ 12)
 FitsOwner demands body (owner.Oisr priority) = (priority ≤ 255) × (worst_in demands body ≤ 10 ^ 12)
 FitsOwner demands body owner.ErrorHook = Unit {0}

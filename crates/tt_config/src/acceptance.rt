@@ -89,8 +89,9 @@ fn accept_rows(alloc: Global, rows: &[NumberedRow]) -> Result<Accepted, AcceptFa
     Ok(build_accepted(alloc, rows, document)?)
 }
 
-/// Accepts the rows of a document: the configuration of the node and the script of the run, where the rows break none of the 28 rules. Else
-/// the fault names the least rule that is broken and the least of its lines. A refusal gives up the rows. The rules are the bench's own.
+/// Accepts the rows of a document: the configuration of the node and the script of the run, where
+/// the rows break none of the 28 rules. Else the fault names the least rule that is broken and the
+/// least of its lines. A refusal gives up the rows. The rules are the bench's own.
 pub fn accept(alloc: Global, rows: Rows) -> Result<Accepted, AcceptFault>
     requires { AreSound rows }
     ensures kept { OnOk result (broken_rule rows ≡ None) }

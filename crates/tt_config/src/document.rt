@@ -73,7 +73,8 @@ pub(crate) fn elaborate(
     })
 }
 
-/// The first of rules 9 to 28 that is broken, of rows whose blocks are well formed and nested at most 4 deep.
+/// The first of rules 9 to 28 that is broken, of rows whose blocks are well formed and nested at
+/// most 4 deep.
 pub(crate) fn later_broken(
     alloc: Global,
     rows: &[NumberedRow],

@@ -5,7 +5,8 @@ ghost use Rattle.tt_rows.specs.Sound.{AreSound};
 
 use tt_rows::NumberedRow;
 
-/// Lines ascend and have numbers of 32 bits, so there are fewer than 2^32 of them. It looks at the last row alone.
+/// Lines ascend and have numbers of 32 bits, so there are fewer than 2^32 of them. It looks at the
+/// last row alone.
 pub(crate) fn rows_are_few(rows: &[NumberedRow])
     requires { AreSound rows.now }
     ensures { length rows.now < 2 ^ 32 }

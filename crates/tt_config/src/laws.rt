@@ -2,7 +2,8 @@
 
 ghost use Rattle.tt_config.specs.BodyRules.{BodiesAreSound};
 
-/// Where no line breaks a rule on bodies, the bodies of the configuration that rows give keep its rules.
+/// Where no line breaks a rule on bodies, the bodies of the configuration that rows give keep its
+/// rules.
 pub fn bodies_are_sound()
     ensures { BodiesAreSound }
 {}

@@ -95,7 +95,8 @@ impl<T: Drop> Lists<T> {
     }
 }
 
-/// For each number below one, what parts give it, in order. Each part gives one number an item, or none.
+/// For each number below one, what parts give it, in order. Each part gives one number an item, or
+/// none.
 pub(crate) fn by_number<T, U: Drop, F: Fn(&T) -> Option<(u16, U)>>(
     alloc: Global,
     count: usize,

@@ -24,7 +24,8 @@ plain_is_no_lf b plain =
 
 -- a byte that is no LF stands in front of the first line
 lines_of-other : (b : ℕ) (bytes : List ℕ) → (b == 10) ≡ false → lines_of (b ∷ bytes) ≡ in_front b (lines_of bytes)
-lines_of-other b bytes other = cond-false (b == 10) (line_with [] true ∷ lines_of bytes) (in_front b (lines_of bytes)) other
+lines_of-other b bytes other =
+    cond-false (b == 10) (line_with [] true ∷ lines_of bytes) (in_front b (lines_of bytes)) other
 
 -- a plain text, a LF and a rest are one line and the lines of the rest
 pub lines_of-plain : (text rest : List ℕ) → list_all is_plain_byte text ≡ true
@@ -35,12 +36,14 @@ lines_of-plain (b ∷ text) rest plain =
     lines_of-other b (text ++ 10 ∷ rest) (plain_is_no_lf b parts.0) ∙ ap (in_front b) (lines_of-plain text rest parts.1)
 
 -- a plain text is one line that no LF ends
-lines_of-cut : (text : List ℕ) → list_all is_plain_byte text ≡ true → 0 < length text → lines_of text ≡ line_with text false ∷ []
+lines_of-cut : (text : List ℕ) → list_all is_plain_byte text ≡ true → 0 < length text
+    → lines_of text ≡ line_with text false ∷ []
 lines_of-cut [] plain some = absurd (omega arith)
 lines_of-cut (b ∷ []) plain some = lines_of-other b [] (plain_is_no_lf b (and_parts (is_plain_byte b) true plain).0)
 lines_of-cut (b ∷ next ∷ bytes) plain some =
     let parts = and_parts (is_plain_byte b) (list_all is_plain_byte (next ∷ bytes)) plain in
-    lines_of-other b (next ∷ bytes) (plain_is_no_lf b parts.0) ∙ ap (in_front b) (lines_of-cut (next ∷ bytes) parts.1 (omega arith))
+    lines_of-other b (next ∷ bytes) (plain_is_no_lf b parts.0)
+        ∙ ap (in_front b) (lines_of-cut (next ∷ bytes) parts.1 (omega arith))
 
 -- a plain line of at most 200 bytes that a LF ends has no fault
 pub fault_of-plain : (text : List ℕ) → list_all is_plain_byte text ≡ true → length text ≤ 200
@@ -57,7 +60,8 @@ record BeginsUnplain (lines : List Line) : Type 0 where
   unplain : list_all is_plain_byte line.text ≡ false
 
 unplain_in_front : (b : ℕ) (lines : List Line) → is_plain_byte b ≡ false → BeginsUnplain (in_front b lines)
-unplain_in_front b [] unplain = record { line = line_with (b ∷ []) false; rest = []; is = refl; unplain = ap (λ t. t && true) unplain }
+unplain_in_front b [] unplain =
+    record { line = line_with (b ∷ []) false; rest = []; is = refl; unplain = ap (λ t. t && true) unplain }
 unplain_in_front b (line ∷ lines) unplain = record {
   line = line_with (b ∷ line.text) line.ended;
   rest = lines;
@@ -84,7 +88,8 @@ unplain_line (first ∷ text) b rest plain unplain other =
 front_is_plain : (text : List ℕ) → list_all is_plain_byte (take (plain_len_of text) text) ≡ true
 front_is_plain [] = refl
 front_is_plain (b ∷ bytes) =
-    cond_both (not (not (is_plain_byte b))) (1 + plain_len_of bytes) 0 (λ n. list_all is_plain_byte (take n (b ∷ bytes)) ≡ true)
+    cond_both (not (not (is_plain_byte b))) (1 + plain_len_of bytes) 0
+        (λ n. list_all is_plain_byte (take n (b ∷ bytes)) ≡ true)
     (λ plain.
     let more : 1 + plain_len_of bytes ≡ suc (plain_len_of bytes) = omega arith in
     ap (λ n. list_all is_plain_byte (take n (b ∷ bytes))) more
@@ -105,10 +110,12 @@ plain_len_more (suc n) (b ∷ bytes) inside plain =
 -- a search that passed so many bytes passes a plain chunk more
 pub plain_len_further : (text : List ℕ) (at n : ℕ) → at + n ≤ length text
     → list_all is_plain_byte (take (at + n - at) (drop at text)) ≡ true
-    → plain_len_of text ≡ at + plain_len_of (drop at text) → plain_len_of text ≡ (at + n) + plain_len_of (drop (at + n) text)
+    → plain_len_of text ≡ at + plain_len_of (drop at text)
+    → plain_len_of text ≡ (at + n) + plain_len_of (drop (at + n) text)
 plain_len_further text at n inside plain passed =
     let size : at + n - at ≡ n = omega arith in
-    let sum : at + (n + plain_len_of (drop (at + n) text)) ≡ (at + n) + plain_len_of (drop (at + n) text) = omega arith in
+    let sum : at + (n + plain_len_of (drop (at + n) text)) ≡ (at + n) + plain_len_of (drop (at + n) text) =
+        omega arith in
     let more = plain_len_more n (drop at text) (omega (arith, length-drop at text))
     (ap (λ k. list_all is_plain_byte (take k (drop at text))) (sym size) ∙ plain) in
     passed
@@ -135,7 +142,8 @@ record StopsAt (text : List ℕ) (n : ℕ) : Type 0 where
 stops_at : (text : List ℕ) (n : ℕ) → n ≡ plain_len_of text → (n ≡ length text → ⊥) → StopsAt text n
 stops_at text n is before =
     let test : ℕ → Bool = λ b. not (is_plain_byte b) in
-    let short : plain_len_of text < length text = omega (arith, prefix_len-le-length (λ b. not (test b)) text, is, before) in
+    let short : plain_len_of text < length text =
+        omega (arith, prefix_len-le-length (λ b. not (test b)) text, is, before) in
     subst (StopsAt text) (sym is) (record {
       split = split_at_first test text 0 short;
       unplain = not-true (is_plain_byte (get_or text (plain_len_of text) 0)) (passes_at_first test text 0 short);
@@ -171,16 +179,19 @@ begins_with_long text n ended rest is long first =
     }
 
 -- the fault of a line that ends at a LF, at another byte, and with the document
-pub begins_with_long_line : (text : List ℕ) (n : ℕ) → n ≡ plain_len_of text → (n ≡ length text → ⊥) → get_or text n 0 ≡ 10
+pub begins_with_long_line : (text : List ℕ) (n : ℕ) → n ≡ plain_len_of text → (n ≡ length text → ⊥)
+    → get_or text n 0 ≡ 10
     → 200 < n → BeginsWithFault (lines_of text) Long
 begins_with_long_line text n is before lf long =
     begins_with_long text n true (lines_of (drop (n + 1) text)) is long (lines_of-lf text n is before lf)
 
-pub begins_with_byte : (text : List ℕ) (n : ℕ) → n ≡ plain_len_of text → (n ≡ length text → ⊥) → (get_or text n 0 ≡ 10 → ⊥)
+pub begins_with_byte : (text : List ℕ) (n : ℕ) → n ≡ plain_len_of text → (n ≡ length text → ⊥)
+    → (get_or text n 0 ≡ 10 → ⊥)
     → BeginsWithFault (lines_of text) Byte
 begins_with_byte text n is before other =
     let stop = stops_at text n is before in
-    let lines = unplain_line (take n text) (get_or text n 0) (drop (n + 1) text) (plain_front text n is).plain stop.unplain
+    let lines = unplain_line (take n text) (get_or text n 0) (drop (n + 1) text)
+        (plain_front text n is).plain stop.unplain
     (ne_eqb (get_or text n 0) 10 other) in
     record {
       line = lines.line;
@@ -189,8 +200,10 @@ begins_with_byte text n is before other =
       fault = cond-true (not (list_all is_plain_byte lines.line.text)) (Some Byte) _ (ap not lines.unplain);
     }
 
-pub begins_with_long_end : (text : List ℕ) (n : ℕ) → n ≡ plain_len_of text → n ≡ length text → 200 < n → BeginsWithFault (lines_of text) Long
-begins_with_long_end text n is end long = begins_with_long text n false [] is long (lines_of-end text n is end (omega arith))
+pub begins_with_long_end : (text : List ℕ) (n : ℕ) → n ≡ plain_len_of text → n ≡ length text → 200 < n
+    → BeginsWithFault (lines_of text) Long
+begins_with_long_end text n is end long =
+    begins_with_long text n false [] is long (lines_of-end text n is end (omega arith))
 
 pub begins_with_cut : (text : List ℕ) (n : ℕ) → n ≡ plain_len_of text → n ≡ length text → 0 < n → n ≤ 200
     → BeginsWithFault (lines_of text) Cut
@@ -207,10 +220,12 @@ begins_with_cut text n is end some short =
 
 -- the line that a LF ends, and the lines after it
 pub record EndedLine (bytes : List ℕ) (at n : ℕ) : Type 0 where
-  pub line : lines_of (drop at bytes) ≡ record { text = slice_range bytes at (at + n); ended = true } ∷ lines_of (drop (at + n + 1) bytes)
+  pub line : lines_of (drop at bytes)
+      ≡ record { text = slice_range bytes at (at + n); ended = true } ∷ lines_of (drop (at + n + 1) bytes)
   pub good : n ≤ 200 → fault_of (record { text = slice_range bytes at (at + n); ended = true }) ≡ None
 
-pub ended_line : (bytes : List ℕ) (at n : ℕ) (rest : List ℕ) → rest ≡ drop at bytes → n ≡ plain_len_of rest → (n ≡ length rest → ⊥)
+pub ended_line : (bytes : List ℕ) (at n : ℕ) (rest : List ℕ) → rest ≡ drop at bytes → n ≡ plain_len_of rest
+    → (n ≡ length rest → ⊥)
     → get_or rest n 0 ≡ 10 → EndedLine bytes at n
 ended_line bytes at n rest is_rest is_len before_end at_lf =
     let is : n ≡ plain_len_of (drop at bytes) = is_len ∙ ap plain_len_of is_rest in
@@ -223,7 +238,8 @@ ended_line bytes at n rest is_rest is_len before_end at_lf =
     record {
       line = lines_of-lf (drop at bytes) n is before lf
           ∙ ap (λ k. line_with (take k (drop at bytes)) true ∷ lines_of (drop (n + 1) (drop at bytes))) far
-          ∙ ap (λ text. line_with (slice_range bytes at (at + n)) true ∷ lines_of text) (drop-drop (n + 1) at bytes ∙ ap (λ k. drop k bytes) after);
+          ∙ ap (λ text. line_with (slice_range bytes at (at + n)) true ∷ lines_of text)
+              (drop-drop (n + 1) at bytes ∙ ap (λ k. drop k bytes) after);
       good = λ few. subst (λ k. fault_of (line_with (take k (drop at bytes)) true) ≡ None) far
           (fault_of-plain (take n (drop at bytes)) front.plain (short few));
     }

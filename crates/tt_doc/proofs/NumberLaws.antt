@@ -18,14 +18,16 @@ value_after = fold (λ n d. n * 10 + (d - 48))
 own : IsNumeralModel (λ ds. list_all is_ascii_digit ds ≡ true) value_of
 own = numerals_by_fold _ (search rules) value_after (search rules)
 
-leading : (text : List ℕ) → has_no_leading_zero text ≡ true → (0 < length text) × (get_or text 0 0 ≡ 48 → length text ≡ 1)
+leading : (text : List ℕ) → has_no_leading_zero text ≡ true
+    → (0 < length text) × (get_or text 0 0 ≡ 48 → length text ≡ 1)
 leading [] h = absurd (false≢true h)
 leading (first ∷ []) h = (omega arith, λ e. refl)
 leading (first ∷ (second ∷ rest)) h =
     (omega arith, λ e. absurd (both_ways (first == 48) (not-true (first == 48) h) (eq-eqb first 48 e)))
 
 -- the spelling of a text that is a number, and the bound of its value
-pub is_number-spelled : (text : List ℕ) → is_number text ≡ true → (text ≡ decimal (value_of text)) × (value_of text < 10 ^ 12)
+pub is_number-spelled : (text : List ℕ) → is_number text ≡ true
+    → (text ≡ decimal (value_of text)) × (value_of text < 10 ^ 12)
 is_number-spelled text h =
     let two = and_parts (list_all is_ascii_digit text && nat_le (length text) 12) (has_no_leading_zero text) h in
     let one = and_parts (list_all is_ascii_digit text) (nat_le (length text) 12) two.0 in
@@ -45,7 +47,8 @@ number_of-spelled text n h =
     let P : ℕ → Type 0 = λ v. (text ≡ decimal v) × (v < 10 ^ 12) in
     subst P parts.1 (is_number-spelled text parts.0)
 
-no_leading : (text : List ℕ) → 0 < length text → (get_or text 0 0 ≡ 48 → length text ≡ 1) → has_no_leading_zero text ≡ true
+no_leading : (text : List ℕ) → 0 < length text → (get_or text 0 0 ≡ 48 → length text ≡ 1)
+    → has_no_leading_zero text ≡ true
 no_leading [] some front = absurd (omega arith)
 no_leading (first ∷ []) some front = refl
 no_leading (first ∷ (second ∷ rest)) some front =
@@ -76,7 +79,8 @@ digits_of_number text n h =
     (and_parts (list_all is_ascii_digit text) (nat_le (length text) 12) two.0).0
 
 bounds_of_digit : (b : ℕ) → is_ascii_digit b ≡ true → (48 ≤ b) × (b ≤ 57)
-bounds_of_digit b h = let parts = and_parts (nat_le 48 b) (nat_le b 57) h in (leb-true 48 b parts.0, leb-true b 57 parts.1)
+bounds_of_digit b h = let parts = and_parts (nat_le 48 b) (nat_le b 57) h in
+    (leb-true 48 b parts.0, leb-true b 57 parts.1)
 
 plain_from_digits : (text : List ℕ) → list_all is_ascii_digit text ≡ true → list_all is_plain_byte text ≡ true
 plain_from_digits [] digits = refl
@@ -118,7 +122,8 @@ positive_parts (Some n) z h =
     let parts = some_where (nat_lt n (2 ^ 31)) (pos n) z h in
     (n, refl, sym parts.1, ltb-true n (2 ^ 31) parts.0)
 
-negative_parts : (o : Option ℕ) (z : ℤ) → negative_of o ≡ Some z → (n : ℕ) × (o ≡ Some (suc n)) × (z ≡ negsuc n) × (n < 2 ^ 31)
+negative_parts : (o : Option ℕ) (z : ℤ) → negative_of o ≡ Some z
+    → (n : ℕ) × (o ≡ Some (suc n)) × (z ≡ negsuc n) × (n < 2 ^ 31)
 negative_parts None z h = cc
 negative_parts (Some zero) z h = cc
 negative_parts (Some (suc n)) z h =
@@ -140,33 +145,41 @@ negative_spelled rest z h =
     let spelled = number_of-spelled rest (suc parts.0) parts.1 in
     subst (Spells (45 ∷ rest)) (sym parts.2) (ap (λ digits. 45 ∷ digits) spelled.0, record { sfits = parts.3 })
 
-integer_cases : (first : ℕ) (rest : List ℕ) (z : ℤ) → integer_of (first ∷ rest) ≡ Some z → ((first ≡ 45) × (negative_of (number_of rest) ≡ Some z)) ⊎ (positive_of (number_of (first ∷ rest)) ≡ Some z)
+integer_cases : (first : ℕ) (rest : List ℕ) (z : ℤ) → integer_of (first ∷ rest) ≡ Some z
+    → ((first ≡ 45) × (negative_of (number_of rest) ≡ Some z)) ⊎ (positive_of (number_of (first ∷ rest)) ≡ Some z)
 integer_cases first rest z h =
     elim (cases_Bool (first == 45)) [
-      | inl e ↦ inl (eqb-true first 45 e, sym (cond-true (first == 45) (negative_of (number_of rest)) (positive_of (number_of (first ∷ rest))) e) ∙ h)
-      | inr e ↦ inr (sym (cond-false (first == 45) (negative_of (number_of rest)) (positive_of (number_of (first ∷ rest))) e) ∙ h)
+      | inl e ↦ inl (eqb-true first 45 e,
+          sym (cond-true (first == 45) (negative_of (number_of rest)) (positive_of (number_of (first ∷ rest))) e) ∙ h)
+      | inr e ↦ inr (sym (cond-false (first == 45) (negative_of (number_of rest))
+          (positive_of (number_of (first ∷ rest))) e) ∙ h)
     ]
 
 -- an integer's text is its signed decimal spelling, and it fits 32 bits
-pub integer_of-spelled : (text : List ℕ) (z : ℤ) → integer_of text ≡ Some z → (text ≡ signed_decimal z) × FitsSigned w32 z
+pub integer_of-spelled : (text : List ℕ) (z : ℤ) → integer_of text ≡ Some z
+    → (text ≡ signed_decimal z) × FitsSigned w32 z
 integer_of-spelled [] z h = cc
 integer_of-spelled (first ∷ rest) z h =
     elim (integer_cases first rest z h) [
-      | inl minus ↦ let P : ℕ → Type 0 = λ b. Spells (b ∷ rest) z in subst P (sym minus.0) (negative_spelled rest z minus.1)
+      | inl minus ↦ let P : ℕ → Type 0 = λ b. Spells (b ∷ rest) z in
+          subst P (sym minus.0) (negative_spelled rest z minus.1)
       | inr plus ↦ positive_spelled (first ∷ rest) z plus
     ]
 
 positive_read : (text : List ℕ) (n : ℕ) → number_of text ≡ Some n → n < 2 ^ 31 → integer_of text ≡ Some (pos n)
 positive_read [] n h small = cc
 positive_read (first ∷ rest) n h small =
-    let digit = bounds_of_digit first (and_parts (is_ascii_digit first) (list_all is_ascii_digit rest) (digits_of_number (first ∷ rest) n h)).0 in
-    cond-false (first == 45) (negative_of (number_of rest)) (positive_of (number_of (first ∷ rest))) (ne_eqb first 45 (λ e. omega (arith, digit)))
+    let digit = bounds_of_digit first
+        (and_parts (is_ascii_digit first) (list_all is_ascii_digit rest) (digits_of_number (first ∷ rest) n h)).0 in
+    cond-false (first == 45) (negative_of (number_of rest)) (positive_of (number_of (first ∷ rest)))
+        (ne_eqb first 45 (λ e. omega (arith, digit)))
     ∙ ap positive_of h
     ∙ cond-true (nat_lt n (2 ^ 31)) (Some (pos n)) None (lt-ltb n (2 ^ 31) small)
 
 -- an integer of 32 bits is read from its signed decimal spelling
 pub integer_of-signed_decimal : (z : ℤ) → FitsSigned w32 z → integer_of (signed_decimal z) ≡ Some z
-integer_of-signed_decimal (pos n) fits = positive_read (decimal n) n (number_of-decimal n (omega (arith, fits.sfits))) fits.sfits
+integer_of-signed_decimal (pos n) fits =
+    positive_read (decimal n) n (number_of-decimal n (omega (arith, fits.sfits))) fits.sfits
 integer_of-signed_decimal (negsuc n) fits =
     ap negative_of (number_of-decimal (suc n) (omega (arith, fits.sfits)))
     ∙ cond-true (nat_lt n (2 ^ 31)) (Some (negsuc n)) None (lt-ltb n (2 ^ 31) fits.sfits)
@@ -180,7 +193,8 @@ integer_is_plain (first ∷ rest) z h =
           let parts = negative_parts (number_of rest) z minus.1 in
           let P : ℕ → Type 0 = λ b. list_all is_plain_byte (b ∷ rest) ≡ true in
           subst P (sym minus.0) (number_is_plain rest (suc parts.0) parts.1)
-      | inr plus ↦ let parts = positive_parts (number_of (first ∷ rest)) z plus in number_is_plain (first ∷ rest) parts.0 parts.1
+      | inr plus ↦ let parts = positive_parts (number_of (first ∷ rest)) z plus in
+          number_is_plain (first ∷ rest) parts.0 parts.1
     ]
 
 -- an integer's text can be a word
@@ -192,7 +206,8 @@ integer_is_word (first ∷ rest) z h =
           let parts = negative_parts (number_of rest) z minus.1 in
           let P : ℕ → Type 0 = λ b. is_word (b ∷ rest) ≡ true in
           subst P (sym minus.0) (no_space_from_digits rest (digits_of_number rest (suc parts.0) parts.1))
-      | inr plus ↦ let parts = positive_parts (number_of (first ∷ rest)) z plus in number_is_word (first ∷ rest) parts.0 parts.1
+      | inr plus ↦ let parts = positive_parts (number_of (first ∷ rest)) z plus in
+          number_is_word (first ∷ rest) parts.0 parts.1
     ]
 
 pub decimal_is_plain : (n : ℕ) → n < 10 ^ 12 → list_all is_plain_byte (decimal n) ≡ true
@@ -207,4 +222,5 @@ signed_decimal_is_plain z fits = integer_is_plain (signed_decimal z) z (integer_
 pub signed_decimal_is_word : (z : ℤ) → FitsSigned w32 z → is_word (signed_decimal z) ≡ true
 signed_decimal_is_word z fits = integer_is_word (signed_decimal z) z (integer_of-signed_decimal z fits)
 
-pub ruleset number_laws = (number_of-spelled, number_of-decimal, number_is_plain, number_is_word, integer_of-spelled, integer_of-signed_decimal, integer_is_plain, integer_is_word)
+pub ruleset number_laws = (number_of-spelled, number_of-decimal, number_is_plain, number_is_word, integer_of-spelled,
+    integer_of-signed_decimal, integer_is_plain, integer_is_word)

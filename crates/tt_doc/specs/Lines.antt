@@ -17,7 +17,8 @@ in_front b (line ∷ lines) = record { text = b ∷ line.text; ended = line.ende
 -- the lines of a text: a LF ends one, and bytes after the last LF are a last line that no LF ends
 abbrev pub lines_of : List ℕ → List Line
 lines_of [] = []
-lines_of (b ∷ bytes) = if b == 10 then record { text = []; ended = true } ∷ lines_of bytes else in_front b (lines_of bytes)
+lines_of (b ∷ bytes) = if b == 10 then record { text = []; ended = true } ∷ lines_of bytes
+    else in_front b (lines_of bytes)
 
 -- a byte that a line may have
 abbrev pub is_plain_byte : ℕ → Bool

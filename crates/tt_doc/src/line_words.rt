@@ -10,15 +10,16 @@ use arrayvec::ArrayVec;
 /// Adds a word, unless it has no bytes.
 fn push_word(words: &mut ArrayVec<Span, 100>, word: Span)
     requires { word.start < word.end → array_vec_len words.old < 100 }
-    ensures { words.new.items ≡ (if nat_lt word.start word.end then words.old.items ++ word ∷ [] else words.old.items) }
+    ensures { words.new.items ≡ (if nat_lt word.start word.end then words.old.items ++ word ∷ []
+        else words.old.items) }
 {
     if word.start < word.end {
         words.push(word);
     }
 }
 
-/// The words of a line, which are its longest runs of bytes other than the space, in their order. At most 200 bytes have
-/// at most 100 words.
+/// The words of a line, which are its longest runs of bytes other than the space, in their order.
+/// At most 200 bytes have at most 100 words.
 pub fn words(bytes: &[u8], span: Span) -> ArrayVec<Span, 100>
     requires ordered { span.start ≤ span.end }
     requires short { span.end ≤ span.start + 200 }

@@ -81,8 +81,9 @@ fn plain_len(text: &[u8]) -> usize
 
 /// The line of a document that begins at the place `at`, and what it has wrong by itself.
 ///
-/// The document ends at its length: `End` is answered exactly there. A line ends with a LF, which is not among its bytes,
-/// and has at most 200 bytes. The bytes after the last LF are a line without one, which is a fault.
+/// The document ends at its length: `End` is answered exactly there. A line ends with a LF, which
+/// is not among its bytes, and has at most 200 bytes. The bytes after the last LF are a line
+/// without one, which is a fault.
 pub fn next_line(bytes: &[u8], at: usize) -> LineStep
     requires { at ≤ length bytes.now }
     ensures end { (result ≡ LineStep.End) ↔ (at ≡ length bytes.now) }
@@ -94,7 +95,8 @@ pub fn next_line(bytes: &[u8], at: usize) -> LineStep
     ensures inside { IfLine result (λ span next. next ≤ length bytes.now) }
     ensures line { IfLine result (λ span next. lines_of (drop at bytes.now)
         ≡ record { text = text_of bytes.now span; ended = true } ∷ lines_of (drop next bytes.now)) }
-    ensures good { IfLine result (λ span next. fault_of (record { text = text_of bytes.now span; ended = true }) ≡ None) }
+    ensures good { IfLine result
+        (λ span next. fault_of (record { text = text_of bytes.now span; ended = true }) ≡ None) }
 
     ensures fault { IfFault result (BeginsWithFault (lines_of (drop at bytes.now))) }
 {

@@ -8,13 +8,17 @@ use Rattle.tt_io.specs.Known.{AppendsPart}
 use Rattle.tt_io.specs.Passes.{Passes}
 
 -- a part of what comes after a front that is done is a part of the whole
-pub part_after : (a b c : Option (List ℕ)) (done rest all : List ℕ) → all ≡ done ++ rest → Appends a b done → AppendsPart b c rest → AppendsPart a c all
+pub part_after : (a b c : Option (List ℕ)) (done rest all : List ℕ) → all ≡ done ++ rest → Appends a b done
+    → AppendsPart b c rest → AppendsPart a c all
 part_after a b c done rest all split front (n, short, part) =
-    let taken : take (length done + n) all ≡ done ++ take n rest = ap (take (length done + n)) split ∙ take-append-add done rest n in
-    (length done + n, rw split (omega (arith, length-append done rest)), subst (Appends a c) (sym taken) (Appends-trans a b c _ _ front part))
+    let taken : take (length done + n) all ≡ done ++ take n rest = ap (take (length done + n)) split
+        ∙ take-append-add done rest n in
+    (length done + n, rw split (omega (arith, length-append done rest)),
+        subst (Appends a c) (sym taken) (Appends-trans a b c _ _ front part))
 
 -- a part of a front is a part of the whole
-pub part_of_front : (a b : Option (List ℕ)) (front rest all : List ℕ) → all ≡ front ++ rest → AppendsPart a b front → AppendsPart a b all
+pub part_of_front : (a b : Option (List ℕ)) (front rest all : List ℕ) → all ≡ front ++ rest → AppendsPart a b front
+    → AppendsPart a b all
 part_of_front a b front rest all split (n, short, part) =
     let taken : take n all ≡ take n front = ap (take n) split ∙ take-append-le n front rest (omega arith) in
     (n, rw split (omega (arith, length-append front rest)), subst (Appends a b) (sym taken) part)
@@ -24,7 +28,8 @@ pub passes_none : (a : Option (List ℕ)) (waiting : List ℕ) → Passes a a wa
 passes_none a waiting = record { sent = []; split = refl; appended = Appends-nil a }
 
 -- all was sent, in two pieces, and nothing waits
-pub passes_all : (a b c : Option (List ℕ)) (first second all waiting : List ℕ) → all ≡ first ++ second → waiting ≡ [] → Appends a b first → Appends b c second → Passes a c all waiting
+pub passes_all : (a b c : Option (List ℕ)) (first second all waiting : List ℕ) → all ≡ first ++ second → waiting ≡ []
+    → Appends a b first → Appends b c second → Passes a c all waiting
 passes_all a b c first second all waiting split none p q = record {
   sent = first ++ second;
   split = split ∙ sym (append-nil (first ++ second)) ∙ ap (λ w. (first ++ second) ++ w) (sym none);
@@ -32,21 +37,27 @@ passes_all a b c first second all waiting split none p q = record {
 }
 
 -- a piece came to what waited, and was put
-pub passes_more : {a b : Option (List ℕ)} {so_far waiting : List ℕ} {c : Option (List ℕ)} {now : List ℕ} (all piece : List ℕ) → all ≡ so_far ++ piece
+pub passes_more : {a b : Option (List ℕ)} {so_far waiting : List ℕ} {c : Option (List ℕ)} {now : List ℕ}
+    (all piece : List ℕ) → all ≡ so_far ++ piece
     → Passes a b so_far waiting → Passes b c (waiting ++ piece) now → Passes a c all now
 passes_more {a} {b} {so_far} {waiting} {c} {now} all piece split p q = record {
   sent = p.sent ++ q.sent;
-  split = split ∙ ap (λ l. l ++ piece) p.split ∙ append_assoc p.sent waiting piece ∙ ap (λ l. p.sent ++ l) q.split ∙ sym (append_assoc p.sent q.sent now);
+  split = split ∙ ap (λ l. l ++ piece) p.split ∙ append_assoc p.sent waiting piece ∙ ap (λ l. p.sent ++ l) q.split
+      ∙ sym (append_assoc p.sent q.sent now);
   appended = Appends-trans a b c p.sent q.sent p.appended q.appended;
 }
 
 -- a piece came to what waited, and a part of both was appended
-pub passes_part : {a b : Option (List ℕ)} {so_far waiting : List ℕ} (c : Option (List ℕ)) (all piece : List ℕ) → all ≡ so_far ++ piece
+pub passes_part : {a b : Option (List ℕ)} {so_far waiting : List ℕ} (c : Option (List ℕ)) (all piece : List ℕ)
+    → all ≡ so_far ++ piece
     → Passes a b so_far waiting → AppendsPart b c (waiting ++ piece) → AppendsPart a c all
 passes_part {a} {b} {so_far} {waiting} c all piece split p part =
-    part_after a b c p.sent (waiting ++ piece) all (split ∙ ap (λ l. l ++ piece) p.split ∙ append_assoc p.sent waiting piece) p.appended part
+    part_after a b c p.sent (waiting ++ piece) all
+        (split ∙ ap (λ l. l ++ piece) p.split ∙ append_assoc p.sent waiting piece) p.appended part
 
 -- a part of what waited was sent, and with it a part of all
-pub passes_end_part : {a b : Option (List ℕ)} {so_far waiting : List ℕ} (c : Option (List ℕ)) (all : List ℕ) → all ≡ so_far
+pub passes_end_part : {a b : Option (List ℕ)} {so_far waiting : List ℕ} (c : Option (List ℕ)) (all : List ℕ)
+    → all ≡ so_far
     → Passes a b so_far waiting → AppendsPart b c waiting → AppendsPart a c all
-passes_end_part {a} {b} {so_far} {waiting} c all same p part = part_after a b c p.sent waiting all (same ∙ p.split) p.appended part
+passes_end_part {a} {b} {so_far} {waiting} c all same p part =
+    part_after a b c p.sent waiting all (same ∙ p.split) p.appended part

@@ -9,12 +9,13 @@ ghost use Rattle.tt_io.specs.Passes.{Passes};
 use crate::{Sink, WriteFault, put_all};
 use std::marker::Model;
 
-/// How many bytes a buffer holds at most: as many as std's own buffered writer. Eight times as many write ten million
-/// short lines to a file by a third faster, and make each buffer that much larger on the stack.
+/// How many bytes a buffer holds at most: as many as std's own buffered writer. Eight times as
+/// many write ten million short lines to a file by a third faster, and make each buffer that much
+/// larger on the stack.
 pub const CAPACITY: usize = 8 * 1024;
 
-/// Bytes on their way to a sink, so that many small pieces make one write. It stands beside the sink, takes no memory,
-/// and contracts see it as the list of the bytes that wait.
+/// Bytes on their way to a sink, so that many small pieces make one write. It stands beside the
+/// sink, takes no memory, and contracts see it as the list of the bytes that wait.
 #[derive(Drop)]
 pub struct Buffer {
     bytes: [u8; CAPACITY],
@@ -70,8 +71,8 @@ impl Buffer {
         self.len = end;
     }
 
-    /// Appends a piece. It waits where it has room, and else what waits is sent first. A piece that is larger than the
-    /// buffer goes to the sink at once. After a fault nothing waits.
+    /// Appends a piece. It waits where it has room, and else what waits is sent first. A piece
+    /// that is larger than the buffer goes to the sink at once. After a fault nothing waits.
     #[inline(always)]
     pub fn put<O: Sink>(&mut self, sink: &mut O, piece: &[u8]) -> Result<(), WriteFault>
         ensures ok { OnOk result (Passes (O.written sink.old) (O.written sink.new)

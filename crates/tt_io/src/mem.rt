@@ -191,8 +191,8 @@ impl Source for SureSource {
     }
 }
 
-/// Keeps what is written, in the room that it has. The writes whose numbers stand in `failing` fail, and those with no
-/// room left, and no other.
+/// Keeps what is written, in the room that it has. The writes whose numbers stand in `failing`
+/// fail, and those with no room left, and no other.
 #[derive(Drop)]
 pub struct MemSink {
     bytes: Vec<u8>,
@@ -209,8 +209,8 @@ pub struct MemSink {
 impl MemSink {
     ghost use Rattle.tt_io.specs.MemSink.{written_in, room_of, chunk_in, write_calls, refusing, sink_faults};
 
-    /// A sink with room for `room` bytes, which it reserves, that takes at most `chunk` of them at a time. Writes are
-    /// numbered from 0.
+    /// A sink with room for `room` bytes, which it reserves, that takes at most `chunk` of them at
+    /// a time. Writes are numbered from 0.
     pub fn new(
         alloc: Global,
         room: usize,
@@ -263,7 +263,8 @@ impl Sink for MemSink {
 
         ensures refused { OnRefused result (written_in self.new ≡ written_in self.old) }
 
-        // The writes that are to fail do, and those with no room left, and are counted; no other does.
+        // The writes that are to fail do, and those with no room left, and are counted; no other
+        // does.
         ensures fails { (result ≡ WriteStep.Failed)
             ↔ (Contains (refusing self.old) (write_calls self.old)
             ⊎ (length (written_in self.old) ≡ room_of self.old)) }

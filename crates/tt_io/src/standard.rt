@@ -1,5 +1,5 @@
-//! The standard library's readers and writers as sources and sinks. As sources and sinks they tell no bytes; where the
-//! reader or the writer tells its own, these pass through unchanged.
+//! The standard library's readers and writers as sources and sinks. As sources and sinks they tell
+//! no bytes; where the reader or the writer tells its own, these pass through unchanged.
 
 ghost use Rattle.std.specs.Io.KnownBytes.{Appends, Consumes, IsAtEnd, Keeps};
 ghost use Rattle.std.specs.Prelude.{◌≡◌, ◌≢◌, ◌<◌, ◌≤◌, if◌then◌else◌, ℕ, None, is_ok, length, take};
@@ -105,7 +105,8 @@ impl<W: Write + Drop> Sink for StdSink<W> {
 
     ghost faults = { λ s. write_faults s };
 
-    /// Each error of the writer is a fault. So is a write of nothing, and a failed flush after a write.
+    /// Each error of the writer is a fault. So is a write of nothing, and a failed flush after a
+    /// write.
     fn write(&mut self, piece: &[u8]) -> WriteStep
         requires { 0 < length piece.now }
 
@@ -113,7 +114,8 @@ impl<W: Write + Drop> Sink for StdSink<W> {
         ensures took { IfTook result (λ n. Appends (W.contents (writer_of self.old))
             (W.contents (writer_of self.new)) (take n piece.now)) }
 
-        // A front of the piece may have gone out all the same, as where the flush after a write failed.
+        // A front of the piece may have gone out all the same, as where the flush after a write
+        // failed.
         ensures refused { OnRefused result ((n : ℕ) × (n ≤ length piece.now)
             × Appends (W.contents (writer_of self.old)) (W.contents (writer_of self.new))
             (take n piece.now)) }

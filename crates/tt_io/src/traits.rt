@@ -37,7 +37,8 @@ pub trait Source {
     /// How many faults there were. The count stays at its last value, 2^64 - 1.
     ghost faults: { Self → ℕ };
 
-    /// Takes the first bytes that are left, at least one and as many as it likes, into the front of `buf`.
+    /// Takes the first bytes that are left, at least one and as many as it likes, into the front
+    /// of `buf`.
     fn read(&mut self, buf: &mut [u8]) -> ReadStep
         requires { 0 < length buf.old }
 

@@ -29,8 +29,9 @@ pub enum TakeFault {
 #[derive(Clone, Copy, Debug, PartialEq, Eq)]
 pub struct WriteFault;
 
-/// All the bytes that a source has left, of which there may be at most `limit`, itself at most 2^24. It reserves its
-/// buffer before it reads, and takes at most `limit + 1` bytes: one more than the limit shows that there are too many.
+/// All the bytes that a source has left, of which there may be at most `limit`, itself at most
+/// 2^24. It reserves its buffer before it reads, and takes at most `limit + 1` bytes: one more
+/// than the limit shows that there are too many.
 pub fn take_all<I: Source>(
     alloc: Global,
     source: &mut I,
@@ -114,7 +115,8 @@ fn fill<I: Source>(source: &mut I, buf: &mut [u8]) -> Filled
     Filled::Whole
 }
 
-/// Appends a piece to a sink. An empty piece writes nothing. At a fault a proper prefix of the piece was appended.
+/// Appends a piece to a sink. An empty piece writes nothing. At a fault a proper prefix of the
+/// piece was appended.
 pub fn put_all<O: Sink>(sink: &mut O, piece: &[u8]) -> Result<(), WriteFault>
     ensures ok { OnOk result (Appends (O.written sink.old) (O.written sink.new) piece.now) }
     ensures empty { piece.now ≡ [] → sink.new ≡ sink.old }

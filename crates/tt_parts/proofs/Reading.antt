@@ -1,32 +1,36 @@
 -- Rows that are read from the last to the first: what those that are read give.
-use Rattle.std.proofs.Common.{◌≡◌, List, [], ◌∷◌, ◌++◌, Some, length, refl, ap, sym, ◌∙◌}
-use Rattle.std.proofs.lemmas.List.{append-nil, append_assoc, nil_from_length}
+use Rattle.std.proofs.Common.{◌≡◌, List, [], ◌∷◌, ◌++◌, ap, sym, ◌∙◌}
+use Rattle.std.proofs.lemmas.List.{append-nil, append_assoc}
 use Rattle.tt_base.specs.declared.names.NameEntry.{NameEntry}
 use Rattle.tt_rows.specs.declared.row.Row.{Row}
 use Rattle.tt_rows.specs.declared.row.Row.TheVariants as r
 use Rattle.tt_rows.specs.declared.row.NumberedRow.{NumberedRow}
 use Rattle.tt_parts.specs.declared.located.At.{At}
-use Rattle.tt_parts.specs.declared.bodies.Owner.{Owner}
 use Rattle.tt_parts.specs.declared.bodies.BodyPart.{BodyPart}
 use Rattle.tt_parts.specs.Located.{at_then}
 use Rattle.tt_parts.specs.Structure.{standing_of}
-use Rattle.tt_parts.specs.Bodies.{Branches, owner_in, body_of, body_then, row_then, head_of, branches_from, bodies_of}
+use Rattle.tt_parts.specs.Bodies.{Branches, owner_in, body_of, row_then, head_of, branches_from, bodies_of}
 
 -- of some rows these are left, and those after them are read
-pub record Reads (names : List NameEntry) (rows left : List NumberedRow) (blocks : List Branches) (bodies : List (At BodyPart)) : Type 0 where
+pub record Reads (names : List NameEntry) (rows left : List NumberedRow) (blocks : List Branches)
+    (bodies : List (At BodyPart)) : Type 0 where
   pub after : List NumberedRow
   pub split : rows ≡ left ++ after
   pub standing : blocks ≡ branches_from names after
   pub opened : bodies ≡ bodies_of names after
 
 -- at first all are left
-pub reads_first : (names : List NameEntry) (rows : List NumberedRow) (blocks : List Branches) (bodies : List (At BodyPart))
+pub reads_first : (names : List NameEntry) (rows : List NumberedRow) (blocks : List Branches)
+    (bodies : List (At BodyPart))
     → blocks ≡ [] → bodies ≡ [] → Reads names rows rows blocks bodies
-reads_first names rows blocks bodies is none = record { after = []; split = sym (append-nil rows); standing = is; opened = none }
+reads_first names rows blocks bodies is none =
+    record { after = []; split = sym (append-nil rows); standing = is; opened = none }
 
 -- the last of those that are left is read
-pub reads_more : (names : List NameEntry) (rows left before : List NumberedRow) (row : NumberedRow) (blocks more : List Branches) (bodies others : List (At BodyPart))
-    → Reads names rows left blocks bodies → left ≡ before ++ row ∷ [] → more ≡ row_then (standing_of row.row) (head_of names row.row) blocks
+pub reads_more : (names : List NameEntry) (rows left before : List NumberedRow) (row : NumberedRow)
+    (blocks more : List Branches) (bodies others : List (At BodyPart))
+    → Reads names rows left blocks bodies → left ≡ before ++ row ∷ []
+    → more ≡ row_then (standing_of row.row) (head_of names row.row) blocks
     → others ≡ at_then row.line (body_of (owner_in row.row) blocks) bodies → Reads names rows before more others
 reads_more names rows left before row blocks more bodies others reads is put opens = record {
   after = row ∷ reads.after;
@@ -35,22 +39,3 @@ reads_more names rows left before row blocks more bodies others reads is put ope
   opened = opens ∙ ap (λ bs. at_then row.line (body_of (owner_in row.row) bs) bodies) reads.standing
       ∙ ap (at_then row.line (body_of (owner_in row.row) (branches_from names reads.after))) reads.opened;
 }
-
--- in the end all are read
-pub reads_last : (names : List NameEntry) (rows left : List NumberedRow) (blocks : List Branches) (bodies : List (At BodyPart))
-    → Reads names rows left blocks bodies → length left ≡ 0 → bodies ≡ bodies_of names rows
-reads_last names rows left blocks bodies reads none =
-    reads.opened ∙ ap (bodies_of names) (sym (reads.split ∙ ap (λ ls. ls ++ reads.after) (nil_from_length left none)))
-
--- a row that declares an owner closes its body
-pub opener : (names : List NameEntry) (row : Row) (owner : Owner) (rest : List Branches)
-    → owner_in row ≡ Some owner → row_then (standing_of row) (head_of names row) rest ≡ body_then rest
-opener names (r.Task name stack) owner rest is = refl
-opener names (r.Isr name level stack) owner rest is = refl
-opener names (r.IsrFar name level stack distance) owner rest is = refl
-opener names (r.Osek name priority) owner rest is = refl
-opener names (r.OsekAuto name priority) owner rest is = refl
-opener names (r.Oisr name priority) owner rest is = refl
-opener names r.HookError owner rest is = refl
-opener names r.HookShutdown owner rest is = refl
-opener names row owner rest is = cc

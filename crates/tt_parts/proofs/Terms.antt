@@ -25,23 +25,27 @@ terms_then-nil names [] = refl
 terms_then-nil names (t ∷ terms) = ap (term_then names t) (terms_then-nil names terms)
 
 -- at first nothing is after
-pub terms_first : (names : List NameEntry) (terms : List Term) (after : List Expr) → after ≡ [] → terms_then names terms after ≡ expressions_of names terms
+pub terms_first : (names : List NameEntry) (terms : List Term) (after : List Expr) → after ≡ []
+    → terms_then names terms after ≡ expressions_of names terms
 terms_first names terms after is = ap (terms_then names terms) is ∙ terms_then-nil names terms
 
 -- the last term goes in front of what is after it
 pub terms_more : (names : List NameEntry) (left before : List Term) (t : Term) (after : List Expr) (all : List Expr)
-    → left ≡ before ++ t ∷ [] → terms_then names left after ≡ all → terms_then names before (term_then names t after) ≡ all
+    → left ≡ before ++ t ∷ [] → terms_then names left after ≡ all
+    → terms_then names before (term_then names t after) ≡ all
 terms_more names left before t after all is split =
     sym (terms_then-push names before t after) ∙ ap (λ terms. terms_then names terms after) (sym is) ∙ split
 
 -- in the end the first expression is the one
 pub terms_last : (names : List NameEntry) (left : List Term) (after rest all : List Expr) (first : Option Expr)
-    → length left ≡ 0 → terms_then names left after ≡ all → MatchOption first ((after ≡ []) × (rest ≡ [])) (λ front. after ≡ front ∷ rest)
+    → length left ≡ 0 → terms_then names left after ≡ all
+    → MatchOption first ((after ≡ []) × (rest ≡ [])) (λ front. after ≡ front ∷ rest)
     → unwrap_or first (expr.Const (pos 0)) ≡ first_or_zero all
 unfolding terms_then
 terms_last names left after rest all first none split popped =
     let whole : after ≡ all = ap (λ terms. terms_then names terms after) (sym (nil_from_length left none)) ∙ split in
     of_first first popped ∙ ap first_or_zero whole where
-      of_first : (o : Option Expr) → MatchOption o ((after ≡ []) × (rest ≡ [])) (λ front. after ≡ front ∷ rest) → unwrap_or o (expr.Const (pos 0)) ≡ first_or_zero after
+      of_first : (o : Option Expr) → MatchOption o ((after ≡ []) × (rest ≡ [])) (λ front. after ≡ front ∷ rest)
+          → unwrap_or o (expr.Const (pos 0)) ≡ first_or_zero after
       of_first None is = ap first_or_zero (sym is.0)
       of_first (Some front) is = ap first_or_zero (sym is)

@@ -79,8 +79,8 @@ statement_of (Stmt-F.Repeat turns x) first second = s.Repeat turns first
 statement_of (Stmt-F.Out expr) first second = s.Out expr
 statement_of (Stmt-F.Service call) first second = s.Service call
 
--- what stands from a row on up to the end that closes the innermost open thing: the statements from there on, up to an `else`
--- that stands between, and those after that `else`
+-- what stands from a row on up to the end that closes the innermost open thing: the statements from there on, up to
+-- an `else` that stands between, and those after that `else`
 pub record Branches : Type 0 where
   pub first : List Stmt
   pub second : List Stmt
@@ -155,4 +155,5 @@ body_of (Some owner) rest = Some (record { owner = owner; body = first_branch re
 -- the owners that rows declare, each with its body
 abbrev pub bodies_of : List NameEntry → List NumberedRow → List (At BodyPart)
 bodies_of names [] = []
-bodies_of names (row ∷ rows) = at_then row.line (body_of (owner_in row.row) (branches_from names rows)) (bodies_of names rows)
+bodies_of names (row ∷ rows) =
+    at_then row.line (body_of (owner_in row.row) (branches_from names rows)) (bodies_of names rows)

@@ -1,4 +1,5 @@
--- What rows say beside names and bodies: numbers, initial values, demands, rows of dispatcher tables, and what comes from outside.
+-- What rows say beside names and bodies: numbers, initial values, demands, rows of dispatcher tables, and what comes
+-- from outside.
 use Rattle.std.specs.Prelude.{ℕ, ℤ, Bool, true, false, List, Option, Some, None}
 use Rattle.tt_base.specs.declared.names.NameEntry.{NameEntry}
 use Rattle.tt_base.specs.declared.number.ModeNo.{ModeNo}
@@ -35,14 +36,16 @@ demand_in row = None
 abbrev pub activates : List NameEntry → ℕ → List ℕ → List ℕ → ℕ → Bool → Option Entry
 activates names offset mode task deadline stringent =
     Some (entry.Activates (record { 0 = number_named names mode })
-    (record { offset = offset; task = record { 0 = number_named names task }; deadline = deadline; stringent = stringent }))
+    (record { offset = offset; task = record { 0 = number_named names task }; deadline = deadline; stringent =
+        stringent }))
 
 -- a row of a dispatcher table
 abbrev pub entry_in : List NameEntry → Row → Option Entry
 entry_in names (r.AtStringent offset mode task deadline) = activates names offset mode task deadline true
 entry_in names (r.AtNonstringent offset mode task deadline) = activates names offset mode task deadline false
 entry_in names (r.AtEnable offset mode isr) =
-    Some (entry.Enables (record { 0 = number_named names mode }) (record { offset = offset; isr = record { 0 = number_named names isr } }))
+    Some (entry.Enables (record { 0 = number_named names mode })
+        (record { offset = offset; isr = record { 0 = number_named names isr } }))
 entry_in names row = None
 
 -- the mode at tick 0
@@ -57,7 +60,8 @@ rounds_in row = None
 
 -- the next value of a demand
 abbrev pub value_in : List NameEntry → Row → Option Value
-value_in names (r.Value demand ticks) = Some (record { demand = record { 0 = number_named names demand }; ticks = ticks })
+value_in names (r.Value demand ticks) =
+    Some (record { demand = record { 0 = number_named names demand }; ticks = ticks })
 value_in names row = None
 
 -- an interrupt

@@ -21,8 +21,3 @@ at_then line (Some part) rest = record { line = line; part = part } ∷ rest
 abbrev pub each_at : {A : Type 0} → (Row → Option A) → List NumberedRow → List (At A)
 each_at part_of [] = []
 each_at part_of (row ∷ rows) = at_then row.line (part_of row.row) (each_at part_of rows)
-
--- what each part gives, in order
-abbrev pub chosen : {A B : Type 0} → (A → Option B) → List (At A) → List (At B)
-chosen part_of [] = []
-chosen part_of (x ∷ xs) = at_then x.line (part_of x.part) (chosen part_of xs)

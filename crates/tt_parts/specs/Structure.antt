@@ -41,8 +41,8 @@ after_else (Body kind) outer = None
 after_else Else outer = None
 after_else Repeat outer = None
 
--- the stack of what is open after a row, an entry each, the innermost first; None where the row may not stand: a top row stands only where nothing is
--- open, and a row of a body only where something is
+-- the stack of what is open after a row, an entry each, the innermost first; None where the row may not stand: a top
+-- row stands only where nothing is open, and a row of a body only where something is
 abbrev pub stack_after : List Open → Standing → Option (List Open)
 stack_after [] Top = Some []
 stack_after [] (Opener kind) = Some (Body kind ∷ [])

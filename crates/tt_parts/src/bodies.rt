@@ -23,8 +23,8 @@ use tt_rows::{NumberedRow, Row};
 pub enum Owner {
     /// A time-triggered task: its stack words.
     Task(u64),
-    /// A time-triggered interrupt service routine: its level, its stack words, and the least distance of two of
-    /// its interrupts in ticks, where one is declared.
+    /// A time-triggered interrupt service routine: its level, its stack words, and the least
+    /// distance of two of its interrupts in ticks, where one is declared.
     Isr(u64, u64, Option<u64>),
     /// A task of the OSEK subsystem: its priority, and whether it is ready at tick 0.
     Osek(u64, bool),
@@ -43,8 +43,8 @@ pub struct BodyPart {
     pub body: Body,
 }
 
-/// The statements of a body or a block from some row on, up to an `else` that stands between, and those after that
-/// `else`.
+/// The statements of a body or a block from some row on, up to an `else` that stands between, and
+/// those after that `else`.
 #[derive(Debug, Drop)]
 struct Block {
     first: FrontList<Stmt>,
@@ -60,7 +60,8 @@ impl Model for Block {
 
     ghost Value = { Branches };
 
-    ghost coded = { code_by (List Stmt × List Stmt) (coded× (coded_list stmt.the_row.coded) (coded_list stmt.the_row.coded))
+    ghost coded = { code_by (List Stmt × List Stmt)
+        (coded× (coded_list stmt.the_row.coded) (coded_list stmt.the_row.coded))
         (λ b. (b.first, b.second)) (λ p. record { first = p.0; second = p.1 }) (λ _. refl) };
 
     ghost view = { λ b. record { first = b.first; second = b.second } };

@@ -11,8 +11,8 @@ use task_lang::{Expr, Op};
 use tt_base::{Memory, Names, VarNo};
 use tt_rows::Term;
 
-/// The expression that terms are, in time that is linear in the terms times a look-up. Terms are read from the last to the first,
-/// so that an operator finds its two expressions after it.
+/// The expression that terms are, in time that is linear in the terms times a look-up. Terms are
+/// read from the last to the first, so that an operator finds its two expressions after it.
 pub(crate) fn expression_of(alloc: Global, names: &Names, terms: &[Term]) -> Result<Expr, Memory>
     ensures { IfOk result (λ expr. expr ≡ expression_of names.now terms.now) }
 {

@@ -44,7 +44,8 @@ impl<T> FrontList<T> {
 
     /// Takes the front item.
     pub fn pop_front(&mut self) -> Option<T>
-        ensures { MatchOption result ((self.old ≡ []) × (self.new ≡ [])) (λ front. self.old ≡ front ∷ self.new) }
+        ensures { MatchOption result ((self.old ≡ []) × (self.new ≡ []))
+            (λ front. self.old ≡ front ∷ self.new) }
     {
         self.reversed.pop()
     }

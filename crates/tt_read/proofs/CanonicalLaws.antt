@@ -35,7 +35,8 @@ plain_word : (word : List ℕ) → is_word word ≡ true → list_all is_plain_b
 plain_word word one plain = and_from (is_word word) (list_all is_plain_byte word) one plain
 
 within : (low high c : ℕ) → (nat_le low c && nat_le c high) ≡ true → (low ≤ c) × (c ≤ high)
-within low high c h = let parts = and_parts (nat_le low c) (nat_le c high) h in (leb-true low c parts.0, leb-true c high parts.1)
+within low high c h = let parts = and_parts (nat_le low c) (nat_le c high) h in
+    (leb-true low c parts.0, leb-true c high parts.1)
 
 letter_range : (c : ℕ) → is_letter c ≡ true → (33 ≤ c) × (c ≤ 126)
 letter_range c h =
@@ -58,9 +59,11 @@ plain_byte : (c : ℕ) → 33 ≤ c → c ≤ 126 → is_plain_byte c ≡ true
 plain_byte c low high = and_from (nat_le 32 c) (nat_le c 126) (le-leb 32 c (omega arith)) (le-leb c 126 high)
 
 no_space_in_front : (c : ℕ) (rest : List ℕ) → 33 ≤ c → has_no_space rest ≡ true → has_no_space (c ∷ rest) ≡ true
-no_space_in_front c rest low clean = cond-false (c == 32) false (has_no_space rest) (ne_eqb c 32 (λ e. omega arith)) ∙ clean
+no_space_in_front c rest low clean = cond-false (c == 32) false (has_no_space rest) (ne_eqb c 32 (λ e. omega arith))
+    ∙ clean
 
-plain_name_bytes : (text : List ℕ) → list_all is_name_byte text ≡ true → (has_no_space text ≡ true) × (list_all is_plain_byte text ≡ true)
+plain_name_bytes : (text : List ℕ) → list_all is_name_byte text ≡ true
+    → (has_no_space text ≡ true) × (list_all is_plain_byte text ≡ true)
 plain_name_bytes [] all = (refl, refl)
 plain_name_bytes (c ∷ rest) all =
     let parts = and_parts (is_name_byte c) (list_all is_name_byte rest) all in
@@ -86,15 +89,18 @@ op_is_plain_word _ = refl
 
 term_is_plain_word : (t : Term) → is_sound_term t ≡ true → is_plain_word (term_word t) ≡ true
 term_is_plain_word (term.Int value) sound =
-    plain_word (signed_decimal value) (signed_decimal_is_word value (fits_from_integer value sound)) (signed_decimal_is_plain value (fits_from_integer value sound))
+    plain_word (signed_decimal value) (signed_decimal_is_word value (fits_from_integer value sound))
+        (signed_decimal_is_plain value (fits_from_integer value sound))
 term_is_plain_word (term.Name name) sound = name_is_plain_word name sound
 term_is_plain_word (term.Op op) sound = op_is_plain_word op
 
-terms_are_plain_words : (terms : List Term) → list_all is_sound_term terms ≡ true → list_all is_plain_word (map term_word terms) ≡ true
+terms_are_plain_words : (terms : List Term) → list_all is_sound_term terms ≡ true
+    → list_all is_plain_word (map term_word terms) ≡ true
 terms_are_plain_words [] sound = refl
 terms_are_plain_words (t ∷ terms) sound =
     let parts = and_parts (is_sound_term t) (list_all is_sound_term terms) sound in
-    and_from (is_plain_word (term_word t)) (list_all is_plain_word (map term_word terms)) (term_is_plain_word t parts.0) (terms_are_plain_words terms parts.1)
+    and_from (is_plain_word (term_word t)) (list_all is_plain_word (map term_word terms))
+        (term_is_plain_word t parts.0) (terms_are_plain_words terms parts.1)
 
 -- the words of the language are plain
 abbrev is_plain_key : Item → Bool
@@ -105,13 +111,16 @@ keys_are_plain : (row : Row) → list_all is_plain_key (items_of row) ≡ true
 keys_are_plain r.Header = refl
 keys_are_plain _ = refl
 
-item_is_plain : (item : Item) → is_plain_key item ≡ true → is_sound_item item ≡ true → list_all is_plain_word (words_of_item item) ≡ true
+item_is_plain : (item : Item) → is_plain_key item ≡ true → is_sound_item item ≡ true
+    → list_all is_plain_word (words_of_item item) ≡ true
 item_is_plain (Key word) key sound = and_from (is_plain_word word) true key refl
 item_is_plain (Number n) key sound =
     let small = ltb-true n (10 ^ 12) sound in
-    and_from (is_plain_word (decimal n)) true (plain_word (decimal n) (decimal_is_word n small) (decimal_is_plain n small)) refl
+    and_from (is_plain_word (decimal n)) true
+        (plain_word (decimal n) (decimal_is_word n small) (decimal_is_plain n small)) refl
 item_is_plain (Named name) key sound = and_from (is_plain_word name) true (name_is_plain_word name sound) refl
-item_is_plain (Integer value) key sound = and_from (is_plain_word (signed_decimal value)) true (term_is_plain_word (term.Int value) sound) refl
+item_is_plain (Integer value) key sound =
+    and_from (is_plain_word (signed_decimal value)) true (term_is_plain_word (term.Int value) sound) refl
 item_is_plain (Expression terms) key sound =
     terms_are_plain_words terms (and_parts (list_all is_sound_term terms) (are_expressions 1 terms) sound).0
 
@@ -156,13 +165,16 @@ good_line row sound =
     let again = words_of-joined (spelling_of row) words.0 in
     let no_comment = spelling_is_no_comment row in
     let is_row = row_of-spelled (spelling_of row) row (record { spelled = refl; sound = sound }) in
-    let read : row_of_words (spelling_of row) ≡ Some row = cond-false (is_comment (spelling_of row)) None (row_of (spelling_of row)) no_comment ∙ is_row in
+    let read : row_of_words (spelling_of row) ≡ Some row =
+        cond-false (is_comment (spelling_of row)) None (row_of (spelling_of row)) no_comment ∙ is_row in
     let fine : word_fault (spelling_of row) ≡ None =
-    cond-false (is_comment (spelling_of row)) None (cond (is_some (row_of (spelling_of row))) None (Some kind.Row)) no_comment
+    cond-false (is_comment (spelling_of row)) None
+        (cond (is_some (row_of (spelling_of row))) None (Some kind.Row)) no_comment
     ∙ ap (λ o. cond (is_some o) None (Some kind.Row)) is_row in
     record {
       plain = plain;
-      good = ap (λ o. fault_by o (words_of (line_of_row row))) (fault_of-plain (line_of_row row) plain (leb-true (length (line_of_row row)) 200 parts.1))
+      good = ap (λ o. fault_by o (words_of (line_of_row row)))
+          (fault_of-plain (line_of_row row) plain (leb-true (length (line_of_row row)) 200 parts.1))
           ∙ ap word_fault again ∙ fine;
       read = ap row_of_words again ∙ read;
     }
@@ -185,9 +197,11 @@ no_fault : (n : ℕ) (rows : List NumberedRow) → all_sound rows ≡ true → f
 no_fault n [] sound = refl
 no_fault n (row ∷ rows) sound =
     let parts = and_parts (is_sound_row row.row) (all_sound rows) sound in
-    ap (λ o. fault_or n o (first_fault (n + 1) (map line_of rows))) (good_line row.row parts.0).good ∙ no_fault (n + 1) rows parts.1
+    ap (λ o. fault_or n o (first_fault (n + 1) (map line_of rows))) (good_line row.row parts.0).good
+        ∙ no_fault (n + 1) rows parts.1
 
-same_rows : (n : ℕ) (rows : List NumberedRow) → all_sound rows ≡ true → rows_of n (map line_of rows) ≡ numbered_from n rows
+same_rows : (n : ℕ) (rows : List NumberedRow) → all_sound rows ≡ true
+    → rows_of n (map line_of rows) ≡ numbered_from n rows
 same_rows n [] sound = refl
 same_rows n (row ∷ rows) sound =
     let parts = and_parts (is_sound_row row.row) (all_sound rows) sound in
@@ -195,18 +209,22 @@ same_rows n (row ∷ rows) sound =
     ∙ ap (λ later. record { line = n; row = row.row } ∷ later) (same_rows (n + 1) rows parts.1)
 
 -- the canonical text of sound rows is read as these rows, in lines 1, 2, 3 and so on
-pub document_of-canonical_text : (rows : List NumberedRow) → AreSound rows → document_of (canonical_text rows) ≡ Rows (numbered_from 1 rows)
+pub document_of-canonical_text : (rows : List NumberedRow) → AreSound rows
+    → document_of (canonical_text rows) ≡ Rows (numbered_from 1 rows)
 document_of-canonical_text rows sound =
     ap (λ lines. document_by (first_fault 1 lines) (rows_of 1 lines)) (lines_of_text rows sound.sound)
     ∙ ap (λ fault. document_by fault (rows_of 1 (map line_of rows))) (no_fault 1 rows sound.sound)
     ∙ ap Rows (same_rows 1 rows sound.sound)
 
-canonical_text-numbered_from : (n : ℕ) (rows : List NumberedRow) → canonical_text (numbered_from n rows) ≡ canonical_text rows
+canonical_text-numbered_from : (n : ℕ) (rows : List NumberedRow)
+    → canonical_text (numbered_from n rows) ≡ canonical_text rows
 canonical_text-numbered_from n [] = refl
-canonical_text-numbered_from n (row ∷ rows) = ap (λ text. (line_of_row row.row ++ 10 ∷ []) ++ text) (canonical_text-numbered_from (n + 1) rows)
+canonical_text-numbered_from n (row ∷ rows) =
+    ap (λ text. (line_of_row row.row ++ 10 ∷ []) ++ text) (canonical_text-numbered_from (n + 1) rows)
 
 -- the rows of a shown text are shown as that text
-pub canonical_text-again : (rows again : List NumberedRow) → AreSound rows → document_of (canonical_text rows) ≡ Rows again
+pub canonical_text-again : (rows again : List NumberedRow) → AreSound rows
+    → document_of (canonical_text rows) ≡ Rows again
     → canonical_text again ≡ canonical_text rows
 canonical_text-again rows again sound is =
     let two : Rows (numbered_from 1 rows) ≡ Rows again = sym (document_of-canonical_text rows sound) ∙ is in

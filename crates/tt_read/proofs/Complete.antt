@@ -72,7 +72,8 @@ reads_end : (row : Row) (next : Reader) → Reads (stop_or row next) [] row
 unfolding stop_or
 reads_end row next = record { at = λ sound. refl }
 
-reads_one : {A : Type 0} (read : List ℕ → Option A) (next : A → Reader) (word : List ℕ) (a : A) (words : List (List ℕ)) (row : Row)
+reads_one : {A : Type 0} (read : List ℕ → Option A) (next : A → Reader) (word : List ℕ) (a : A)
+    (words : List (List ℕ)) (row : Row)
     → read word ≡ Some a → next a words ≡ Some row → one read next (word ∷ words) ≡ Some row
 unfolding one
 reads_one read next word a words row is later = ap (λ o. with_some next o words) is ∙ later
@@ -80,14 +81,17 @@ reads_one read next word a words row is later = ap (λ o. with_some next o words
 reads_keyword : (next : Keyword → Reader) (key : Keyword) (items : List Item) (row : Row) → Reads (next key) items row
     → Reads (keyword next) (Key (keyword_text key) ∷ items) row
 reads_keyword next key items row later = record {
-  at = λ sound. reads_one keyword_of next (keyword_text key) key (flat_map words_of_item items) row (keyword_of-text key) (later.at sound);
+  at = λ sound. reads_one keyword_of next (keyword_text key) key (flat_map words_of_item items) row
+      (keyword_of-text key) (later.at sound);
 }
 
-reads_number : (next : ℕ → Reader) (n : ℕ) (items : List Item) (row : Row) → Reads (next n) items row → Reads (number next) (Number n ∷ items) row
+reads_number : (next : ℕ → Reader) (n : ℕ) (items : List Item) (row : Row) → Reads (next n) items row
+    → Reads (number next) (Number n ∷ items) row
 reads_number next n items row later = record {
   at = λ sound.
       let parts = and_parts (nat_lt n (10 ^ 12)) (list_all is_sound_item items) sound in
-      reads_one number_of next (decimal n) n (flat_map words_of_item items) row (number_of-decimal n (ltb-true n (10 ^ 12) parts.0)) (later.at parts.1);
+      reads_one number_of next (decimal n) n (flat_map words_of_item items) row
+          (number_of-decimal n (ltb-true n (10 ^ 12) parts.0)) (later.at parts.1);
 }
 
 reads_integer : (next : ℤ → Reader) (value : ℤ) (items : List Item) (row : Row) → Reads (next value) items row
@@ -104,11 +108,13 @@ reads_name : (next : List ℕ → Reader) (text : List ℕ) (items : List Item) 
 reads_name next text items row later = record {
   at = λ sound.
       let parts = and_parts (is_name text) (list_all is_sound_item items) sound in
-      reads_one name_of next text text (flat_map words_of_item items) row (cond-true (is_name text) (Some text) None parts.0) (later.at parts.1);
+      reads_one name_of next text text (flat_map words_of_item items) row
+          (cond-true (is_name text) (Some text) None parts.0) (later.at parts.1);
 }
 
 -- where something follows, the reader of what follows goes on
-reads_on : (before : Row) (next : Reader) (item : Item) (word : List ℕ) (items : List Item) (row : Row) → words_of_item item ≡ word ∷ []
+reads_on : (before : Row) (next : Reader) (item : Item) (word : List ℕ) (items : List Item) (row : Row)
+    → words_of_item item ≡ word ∷ []
     → Reads next (item ∷ items) row → Reads (stop_or before next) (item ∷ items) row
 unfolding stop_or
 reads_on before next item word items row is later = record {
@@ -117,7 +123,8 @@ reads_on before next item word items row is later = record {
       ∙ ap (λ ws. next (ws ++ flat_map words_of_item items)) (sym is) ∙ later.at sound;
 }
 
-reads_expression : (build : List Term → Row) (terms : List Term) → Reads (expression build) (Expression terms ∷ []) (build terms)
+reads_expression : (build : List Term → Row) (terms : List Term)
+    → Reads (expression build) (Expression terms ∷ []) (build terms)
 unfolding expression
 reads_expression build terms = record {
   at = λ sound.
@@ -133,18 +140,28 @@ reads_row r.Header = reads_keyword after_first k.Osektime _ _ (reads_keyword _ k
 reads_row (r.Round ticks) = reads_keyword after_first k.Round _ _ (reads_number _ _ _ _ (reads_stop _))
 reads_row (r.Adjust most) = reads_keyword after_first k.Adjust _ _ (reads_number _ _ _ _ (reads_stop _))
 reads_row (r.Mode mode) = reads_keyword after_first k.Mode _ _ (reads_name _ _ _ _ (reads_stop _))
-reads_row (r.Var var value) = reads_keyword after_first k.Var _ _ (reads_name _ _ _ _ (reads_integer _ _ _ _ (reads_stop _)))
+reads_row (r.Var var value) =
+    reads_keyword after_first k.Var _ _ (reads_name _ _ _ _ (reads_integer _ _ _ _ (reads_stop _)))
 reads_row (r.Demand demand most usual) =
-    reads_keyword after_first k.Demand _ _ (reads_name _ _ _ _ (reads_number _ _ _ _ (reads_number _ _ _ _ (reads_stop _))))
-reads_row (r.Task task stack) = reads_keyword after_first k.Task _ _ (reads_name _ _ _ _ (reads_number _ _ _ _ (reads_stop _)))
+    reads_keyword after_first k.Demand _ _
+        (reads_name _ _ _ _ (reads_number _ _ _ _ (reads_number _ _ _ _ (reads_stop _))))
+reads_row (r.Task task stack) =
+    reads_keyword after_first k.Task _ _ (reads_name _ _ _ _ (reads_number _ _ _ _ (reads_stop _)))
 reads_row (r.Isr isr level stack) =
-    reads_keyword after_first k.Isr _ _ (reads_name _ _ _ _ (reads_number _ _ _ _ (reads_number _ _ _ _ (reads_end _ _))))
+    reads_keyword after_first k.Isr _ _
+        (reads_name _ _ _ _ (reads_number _ _ _ _ (reads_number _ _ _ _ (reads_end _ _))))
 reads_row (r.IsrFar isr level stack distance) =
-    reads_keyword after_first k.Isr _ _ (reads_name _ _ _ _ (reads_number _ _ _ _ (reads_number _ _ _ _ (reads_on _ _ _ _ _ _ refl (reads_number _ _ _ _ (reads_stop _))))))
-reads_row (r.Osek task priority) = reads_keyword after_first k.Osek _ _ (reads_name _ _ _ _ (reads_number _ _ _ _ (reads_end _ _)))
+    reads_keyword after_first k.Isr _ _
+        (reads_name _ _ _ _ (reads_number _ _ _ _
+        (reads_number _ _ _ _ (reads_on _ _ _ _ _ _ refl (reads_number _ _ _ _ (reads_stop _))))))
+reads_row (r.Osek task priority) =
+    reads_keyword after_first k.Osek _ _ (reads_name _ _ _ _ (reads_number _ _ _ _ (reads_end _ _)))
 reads_row (r.OsekAuto task priority) =
-    reads_keyword after_first k.Osek _ _ (reads_name _ _ _ _ (reads_number _ _ _ _ (reads_on _ _ _ _ _ _ refl (reads_keyword _ k.Auto _ _ (reads_stop _)))))
-reads_row (r.Oisr oisr priority) = reads_keyword after_first k.Oisr _ _ (reads_name _ _ _ _ (reads_number _ _ _ _ (reads_stop _)))
+    reads_keyword after_first k.Osek _ _
+        (reads_name _ _ _ _ (reads_number _ _ _ _
+        (reads_on _ _ _ _ _ _ refl (reads_keyword _ k.Auto _ _ (reads_stop _)))))
+reads_row (r.Oisr oisr priority) =
+    reads_keyword after_first k.Oisr _ _ (reads_name _ _ _ _ (reads_number _ _ _ _ (reads_stop _)))
 reads_row r.HookError = reads_keyword after_first k.Hook _ _ (reads_keyword _ k.Error _ _ (reads_stop _))
 reads_row r.HookShutdown = reads_keyword after_first k.Hook _ _ (reads_keyword _ k.Shutdown _ _ (reads_stop _))
 reads_row (r.AtStringent offset mode task deadline) =
@@ -154,15 +171,19 @@ reads_row (r.AtNonstringent offset mode task deadline) =
     reads_keyword after_first k.At _ _ (reads_number _ _ _ _ (reads_name _ _ _ _ (reads_keyword _ k.Activate _ _
     (reads_name _ _ _ _ (reads_number _ _ _ _ (reads_keyword _ k.Nonstringent _ _ (reads_stop _)))))))
 reads_row (r.AtEnable offset mode isr) =
-    reads_keyword after_first k.At _ _ (reads_number _ _ _ _ (reads_name _ _ _ _ (reads_keyword _ k.Enable _ _ (reads_name _ _ _ _ (reads_stop _)))))
+    reads_keyword after_first k.At _ _
+        (reads_number _ _ _ _ (reads_name _ _ _ _ (reads_keyword _ k.Enable _ _ (reads_name _ _ _ _ (reads_stop _)))))
 reads_row (r.Start mode) = reads_keyword after_first k.Start _ _ (reads_name _ _ _ _ (reads_stop _))
 reads_row (r.Rounds count) = reads_keyword after_first k.Rounds _ _ (reads_number _ _ _ _ (reads_stop _))
-reads_row (r.Value demand value) = reads_keyword after_first k.Value _ _ (reads_name _ _ _ _ (reads_number _ _ _ _ (reads_stop _)))
-reads_row (r.Arrive source tick) = reads_keyword after_first k.Arrive _ _ (reads_name _ _ _ _ (reads_number _ _ _ _ (reads_stop _)))
+reads_row (r.Value demand value) =
+    reads_keyword after_first k.Value _ _ (reads_name _ _ _ _ (reads_number _ _ _ _ (reads_stop _)))
+reads_row (r.Arrive source tick) =
+    reads_keyword after_first k.Arrive _ _ (reads_name _ _ _ _ (reads_number _ _ _ _ (reads_stop _)))
 reads_row (r.Time global) = reads_keyword after_first k.Time _ _ (reads_number _ _ _ _ (reads_stop _))
 reads_row (r.Work ticks) = reads_keyword after_first k.Work _ _ (reads_number _ _ _ _ (reads_stop _))
 reads_row (r.Take demand) = reads_keyword after_first k.Take _ _ (reads_name _ _ _ _ (reads_stop _))
-reads_row (r.Set var terms) = reads_keyword after_first k.Set _ _ (reads_name _ _ _ _ (reads_expression (λ terms. r.Set var terms) terms))
+reads_row (r.Set var terms) =
+    reads_keyword after_first k.Set _ _ (reads_name _ _ _ _ (reads_expression (λ terms. r.Set var terms) terms))
 reads_row (r.If terms) = reads_keyword after_first k.If _ _ (reads_expression (λ terms. r.If terms) terms)
 reads_row r.Else = reads_keyword after_first k.Else _ _ (reads_stop _)
 reads_row (r.Repeat turns) = reads_keyword after_first k.Repeat _ _ (reads_number _ _ _ _ (reads_stop _))
@@ -179,7 +200,8 @@ reads_row r.Terminate = reads_keyword after_first k.Terminate _ _ (reads_stop _)
 pub row_of-spelled : (words : List (List ℕ)) (row : Row) → Spells words row → row_of words ≡ Some row
 unfolding row_of
 row_of-spelled words row spells =
-    let parts = and_parts (list_all is_sound_item (items_of row)) (nat_le (length (line_of_row row)) 200) spells.sound in
+    let parts = and_parts (list_all is_sound_item (items_of row))
+        (nat_le (length (line_of_row row)) 200) spells.sound in
     ap row_of (sym spells.spelled)
     ∙ cond-true (nat_le (length (line_of_row row)) 200) (row_by_words (spelling_of row)) None parts.1
     ∙ (reads_row row).at parts.0

@@ -14,38 +14,48 @@ pub record Parsed (all : List (List ℕ)) (terms : List Term) (expected : ℕ) (
   pub whole : (later : List Term) → are_expressions 1 (terms ++ later) ≡ are_expressions expected later
   pub few : expected + length left ≤ length all + 1
 
-after_term : (t : Term) (expected : ℕ) (later : List Term) → 0 < expected → are_expressions expected (t ∷ later) ≡ are_expressions (expected_after t expected) later
+after_term : (t : Term) (expected : ℕ) (later : List Term) → 0 < expected
+    → are_expressions expected (t ∷ later) ≡ are_expressions (expected_after t expected) later
 after_term t zero later some = absurd (omega arith)
-after_term (term.Int value) (suc n) later some = let one : n ≡ suc n - 1 = omega arith in ap (λ k. are_expressions k later) one
-after_term (term.Name name) (suc n) later some = let one : n ≡ suc n - 1 = omega arith in ap (λ k. are_expressions k later) one
-after_term (term.Op op) (suc n) later some = let two : suc (suc n) ≡ suc n + 1 = omega arith in ap (λ k. are_expressions k later) two
+after_term (term.Int value) (suc n) later some = let one : n ≡ suc n - 1 = omega arith in
+    ap (λ k. are_expressions k later) one
+after_term (term.Name name) (suc n) later some = let one : n ≡ suc n - 1 = omega arith in
+    ap (λ k. are_expressions k later) one
+after_term (term.Op op) (suc n) later some = let two : suc (suc n) ≡ suc n + 1 = omega arith in
+    ap (λ k. are_expressions k later) two
 
-fewer : (t : Term) (expected left all : ℕ) → 0 < expected → expected + (left + 1) ≤ all + 1 → expected_after t expected + left ≤ all + 1
+fewer : (t : Term) (expected left all : ℕ) → 0 < expected → expected + (left + 1) ≤ all + 1
+    → expected_after t expected + left ≤ all + 1
 fewer (term.Int value) expected left all some few = omega arith
 fewer (term.Name name) expected left all some few = omega arith
 fewer (term.Op op) expected left all some few = omega arith
 
 in_front_again : (terms : List Term) (t : Term) (o : Option (List Term))
-    → option_map (λ later. terms ++ later) (term_in_front (Some t) o) ≡ option_map (λ later. (terms ++ t ∷ []) ++ later) o
+    → option_map (λ later. terms ++ later) (term_in_front (Some t) o)
+    ≡ option_map (λ later. (terms ++ t ∷ []) ++ later) o
 in_front_again terms t None = refl
 in_front_again terms t (Some later) = ap (λ whole. Some whole) (sym (append_assoc terms (t ∷ []) later))
 
 more_terms : (all : List (List ℕ)) (terms : List Term) (expected : ℕ) (word : List ℕ) (left : List (List ℕ)) (t : Term)
-    → Parsed all terms expected (word ∷ left) → 0 < expected → term_of word ≡ Some t → Parsed all (terms ++ t ∷ []) (expected_after t expected) left
+    → Parsed all terms expected (word ∷ left) → 0 < expected → term_of word ≡ Some t
+    → Parsed all (terms ++ t ∷ []) (expected_after t expected) left
 more_terms all terms expected word left t parsed some is = record {
   read =
       parsed.read
       ∙ ap (λ o. option_map (λ later. terms ++ later) (term_in_front o (terms_of left))) is
       ∙ in_front_again terms t (terms_of left);
   whole = λ later.
-      ap (are_expressions 1) (append_assoc terms (t ∷ []) later) ∙ parsed.whole (t ∷ later) ∙ after_term t expected later some;
+      ap (are_expressions 1) (append_assoc terms (t ∷ []) later) ∙ parsed.whole (t ∷ later)
+          ∙ after_term t expected later some;
   few = fewer t expected (length left) (length all) some (omega (arith, parsed.few));
 }
 
 -- one term more
-pub parsed_more : {all : List (List ℕ)} {terms : List Term} {expected : ℕ} {words : List (List ℕ)} → Parsed all terms expected words → 0 < expected
+pub parsed_more : {all : List (List ℕ)} {terms : List Term} {expected : ℕ} {words : List (List ℕ)}
+    → Parsed all terms expected words → 0 < expected
     → (word : List ℕ) (left : List (List ℕ)) (t : Term) → words ≡ word ∷ left → Some t ≡ term_of word
-    → (now : List Term) (behind : ℕ) → now ≡ terms ++ t ∷ [] → behind ≡ expected_after t expected → Parsed all now behind left
+    → (now : List Term) (behind : ℕ) → now ≡ terms ++ t ∷ [] → behind ≡ expected_after t expected
+    → Parsed all now behind left
 parsed_more {all} {terms} {expected} parsed some word left t front is now behind same_terms same_expected =
     let P : List Term → Type 0 = λ ts. Parsed all ts behind left in
     subst P (sym same_terms) (subst (λ n. Parsed all (terms ++ t ∷ []) n left) (sym same_expected)

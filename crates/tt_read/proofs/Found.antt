@@ -31,7 +31,8 @@ pub record Finds (front : List Item → List Item) (reader : Reader) : Type 0 wh
   pub at : (words : List (List ℕ)) (row : Row) → reader words ≡ Some row → Found front words row
 
 found_in_front : (front : List Item → List Item) (item : Item) (word : List ℕ) (words : List (List ℕ)) (row : Row)
-    → words_of_item item ≡ word ∷ [] → is_sound_item item ≡ true → Found (λ items. front (item ∷ items)) words row → Found front (word ∷ words) row
+    → words_of_item item ≡ word ∷ [] → is_sound_item item ≡ true → Found (λ items. front (item ∷ items)) words row
+    → Found front (word ∷ words) row
 found_in_front front item word words row one good found = record {
   items = item ∷ found.items;
   whole = found.whole;
@@ -39,7 +40,8 @@ found_in_front front item word words row one good found = record {
   sound = and_from (is_sound_item item) (list_all is_sound_item found.items) good found.sound;
 }
 
-stop_at : (front : List Item → List Item) (row : Row) → items_of row ≡ front [] → (words : List (List ℕ)) (found : Row) → stop row words ≡ Some found
+stop_at : (front : List Item → List Item) (row : Row) → items_of row ≡ front []
+    → (words : List (List ℕ)) (found : Row) → stop row words ≡ Some found
     → Found front words found
 unfolding stop
 stop_at front row whole [] found h =
@@ -62,19 +64,23 @@ stop_or_at front row next whole finds [] found h =
     subst (Found front []) one (record { items = []; whole = whole; spelled = refl; sound = refl })
 stop_or_at front row next whole finds (word ∷ words) found h = finds.at (word ∷ words) found h
 
-pub finds_stop_or : (front : List Item → List Item) (row : Row) (next : Reader) → items_of row ≡ front [] → Finds front next → Finds front (stop_or row next)
+pub finds_stop_or : (front : List Item → List Item) (row : Row) (next : Reader) → items_of row ≡ front []
+    → Finds front next → Finds front (stop_or row next)
 finds_stop_or front row next whole finds = record { at = stop_or_at front row next whole finds }
 
 -- a word is read as a value, and the value's item is spelled by that word
 record Holds {A : Type 0} (read : List ℕ → Option A) (item : A → Item) : Type 0 where
-  at : (word : List ℕ) (a : A) → read word ≡ Some a → (words_of_item (item a) ≡ word ∷ []) × (is_sound_item (item a) ≡ true)
+  at : (word : List ℕ) (a : A) → read word ≡ Some a
+      → (words_of_item (item a) ≡ word ∷ []) × (is_sound_item (item a) ≡ true)
 
-with_some_at : {A : Type 0} (front : List Item → List Item) (read : List ℕ → Option A) (item : A → Item) (next : A → Reader) (o : Option A) (word : List ℕ)
+with_some_at : {A : Type 0} (front : List Item → List Item) (read : List ℕ → Option A) (item : A → Item)
+    (next : A → Reader) (o : Option A) (word : List ℕ)
     → Holds read item → read word ≡ o → ((a : A) → Finds (λ items. front (item a ∷ items)) (next a))
     → (words : List (List ℕ)) (found : Row) → with_some next o words ≡ Some found → Found front (word ∷ words) found
 with_some_at front read item next None word holds is finds words found h = cc
 with_some_at front read item next (Some a) word holds is finds words found h =
-    let parts = holds.at word a is in found_in_front front (item a) word words found parts.0 parts.1 ((finds a).at words found h)
+    let parts = holds.at word a is in
+        found_in_front front (item a) word words found parts.0 parts.1 ((finds a).at words found h)
 
 one_at : {A : Type 0} (front : List Item → List Item) (read : List ℕ → Option A) (item : A → Item) (next : A → Reader)
     → Holds read item → ((a : A) → Finds (λ items. front (item a ∷ items)) (next a))
@@ -84,24 +90,29 @@ one_at front read item next holds finds [] found h = cc
 one_at front read item next holds finds (word ∷ words) found h =
     with_some_at front read item next (read word) word holds refl finds words found h
 
-pub finds_keyword : (front : List Item → List Item) (next : Keyword → Reader) → ((key : Keyword) → Finds (λ items. front (Key (keyword_text key) ∷ items)) (next key))
+pub finds_keyword : (front : List Item → List Item) (next : Keyword → Reader)
+    → ((key : Keyword) → Finds (λ items. front (Key (keyword_text key) ∷ items)) (next key))
     → Finds front (keyword next)
 finds_keyword front next finds = record {
   at = one_at front keyword_of (λ key. Key (keyword_text key)) next
       (record { at = λ word key is. (ap (λ w. w ∷ []) (sym (keyword_of-spelled word key is)), refl) }) finds;
 }
 
-pub finds_number : (front : List Item → List Item) (next : ℕ → Reader) → ((n : ℕ) → Finds (λ items. front (Number n ∷ items)) (next n)) → Finds front (number next)
+pub finds_number : (front : List Item → List Item) (next : ℕ → Reader)
+    → ((n : ℕ) → Finds (λ items. front (Number n ∷ items)) (next n)) → Finds front (number next)
 finds_number front next finds = record {
   at = one_at front number_of Number next
-      (record { at = λ word n is. let parts = number_of-spelled word n is in (ap (λ w. w ∷ []) (sym parts.0), lt-ltb n (10 ^ 12) parts.1) }) finds;
+      (record { at = λ word n is. let parts = number_of-spelled word n is in
+          (ap (λ w. w ∷ []) (sym parts.0), lt-ltb n (10 ^ 12) parts.1) }) finds;
 }
 
-pub finds_integer : (front : List Item → List Item) (next : ℤ → Reader) → ((value : ℤ) → Finds (λ items. front (Integer value ∷ items)) (next value))
+pub finds_integer : (front : List Item → List Item) (next : ℤ → Reader)
+    → ((value : ℤ) → Finds (λ items. front (Integer value ∷ items)) (next value))
     → Finds front (integer next)
 finds_integer front next finds = record {
   at = one_at front integer_of Integer next
-      (record { at = λ word value is. let parts = integer_of-spelled word value is in (ap (λ w. w ∷ []) (sym parts.0), integer_from_fits value parts.1) }) finds;
+      (record { at = λ word value is. let parts = integer_of-spelled word value is in
+          (ap (λ w. w ∷ []) (sym parts.0), integer_from_fits value parts.1) }) finds;
 }
 
 name_of-named : (word text : List ℕ) → name_of word ≡ Some text → (word ≡ text) × (is_name text ≡ true)
@@ -114,35 +125,44 @@ name_of-named word text is =
       | inr e ↦ let none : None ≡ Some text = sym (cond-false (is_name word) (Some word) None e) ∙ is in cc
     ]
 
-pub finds_name : (front : List Item → List Item) (next : List ℕ → Reader) → ((text : List ℕ) → Finds (λ items. front (Named text ∷ items)) (next text))
+pub finds_name : (front : List Item → List Item) (next : List ℕ → Reader)
+    → ((text : List ℕ) → Finds (λ items. front (Named text ∷ items)) (next text))
     → Finds front (name next)
 finds_name front next finds = record {
   at = one_at front name_of Named next
-      (record { at = λ word text is. let parts = name_of-named word text is in (ap (λ w. w ∷ []) (sym parts.0), parts.1) }) finds;
+      (record { at = λ word text is. let parts = name_of-named word text is in
+          (ap (λ w. w ∷ []) (sym parts.0), parts.1) }) finds;
 }
 
-expression_at : (front : List Item → List Item) (build : List Term → Row) → ((terms : List Term) → items_of (build terms) ≡ front (Expression terms ∷ []))
-    → (words : List (List ℕ)) (o : Option (List Term)) (found : Row) → terms_of words ≡ o → option_map build (expression_of o) ≡ Some found → Found front words found
+expression_at : (front : List Item → List Item) (build : List Term → Row)
+    → ((terms : List Term) → items_of (build terms) ≡ front (Expression terms ∷ []))
+    → (words : List (List ℕ)) (o : Option (List Term)) (found : Row) → terms_of words ≡ o
+    → option_map build (expression_of o) ≡ Some found → Found front words found
 expression_at front build whole words None found is h = cc
 expression_at front build whole words (Some terms) found is h =
     elim (cases_Bool (are_expressions 1 terms)) [
       | inl e ↦
-          let same : Some (build terms) ≡ Some found = sym (ap (option_map build) (cond-true (are_expressions 1 terms) (Some terms) None e)) ∙ h in
+          let same : Some (build terms) ≡ Some found =
+              sym (ap (option_map build) (cond-true (are_expressions 1 terms) (Some terms) None e)) ∙ h in
           let one : build terms ≡ found = cc in
           let spells = terms_of-spelled words terms is in
           subst (Found front words) one (record {
             items = Expression terms ∷ [];
             whole = whole terms;
             spelled = append-nil (map _ terms) ∙ spells.spelled;
-            sound = and_from (is_sound_item (Expression terms)) true (and_from (list_all is_sound_term terms) (are_expressions 1 terms) spells.sound e) refl;
+            sound = and_from (is_sound_item (Expression terms)) true
+                (and_from (list_all is_sound_term terms) (are_expressions 1 terms) spells.sound e) refl;
           })
-      | inr e ↦ let none : None ≡ Some found = sym (ap (option_map build) (cond-false (are_expressions 1 terms) (Some terms) None e)) ∙ h in cc
+      | inr e ↦ let none : None ≡ Some found =
+          sym (ap (option_map build) (cond-false (are_expressions 1 terms) (Some terms) None e)) ∙ h in cc
     ]
 
-pub finds_expression : (front : List Item → List Item) (build : List Term → Row) → ((terms : List Term) → items_of (build terms) ≡ front (Expression terms ∷ []))
+pub finds_expression : (front : List Item → List Item) (build : List Term → Row)
+    → ((terms : List Term) → items_of (build terms) ≡ front (Expression terms ∷ []))
     → Finds front (expression build)
 unfolding expression
-finds_expression front build whole = record { at = λ words found h. expression_at front build whole words (terms_of words) found refl h }
+finds_expression front build whole =
+    record { at = λ words found h. expression_at front build whole words (terms_of words) found refl h }
 
 abbrev behind : (List Item → List Item) → Keyword → List Item → List Item
 behind front key items = front (Key (keyword_text key) ∷ items)
@@ -157,20 +177,24 @@ finds_after_hook k.Shutdown = finds_stop _ _ refl
 finds_after_hook _ = finds_fail _
 
 finds_after_priority : (task : List ℕ) (priority : ℕ) (key : Keyword)
-    → Finds (behind (λ items. Key (keyword_text k.Osek) ∷ Named task ∷ Number priority ∷ items) key) (after_priority task priority key)
+    → Finds (behind (λ items. Key (keyword_text k.Osek) ∷ Named task ∷ Number priority ∷ items) key)
+        (after_priority task priority key)
 finds_after_priority task priority k.Auto = finds_stop _ _ refl
 finds_after_priority task priority _ = finds_fail _
 
 finds_after_deadline : (offset : ℕ) (mode task : List ℕ) (deadline : ℕ) (key : Keyword)
-    → Finds (behind (λ items. Key (keyword_text k.At) ∷ Number offset ∷ Named mode ∷ Key (keyword_text k.Activate) ∷ Named task ∷ Number deadline ∷ items) key) (after_deadline offset mode task deadline key)
+    → Finds (behind (λ items. Key (keyword_text k.At) ∷ Number offset ∷ Named mode ∷ Key (keyword_text k.Activate)
+        ∷ Named task ∷ Number deadline ∷ items) key) (after_deadline offset mode task deadline key)
 finds_after_deadline offset mode task deadline k.Stringent = finds_stop _ _ refl
 finds_after_deadline offset mode task deadline k.Nonstringent = finds_stop _ _ refl
 finds_after_deadline offset mode task deadline _ = finds_fail _
 
 finds_after_mode : (offset : ℕ) (mode : List ℕ) (key : Keyword)
-    → Finds (behind (λ items. Key (keyword_text k.At) ∷ Number offset ∷ Named mode ∷ items) key) (after_mode offset mode key)
+    → Finds (behind (λ items. Key (keyword_text k.At) ∷ Number offset ∷ Named mode ∷ items) key)
+        (after_mode offset mode key)
 finds_after_mode offset mode k.Activate =
-    finds_name _ _ (λ task. finds_number _ _ (λ deadline. finds_keyword _ _ (finds_after_deadline offset mode task deadline)))
+    finds_name _ _ (λ task. finds_number _ _
+        (λ deadline. finds_keyword _ _ (finds_after_deadline offset mode task deadline)))
 finds_after_mode offset mode k.Enable = finds_name _ _ (λ isr. finds_stop _ _ refl)
 finds_after_mode offset mode _ = finds_fail _
 
@@ -180,16 +204,19 @@ finds_after_first k.Round = finds_number _ _ (λ length. finds_stop _ _ refl)
 finds_after_first k.Adjust = finds_number _ _ (λ most. finds_stop _ _ refl)
 finds_after_first k.Mode = finds_name _ _ (λ mode. finds_stop _ _ refl)
 finds_after_first k.Var = finds_name _ _ (λ var. finds_integer _ _ (λ value. finds_stop _ _ refl))
-finds_after_first k.Demand = finds_name _ _ (λ demand. finds_number _ _ (λ most. finds_number _ _ (λ usual. finds_stop _ _ refl)))
+finds_after_first k.Demand =
+    finds_name _ _ (λ demand. finds_number _ _ (λ most. finds_number _ _ (λ usual. finds_stop _ _ refl)))
 finds_after_first k.Task = finds_name _ _ (λ task. finds_number _ _ (λ stack. finds_stop _ _ refl))
 finds_after_first k.Isr =
     finds_name _ _ (λ isr. finds_number _ _ (λ level. finds_number _ _ (λ stack.
     finds_stop_or _ _ _ refl (finds_number _ _ (λ distance. finds_stop _ _ refl)))))
 finds_after_first k.Osek =
-    finds_name _ _ (λ task. finds_number _ _ (λ priority. finds_stop_or _ _ _ refl (finds_keyword _ _ (finds_after_priority task priority))))
+    finds_name _ _ (λ task. finds_number _ _
+        (λ priority. finds_stop_or _ _ _ refl (finds_keyword _ _ (finds_after_priority task priority))))
 finds_after_first k.Oisr = finds_name _ _ (λ oisr. finds_number _ _ (λ priority. finds_stop _ _ refl))
 finds_after_first k.Hook = finds_keyword _ _ finds_after_hook
-finds_after_first k.At = finds_number _ _ (λ offset. finds_name _ _ (λ mode. finds_keyword _ _ (finds_after_mode offset mode)))
+finds_after_first k.At = finds_number _ _
+    (λ offset. finds_name _ _ (λ mode. finds_keyword _ _ (finds_after_mode offset mode)))
 finds_after_first k.Start = finds_name _ _ (λ mode. finds_stop _ _ refl)
 finds_after_first k.Rounds = finds_number _ _ (λ count. finds_stop _ _ refl)
 finds_after_first k.Value = finds_name _ _ (λ demand. finds_number _ _ (λ value. finds_stop _ _ refl))
@@ -220,7 +247,8 @@ unfolding row_of
 row_of-spells words row h =
     elim (cases_Bool (nat_le (length (joined words)) 200)) [
       | inl e ↦
-          let found = finds_row.at words row (sym (cond-true (nat_le (length (joined words)) 200) (row_by_words words) None e) ∙ h) in
+          let found = finds_row.at words row
+              (sym (cond-true (nat_le (length (joined words)) 200) (row_by_words words) None e) ∙ h) in
           let spelled : spelling_of row ≡ words = ap (flat_map words_of_item) found.whole ∙ found.spelled in
           record {
             spelled = spelled;
@@ -228,5 +256,6 @@ row_of-spells words row h =
                 (ap (list_all is_sound_item) found.whole ∙ found.sound)
                 (ap (λ ws. nat_le (length (joined ws)) 200) spelled ∙ e);
           }
-      | inr e ↦ let none : None ≡ Some row = sym (cond-false (nat_le (length (joined words)) 200) (row_by_words words) None e) ∙ h in cc
+      | inr e ↦ let none : None ≡ Some row =
+          sym (cond-false (nat_le (length (joined words)) 200) (row_by_words words) None e) ∙ h in cc
     ]

@@ -16,4 +16,5 @@ unfolding row_of
 row_of_line bytes span short inside =
     let words = words_of (text_of bytes span) in
     cond-true (nat_le (length (joined words)) 200) (row_by_words words) None
-    (le-leb (length (joined words)) 200 (omega (arith, length-joined-words_of (text_of bytes span), length-between bytes span.start span.end inside)))
+    (le-leb (length (joined words)) 200
+        (omega (arith, length-joined-words_of (text_of bytes span), length-between bytes span.start span.end inside)))

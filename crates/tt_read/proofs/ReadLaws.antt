@@ -27,7 +27,8 @@ rows_by : (fault : Option Fault) (rows found : List NumberedRow) → document_by
 rows_by None rows found is = cc
 rows_by (Some fault) rows found is = cc
 
-spells_row : (comment : Bool) (words : List (List ℕ)) (row : Row) → cond comment None (row_of words) ≡ Some row → Spells words row
+spells_row : (comment : Bool) (words : List (List ℕ)) (row : Row) → cond comment None (row_of words) ≡ Some row
+    → Spells words row
 spells_row true words row is = cc
 spells_row false words row is = row_of-spells words row is
 
@@ -36,15 +37,19 @@ pub row_of_words-spells : (words : List (List ℕ)) (row : Row) → row_of_words
 row_of_words-spells words row is = spells_row (is_comment words) words row is
 
 sound_then : (line : ℕ) (words : List (List ℕ)) (o : Option Row) (rows : List NumberedRow) → row_of_words words ≡ o
-    → list_all (λ (row : NumberedRow). is_sound_row row.row) rows ≡ true → list_all (λ (row : NumberedRow). is_sound_row row.row) (row_then line o rows) ≡ true
+    → list_all (λ (row : NumberedRow). is_sound_row row.row) rows ≡ true
+    → list_all (λ (row : NumberedRow). is_sound_row row.row) (row_then line o rows) ≡ true
 sound_then line words None rows is sound = sound
 sound_then line words (Some row) rows is sound =
-    and_from (is_sound_row row) (list_all (λ (row : NumberedRow). is_sound_row row.row) rows) (row_of_words-spells words row is).sound sound
+    and_from (is_sound_row row) (list_all (λ (row : NumberedRow). is_sound_row row.row) rows)
+        (row_of_words-spells words row is).sound sound
 
-sound_rows : (line : ℕ) (lines : List Line) → list_all (λ (row : NumberedRow). is_sound_row row.row) (rows_of line lines) ≡ true
+sound_rows : (line : ℕ) (lines : List Line)
+    → list_all (λ (row : NumberedRow). is_sound_row row.row) (rows_of line lines) ≡ true
 sound_rows line [] = refl
 sound_rows line (first ∷ rest) =
-    sound_then line (words_of first.text) (row_of_words (words_of first.text)) (rows_of (line + 1) rest) refl (sound_rows (line + 1) rest)
+    sound_then line (words_of first.text) (row_of_words (words_of first.text)) (rows_of (line + 1) rest) refl
+        (sound_rows (line + 1) rest)
 
 -- rows that ascend from behind a line also do with one of that line in front, or none
 ascend_then : (least line : ℕ) (o : Option Row) (rows : List NumberedRow) → least ≤ line
@@ -56,20 +61,25 @@ ascend_then least line (Some row) rows low later =
 ascending : (line : ℕ) (lines : List Line) (least : ℕ) → least ≤ line → ascend_from least (rows_of line lines) ≡ true
 ascending line [] least low = refl
 ascending line (first ∷ rest) least low =
-    ascend_then least line (row_of_words (words_of first.text)) (rows_of (line + 1) rest) low (ascending (line + 1) rest)
+    ascend_then least line (row_of_words (words_of first.text)) (rows_of (line + 1) rest) low
+        (ascending (line + 1) rest)
 
 -- the rows of a document are sound
 pub document_of-sound : (bytes : List ℕ) (rows : List NumberedRow) → document_of bytes ≡ Rows rows → AreSound rows
 document_of-sound bytes rows is =
     let same = rows_by (first_fault 1 (lines_of bytes)) (rows_of 1 (lines_of bytes)) rows is in
-    subst AreSound same (record { ascending = ascending 1 (lines_of bytes) 1 (omega arith); sound = sound_rows 1 (lines_of bytes) })
+    subst AreSound same (record
+        { ascending = ascending 1 (lines_of bytes) 1 (omega arith); sound = sound_rows 1 (lines_of bytes) })
 
 -- where no line is left, the rows that were read are the document's, and sound
-pub passed_all : {bytes : List ℕ} {lines at : ℕ} {rows : List NumberedRow} → Passed bytes lines at rows → at ≡ length bytes → document_of bytes ≡ Rows rows
+pub passed_all : {bytes : List ℕ} {lines at : ℕ} {rows : List NumberedRow} → Passed bytes lines at rows
+    → at ≡ length bytes → document_of bytes ≡ Rows rows
 passed_all {bytes} {lines} {at} {rows} passed end =
     let none : drop at bytes ≡ [] = drop_all at bytes (omega arith) in
-    ap (λ fault. document_by fault (rows_of 1 (lines_of bytes))) (passed.good ∙ ap (λ text. first_fault (lines + 1) (lines_of text)) none)
+    ap (λ fault. document_by fault (rows_of 1 (lines_of bytes)))
+        (passed.good ∙ ap (λ text. first_fault (lines + 1) (lines_of text)) none)
     ∙ ap Rows (passed.read ∙ ap (λ text. rows ++ rows_of (lines + 1) (lines_of text)) none ∙ append-nil rows)
 
-pub passed_sound : {bytes : List ℕ} {lines at : ℕ} {rows : List NumberedRow} → Passed bytes lines at rows → at ≡ length bytes → AreSound rows
+pub passed_sound : {bytes : List ℕ} {lines at : ℕ} {rows : List NumberedRow} → Passed bytes lines at rows
+    → at ≡ length bytes → AreSound rows
 passed_sound {bytes} {lines} {at} {rows} passed end = document_of-sound bytes rows (passed_all passed end)

@@ -125,7 +125,8 @@ after_deadline offset mode task deadline k.Nonstringent = stop (r.AtNonstringent
 after_deadline offset mode task deadline _ = fail
 
 abbrev pub after_mode : ℕ → List ℕ → Keyword → Reader
-after_mode offset mode k.Activate = name (λ task. number (λ deadline. keyword (after_deadline offset mode task deadline)))
+after_mode offset mode k.Activate =
+    name (λ task. number (λ deadline. keyword (after_deadline offset mode task deadline)))
 after_mode offset mode k.Enable = name (λ isr. stop (r.AtEnable offset mode isr))
 after_mode offset mode _ = fail
 
@@ -147,8 +148,10 @@ plain_after k.Var = name (λ var. integer (λ value. stop (r.Var var value)))
 plain_after k.Demand = name (λ demand. number (λ most. number (λ usual. stop (r.Demand demand most usual))))
 plain_after k.Task = name (λ task. number (λ stack. stop (r.Task task stack)))
 plain_after k.Isr =
-    name (λ isr. number (λ level. number (λ stack. stop_or (r.Isr isr level stack) (number (λ distance. stop (r.IsrFar isr level stack distance))))))
-plain_after k.Osek = name (λ task. number (λ priority. stop_or (r.Osek task priority) (keyword (after_priority task priority))))
+    name (λ isr. number (λ level. number
+        (λ stack. stop_or (r.Isr isr level stack) (number (λ distance. stop (r.IsrFar isr level stack distance))))))
+plain_after k.Osek = name (λ task. number
+    (λ priority. stop_or (r.Osek task priority) (keyword (after_priority task priority))))
 plain_after k.Oisr = name (λ oisr. number (λ priority. stop (r.Oisr oisr priority)))
 plain_after k.Hook = keyword after_hook
 plain_after k.At = number (λ offset. name (λ mode. keyword (after_mode offset mode)))

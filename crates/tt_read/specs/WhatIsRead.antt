@@ -18,8 +18,8 @@ number_of_kind kind.Long = 2
 number_of_kind kind.Cut = 3
 number_of_kind kind.Row = 4
 
--- a line has this fault: a byte outside 0x20 to 0x7E; more than 200 bytes; no LF; or it has words, the first does not begin with
--- `#`, and they spell no row
+-- a line has this fault: a byte outside 0x20 to 0x7E; more than 200 bytes; no LF; or it has words, the first does not
+-- begin with `#`, and they spell no row
 abbrev pub HasFault : Line → FormKind → Type 0
 HasFault line kind.Byte = list_all is_plain_byte line.text ≡ false
 HasFault line kind.Long = 200 < length line.text

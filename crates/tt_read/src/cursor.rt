@@ -57,7 +57,8 @@ impl<'a> Cursor<'a> {
     /// The next word.
     #[inline(always)]
     pub fn word(&mut self) -> Option<&'a [u8]>
-        ensures { MatchOption result ((self.old ≡ []) × (self.new ≡ [])) (λ word. self.old ≡ word.now ∷ self.new) }
+        ensures { MatchOption result ((self.old ≡ []) × (self.new ≡ []))
+            (λ word. self.old ≡ word.now ∷ self.new) }
     {
         self.words.word()
     }

@@ -58,9 +58,12 @@ fn read_line(
     requires inside { span.end ≤ length bytes.now }
 
     ensures good { OnOk result (word_fault (words_of (text_of bytes.now span)) ≡ None) }
-    ensures appended { OnOk result (rows.new ≡ rows.old ++ row_then line (row_of_words (words_of (text_of bytes.now span))) []) }
+    ensures appended { OnOk result
+        (rows.new ≡ rows.old ++ row_then line (row_of_words (words_of (text_of bytes.now span)))
+        []) }
 
-    ensures form { IfErr result (λ fault. IfForm fault (λ form. (form ≡ record { line = line; kind = FormKind.Row })
+    ensures form { IfErr result
+        (λ fault. IfForm fault (λ form. (form ≡ record { line = line; kind = FormKind.Row })
         × (word_fault (words_of (text_of bytes.now span)) ≡ Some FormKind.Row))) }
 {
     match content_at(alloc, bytes, span)? {
@@ -76,8 +79,8 @@ fn read_line(
 /// How many bytes the line of a row has at least, with its LF.
 const LEAST_BYTES: usize = 4;
 
-/// The empty list, with room for the rows of as many bytes: a list that grows would be copied, and room that is not used
-/// is never touched.
+/// The empty list, with room for the rows of as many bytes: a list that grows would be copied, and
+/// room that is not used is never touched.
 fn no_rows(alloc: Global, bytes: usize) -> Result<Rows, Memory>
     ensures { IfOk result (λ rows. rows ≡ []) }
 {
@@ -86,16 +89,18 @@ fn no_rows(alloc: Global, bytes: usize) -> Result<Rows, Memory>
 
 /// The rows of a document, or what is wrong with its form.
 ///
-/// A document is a list of lines, each of which a LF ends. A line has words with spaces around them. Where it has none, or
-/// the first begins with `#`, it is no row, and else its words are a row. What is wrong is the first line that has a
-/// fault, with its least kind. The rows come with the numbers of their lines, counted from 1.
+/// A document is a list of lines, each of which a LF ends. A line has words with spaces around
+/// them. Where it has none, or the first begins with `#`, it is no row, and else its words are a
+/// row. What is wrong is the first line that has a fault, with its least kind. The rows come with
+/// the numbers of their lines, counted from 1.
 pub fn read(alloc: Global, bytes: &[u8]) -> Result<Rows, FormFault>
     requires { length bytes.now < 2 ^ 32 }
 
     ensures rows { IfOk result (λ rows. document_of bytes.now ≡ Document.Rows rows) }
     ensures sound { IfOk result AreSound }
 
-    ensures form { IfErr result (λ fault. IfForm fault (λ form. document_of bytes.now ≡ Document.Faulty form)) }
+    ensures form { IfErr result
+        (λ fault. IfForm fault (λ form. document_of bytes.now ≡ Document.Faulty form)) }
 {
     let mut rows = no_rows(alloc, bytes.len())?;
     let mut at = 0;

@@ -11,7 +11,8 @@ use std::alloc::Global;
 use tt_base::{Memory, Name};
 use tt_rows::Row;
 
-/// The row of a first word and the fields behind it, where they are one. Words may be left behind the fields.
+/// The row of a first word and the fields behind it, where they are one. Words may be left behind
+/// the fields.
 fn plain_row(first: Keyword, words: &mut Cursor) -> Option<Row>
     ensures { finish result words.new ≡ plain_after first words.old }
 {
@@ -129,7 +130,8 @@ fn set(alloc: Global, words: &mut Cursor) -> Result<Option<Row>, Memory>
     Ok(terms.map(|terms| Row::Set(var, terms)))
 }
 
-/// The row of a first word and the fields behind it, where they are one. Words may be left behind the fields.
+/// The row of a first word and the fields behind it, where they are one. Words may be left behind
+/// the fields.
 fn row(alloc: Global, first: Keyword, words: &mut Cursor) -> Result<Option<Row>, Memory>
     requires { length words.old ≤ 100 }
     ensures { IfOk result (λ row. finish row words.new ≡ after_first first words.old) }

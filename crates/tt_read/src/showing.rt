@@ -44,7 +44,8 @@ fn operator_text(op: Op) -> &'static [u8]
 /// Puts a word with a space in front.
 #[inline(always)]
 fn put_word<O: Sink>(word: &[u8], buffer: &mut Buffer, sink: &mut O) -> Result<(), WriteFault>
-    ensures text { Puts result (O.written sink.old) (O.written sink.new) buffer.old buffer.new (spaced word.now) }
+    ensures text { Puts result (O.written sink.old) (O.written sink.new) buffer.old buffer.new
+        (spaced word.now) }
     ensures cause { OnErr result (Rose (O.faults sink.old) (O.faults sink.new)) }
     ensures never_falls { O.faults sink.old ≤ O.faults sink.new }
 {
@@ -54,7 +55,8 @@ fn put_word<O: Sink>(word: &[u8], buffer: &mut Buffer, sink: &mut O) -> Result<(
 
 /// Puts a number as a word with a space in front.
 fn put_number<O: Sink>(number: u64, buffer: &mut Buffer, sink: &mut O) -> Result<(), WriteFault>
-    ensures text { Puts result (O.written sink.old) (O.written sink.new) buffer.old buffer.new (spaced (decimal number)) }
+    ensures text { Puts result (O.written sink.old) (O.written sink.new) buffer.old buffer.new
+        (spaced (decimal number)) }
     ensures cause { OnErr result (Rose (O.faults sink.old) (O.faults sink.new)) }
     ensures never_falls { O.faults sink.old ≤ O.faults sink.new }
 {
@@ -64,7 +66,8 @@ fn put_number<O: Sink>(number: u64, buffer: &mut Buffer, sink: &mut O) -> Result
 
 /// Puts an integer as a word with a space in front.
 fn put_integer<O: Sink>(value: i32, buffer: &mut Buffer, sink: &mut O) -> Result<(), WriteFault>
-    ensures text { Puts result (O.written sink.old) (O.written sink.new) buffer.old buffer.new (spaced (signed_decimal value)) }
+    ensures text { Puts result (O.written sink.old) (O.written sink.new) buffer.old buffer.new
+        (spaced (signed_decimal value)) }
     ensures cause { OnErr result (Rose (O.faults sink.old) (O.faults sink.new)) }
     ensures never_falls { O.faults sink.old ≤ O.faults sink.new }
 {
@@ -74,7 +77,8 @@ fn put_integer<O: Sink>(value: i32, buffer: &mut Buffer, sink: &mut O) -> Result
 
 /// Puts a term of an expression as a word with a space in front.
 fn put_term<O: Sink>(term: &Term, buffer: &mut Buffer, sink: &mut O) -> Result<(), WriteFault>
-    ensures text { Puts result (O.written sink.old) (O.written sink.new) buffer.old buffer.new (spaced_term term.now) }
+    ensures text { Puts result (O.written sink.old) (O.written sink.new) buffer.old buffer.new
+        (spaced_term term.now) }
     ensures cause { OnErr result (Rose (O.faults sink.old) (O.faults sink.new)) }
     ensures never_falls { O.faults sink.old ≤ O.faults sink.new }
 {
@@ -87,7 +91,8 @@ fn put_term<O: Sink>(term: &Term, buffer: &mut Buffer, sink: &mut O) -> Result<(
 
 /// Puts the terms of an expression.
 fn put_terms<O: Sink>(terms: &[Term], buffer: &mut Buffer, sink: &mut O) -> Result<(), WriteFault>
-    ensures text { Puts result (O.written sink.old) (O.written sink.new) buffer.old buffer.new (flat_map spaced_term terms.now) }
+    ensures text { Puts result (O.written sink.old) (O.written sink.new) buffer.old buffer.new
+        (flat_map spaced_term terms.now) }
     ensures cause { OnErr result (Rose (O.faults sink.old) (O.faults sink.new)) }
     ensures never_falls { O.faults sink.old ≤ O.faults sink.new }
 {
@@ -99,7 +104,8 @@ fn put_terms<O: Sink>(terms: &[Term], buffer: &mut Buffer, sink: &mut O) -> Resu
 
 /// Puts a part of a row's line, each word with a space in front.
 fn put_part<O: Sink>(part: &Part, buffer: &mut Buffer, sink: &mut O) -> Result<(), WriteFault>
-    ensures text { Puts result (O.written sink.old) (O.written sink.new) buffer.old buffer.new (spaced_part part.now) }
+    ensures text { Puts result (O.written sink.old) (O.written sink.new) buffer.old buffer.new
+        (spaced_part part.now) }
     ensures cause { OnErr result (Rose (O.faults sink.old) (O.faults sink.new)) }
     ensures never_falls { O.faults sink.old ≤ O.faults sink.new }
 {
@@ -114,7 +120,8 @@ fn put_part<O: Sink>(part: &Part, buffer: &mut Buffer, sink: &mut O) -> Result<(
 
 /// Puts the parts of a row's line behind its first word.
 fn put_parts<O: Sink>(parts: &[Part], buffer: &mut Buffer, sink: &mut O) -> Result<(), WriteFault>
-    ensures text { Puts result (O.written sink.old) (O.written sink.new) buffer.old buffer.new (flat_map spaced_part parts.now) }
+    ensures text { Puts result (O.written sink.old) (O.written sink.new) buffer.old buffer.new
+        (flat_map spaced_part parts.now) }
     ensures cause { OnErr result (Rose (O.faults sink.old) (O.faults sink.new)) }
     ensures never_falls { O.faults sink.old ≤ O.faults sink.new }
 {
@@ -165,7 +172,8 @@ fn first_word(row: &Row) -> Keyword
 
 /// Puts the fields of a row's line behind its first word.
 fn put_fields<O: Sink>(row: &Row, buffer: &mut Buffer, sink: &mut O) -> Result<(), WriteFault>
-    ensures text { Puts result (O.written sink.old) (O.written sink.new) buffer.old buffer.new (flat_map spaced_item (drop 1 (items_of row.now))) }
+    ensures text { Puts result (O.written sink.old) (O.written sink.new) buffer.old buffer.new
+        (flat_map spaced_item (drop 1 (items_of row.now))) }
     ensures cause { OnErr result (Rose (O.faults sink.old) (O.faults sink.new)) }
     ensures never_falls { O.faults sink.old ≤ O.faults sink.new }
 {
@@ -198,7 +206,8 @@ fn put_fields<O: Sink>(row: &Row, buffer: &mut Buffer, sink: &mut O) -> Result<(
 /// Puts the fields of a row's line where there are several.
 fn put_some_fields<O: Sink>(row: &Row, buffer: &mut Buffer, sink: &mut O) -> Result<(), WriteFault>
     requires { 2 < length (items_of row.now) }
-    ensures text { Puts result (O.written sink.old) (O.written sink.new) buffer.old buffer.new (flat_map spaced_item (drop 1 (items_of row.now))) }
+    ensures text { Puts result (O.written sink.old) (O.written sink.new) buffer.old buffer.new
+        (flat_map spaced_item (drop 1 (items_of row.now))) }
     ensures cause { OnErr result (Rose (O.faults sink.old) (O.faults sink.new)) }
     ensures never_falls { O.faults sink.old ≤ O.faults sink.new }
 {
@@ -236,7 +245,8 @@ fn put_some_fields<O: Sink>(row: &Row, buffer: &mut Buffer, sink: &mut O) -> Res
 /// Puts the fields of a row's line where there are more than three.
 fn put_many_fields<O: Sink>(row: &Row, buffer: &mut Buffer, sink: &mut O) -> Result<(), WriteFault>
     requires { 4 < length (items_of row.now) }
-    ensures text { Puts result (O.written sink.old) (O.written sink.new) buffer.old buffer.new (flat_map spaced_item (drop 1 (items_of row.now))) }
+    ensures text { Puts result (O.written sink.old) (O.written sink.new) buffer.old buffer.new
+        (flat_map spaced_item (drop 1 (items_of row.now))) }
     ensures cause { OnErr result (Rose (O.faults sink.old) (O.faults sink.new)) }
     ensures never_falls { O.faults sink.old ≤ O.faults sink.new }
 {
@@ -281,8 +291,10 @@ fn put_activation<O: Sink>(
     buffer: &mut Buffer,
     sink: &mut O,
 ) -> Result<(), WriteFault>
-    ensures text { Puts result (O.written sink.old) (O.written sink.new) buffer.old buffer.new (flat_map spaced_item
-        (Number offset ∷ Named mode ∷ Key (codes "activate") ∷ Named task ∷ Number deadline ∷ Key (keyword_text last) ∷ [])) }
+    ensures text { Puts result (O.written sink.old) (O.written sink.new) buffer.old buffer.new
+        (flat_map spaced_item
+        (Number offset ∷ Named mode ∷ Key (codes "activate") ∷ Named task ∷ Number deadline ∷ Key
+            (keyword_text last) ∷ [])) }
     ensures cause { OnErr result (Rose (O.faults sink.old) (O.faults sink.new)) }
     ensures never_falls { O.faults sink.old ≤ O.faults sink.new }
 {
@@ -299,7 +311,8 @@ fn put_activation<O: Sink>(
 
 /// Puts the line of a row.
 fn put_row<O: Sink>(row: &Row, buffer: &mut Buffer, sink: &mut O) -> Result<(), WriteFault>
-    ensures text { Puts result (O.written sink.old) (O.written sink.new) buffer.old buffer.new (line_of_row row.now ++ 10 ∷ []) }
+    ensures text { Puts result (O.written sink.old) (O.written sink.new) buffer.old buffer.new
+        (line_of_row row.now ++ 10 ∷ []) }
     ensures cause { OnErr result (Rose (O.faults sink.old) (O.faults sink.new)) }
     ensures never_falls { O.faults sink.old ≤ O.faults sink.new }
 {
@@ -314,7 +327,8 @@ fn put_rows<O: Sink>(
     buffer: &mut Buffer,
     sink: &mut O,
 ) -> Result<(), WriteFault>
-    ensures text { Puts result (O.written sink.old) (O.written sink.new) buffer.old buffer.new (canonical_text rows.now) }
+    ensures text { Puts result (O.written sink.old) (O.written sink.new) buffer.old buffer.new
+        (canonical_text rows.now) }
     ensures cause { OnErr result (Rose (O.faults sink.old) (O.faults sink.new)) }
     ensures never_falls { O.faults sink.old ≤ O.faults sink.new }
 {
@@ -324,12 +338,14 @@ fn put_rows<O: Sink>(
     Ok(())
 }
 
-/// Writes the canonical text of the rows: a line for each, of its words with one space between them. It takes no memory.
-/// After a fault a proper prefix of the text was written.
+/// Writes the canonical text of the rows: a line for each, of its words with one space between
+/// them. It takes no memory. After a fault a proper prefix of the text was written.
 pub fn show<O: Sink>(rows: &Rows, sink: &mut O) -> Result<(), WriteFault>
-    ensures ok { OnOk result (Appends (O.written sink.old) (O.written sink.new) (canonical_text rows.now)) }
+    ensures ok { OnOk result (Appends (O.written sink.old) (O.written sink.new)
+        (canonical_text rows.now)) }
 
-    ensures part { OnErr result (AppendsPart (O.written sink.old) (O.written sink.new) (canonical_text rows.now)) }
+    ensures part { OnErr result
+        (AppendsPart (O.written sink.old) (O.written sink.new) (canonical_text rows.now)) }
     ensures cause { OnErr result (Rose (O.faults sink.old) (O.faults sink.new)) }
 
     ensures never_falls { O.faults sink.old ≤ O.faults sink.new }

@@ -27,17 +27,21 @@ items_of (r.Var name value) = Key (codes "var") ∷ Named name ∷ Integer value
 items_of (r.Demand name most usual) = Key (codes "demand") ∷ Named name ∷ Number most ∷ Number usual ∷ []
 items_of (r.Task name stack) = Key (codes "task") ∷ Named name ∷ Number stack ∷ []
 items_of (r.Isr name level stack) = Key (codes "isr") ∷ Named name ∷ Number level ∷ Number stack ∷ []
-items_of (r.IsrFar name level stack distance) = Key (codes "isr") ∷ Named name ∷ Number level ∷ Number stack ∷ Number distance ∷ []
+items_of (r.IsrFar name level stack distance) =
+    Key (codes "isr") ∷ Named name ∷ Number level ∷ Number stack ∷ Number distance ∷ []
 items_of (r.Osek name priority) = Key (codes "osek") ∷ Named name ∷ Number priority ∷ []
 items_of (r.OsekAuto name priority) = Key (codes "osek") ∷ Named name ∷ Number priority ∷ Key (codes "auto") ∷ []
 items_of (r.Oisr name priority) = Key (codes "oisr") ∷ Named name ∷ Number priority ∷ []
 items_of r.HookError = Key (codes "hook") ∷ Key (codes "error") ∷ []
 items_of r.HookShutdown = Key (codes "hook") ∷ Key (codes "shutdown") ∷ []
 items_of (r.AtStringent offset mode task deadline) =
-    Key (codes "at") ∷ Number offset ∷ Named mode ∷ Key (codes "activate") ∷ Named task ∷ Number deadline ∷ Key (codes "stringent") ∷ []
+    Key (codes "at") ∷ Number offset ∷ Named mode ∷ Key (codes "activate") ∷ Named task ∷ Number deadline ∷ Key
+        (codes "stringent") ∷ []
 items_of (r.AtNonstringent offset mode task deadline) =
-    Key (codes "at") ∷ Number offset ∷ Named mode ∷ Key (codes "activate") ∷ Named task ∷ Number deadline ∷ Key (codes "nonstringent") ∷ []
-items_of (r.AtEnable offset mode isr) = Key (codes "at") ∷ Number offset ∷ Named mode ∷ Key (codes "enable") ∷ Named isr ∷ []
+    Key (codes "at") ∷ Number offset ∷ Named mode ∷ Key (codes "activate") ∷ Named task ∷ Number deadline ∷ Key
+        (codes "nonstringent") ∷ []
+items_of (r.AtEnable offset mode isr) =
+    Key (codes "at") ∷ Number offset ∷ Named mode ∷ Key (codes "enable") ∷ Named isr ∷ []
 items_of (r.Start mode) = Key (codes "start") ∷ Named mode ∷ []
 items_of (r.Rounds count) = Key (codes "rounds") ∷ Number count ∷ []
 items_of (r.Value demand value) = Key (codes "value") ∷ Named demand ∷ Number value ∷ []

@@ -1,5 +1,5 @@
-//! The rows of a document. A row has one field for each name, number, integer and expression of its line, in the order
-//! of the line. Numbers are below 10^12.
+//! The rows of a document. A row has one field for each name, number, integer and expression of
+//! its line, in the order of the line. Numbers are below 10^12.
 
 use task_lang::Op;
 use tt_base::{Name, Series};
@@ -37,7 +37,8 @@ pub enum Row {
     Task(Name, u64),
     /// `isr NAME LEVEL STACK`: a time-triggered interrupt service routine. Its body follows.
     Isr(Name, u64, u64),
-    /// `isr NAME LEVEL STACK DISTANCE`: one whose interrupts are at least so many ticks apart. Its body follows.
+    /// `isr NAME LEVEL STACK DISTANCE`: one whose interrupts are at least so many ticks apart. Its
+    /// body follows.
     IsrFar(Name, u64, u64, u64),
     /// `osek NAME PRIORITY`: a task of the OSEK subsystem, at first suspended. Its body follows.
     Osek(Name, u64),

@@ -26,7 +26,8 @@ use Rattle.tt_rules.specs.TableRules.{comes_between}
 -- ---- keys
 
 total : IsTotalOrder key_cmp
-total = then_total (then_total (on_total (λ (k : Key). k.0) nat_cmp_total) (on_total (λ (k : Key). k.1) nat_cmp_total)) (on_total (λ (k : Key). k.2) nat_cmp_total)
+total = then_total (then_total (on_total (λ (k : Key). k.0) nat_cmp_total)
+    (on_total (λ (k : Key). k.1) nat_cmp_total)) (on_total (λ (k : Key). k.2) nat_cmp_total)
 
 equal : IsEquivalence (eq_by_cmp key_cmp)
 equal = eq_by_cmp_equiv total
@@ -56,7 +57,8 @@ exact x y is =
 
 -- ---- the range of keys after an activation
 
-by_owner : (n x y : Ordering) → (is_le (ordering_then n x) && not (is_le (ordering_then n y))) ≡ (is_eq n && (is_le x && not (is_le y)))
+by_owner : (n x y : Ordering)
+    → (is_le (ordering_then n x) && not (is_le (ordering_then n y))) ≡ (is_eq n && (is_le x && not (is_le y)))
 by_owner Less x y = refl
 by_owner Equal x y = refl
 by_owner Greater x y = refl
@@ -68,19 +70,23 @@ below_deadline : (deadline other : ℕ) → not (is_le (nat_cmp deadline other))
 below_deadline deadline other = grind (arith, nat_tests)
 
 pub range-between : (key : Key) (deadline : ℕ) (other : Key)
-    → range_contains key_cmp (Included (key.0, key.1, key.2 + 1)) (Excluded (key.0, key.1, deadline)) other ≡ comes_between_key key deadline other
+    → range_contains key_cmp (Included (key.0, key.1, key.2 + 1)) (Excluded (key.0, key.1, deadline)) other
+    ≡ comes_between_key key deadline other
 range-between key deadline other =
     let owners = ordering_then (nat_cmp key.0 other.0) (nat_cmp key.1 other.1) in
     let same = (key.0 == other.0) && (key.1 == other.1) in
     by_owner owners (nat_cmp (key.2 + 1) other.2) (nat_cmp deadline other.2)
-    ∙ ap (λ b. b && (is_le (nat_cmp (key.2 + 1) other.2) && not (is_le (nat_cmp deadline other.2)))) (owners_equal key other)
+    ∙ ap (λ b. b && (is_le (nat_cmp (key.2 + 1) other.2) && not (is_le (nat_cmp deadline other.2))))
+        (owners_equal key other)
     ∙ ap (λ b. same && (b && not (is_le (nat_cmp deadline other.2)))) (above_offset key.2 other.2)
     ∙ ap (λ b. same && (nat_lt key.2 other.2 && b)) (below_deadline deadline other.2)
 
 -- a range that begins after an offset and ends at a later one
-pub key-upto : (mode task offset deadline : ℕ) → offset < deadline → is_gt (key_cmp (mode, task, offset + 1) (mode, task, deadline)) ≡ false
+pub key-upto : (mode task offset deadline : ℕ) → offset < deadline
+    → is_gt (key_cmp (mode, task, offset + 1) (mode, task, deadline)) ≡ false
 key-upto mode task offset deadline lt =
-    ap (λ o. is_gt (ordering_then (ordering_then o (nat_cmp task task)) (nat_cmp (offset + 1) deadline))) (tied_itself nat_cmp_total mode)
+    ap (λ o. is_gt (ordering_then (ordering_then o (nat_cmp task task)) (nat_cmp (offset + 1) deadline)))
+        (tied_itself nat_cmp_total mode)
     ∙ ap (λ o. is_gt (ordering_then o (nat_cmp (offset + 1) deadline))) (tied_itself nat_cmp_total task)
     ∙ numbers where
       numbers : is_gt (nat_cmp (offset + 1) deadline) ≡ false
@@ -95,10 +101,12 @@ first-some shown (Some b) all rest steps = some ∙ ap (λ xs. nat_lt 0 (length 
   some = grind (arith, nat_tests)
 
 -- the keys that pass a test are some exactly where one passes
-pub some-filter : {A : Type 0} (p q : A → Bool) (xs : List A) → ((x : A) → p x ≡ q x) → list_any q xs ≡ nat_lt 0 (length (filter p xs))
+pub some-filter : {A : Type 0} (p q : A → Bool) (xs : List A) → ((x : A) → p x ≡ q x)
+    → list_any q xs ≡ nat_lt 0 (length (filter p xs))
 some-filter p q [] same = refl
 some-filter p q (x ∷ xs) same = at (p x) (q x) (same x) (some-filter p q xs same) where
-  at : (b c : Bool) → b ≡ c → list_any q xs ≡ nat_lt 0 (length (filter p xs)) → (c || list_any q xs) ≡ nat_lt 0 (length (cond b (x ∷ filter p xs) (filter p xs)))
+  at : (b c : Bool) → b ≡ c → list_any q xs ≡ nat_lt 0 (length (filter p xs))
+      → (c || list_any q xs) ≡ nat_lt 0 (length (cond b (x ∷ filter p xs) (filter p xs)))
   at true true is rest = grind (arith, nat_tests)
   at true false is rest = cc
   at false true is rest = cc
@@ -109,10 +117,12 @@ none_passes p [] none = refl
 none_passes p (x ∷ xs) none = ap (λ b. b || list_any p xs) (none x) ∙ none_passes p xs none
 
 -- nothing comes between where the deadline is not above the offset
-pub comes_between-none : (key : Key) (deadline : ℕ) (other : Key) → deadline ≤ key.2 → comes_between_key key deadline other ≡ false
+pub comes_between-none : (key : Key) (deadline : ℕ) (other : Key) → deadline ≤ key.2
+    → comes_between_key key deadline other ≡ false
 comes_between-none key deadline other le =
     let empty : (nat_lt key.2 other.2 && nat_lt other.2 deadline) ≡ false = grind (arith, nat_tests) in
-    ap (λ b. ((key.0 == other.0) && (key.1 == other.1)) && b) empty ∙ and_false ((key.0 == other.0) && (key.1 == other.1)) where
+    ap (λ b. ((key.0 == other.0) && (key.1 == other.1)) && b) empty
+        ∙ and_false ((key.0 == other.0) && (key.1 == other.1)) where
       and_false : (b : Bool) → (b && false) ≡ false
       and_false true = refl
       and_false false = refl
@@ -122,7 +132,8 @@ comes_between-none key deadline other le =
 abbrev has_key : Key → At Entry → Bool
 has_key key x = is_key (eq_by_cmp key_cmp) key (key_of x.part)
 
-any-push : (p : At Entry → Bool) (xs : List (At Entry)) (x : At Entry) → list_any p (xs ++ x ∷ []) ≡ (p x || list_any p xs)
+any-push : (p : At Entry → Bool) (xs : List (At Entry)) (x : At Entry)
+    → list_any p (xs ++ x ∷ []) ≡ (p x || list_any p xs)
 any-push p [] x = refl
 any-push p (y ∷ xs) x = ap (λ b. p y || b) (any-push p xs x) ∙ turned (p y) (p x) (list_any p xs) where
   turned : (a b c : Bool) → (a || (b || c)) ≡ (b || (a || c))
@@ -131,11 +142,14 @@ any-push p (y ∷ xs) x = ap (λ b. p y || b) (any-push p xs x) ∙ turned (p y)
   turned false b c = refl
 
 -- one entry more
-pub keys-more : (set new : BTreeSet Key) (entries : List (At Entry)) (k : ℕ) (x : At Entry) (key : Option Key) → k < length entries
+pub keys-more : (set new : BTreeSet Key) (entries : List (At Entry)) (k : ℕ) (x : At Entry) (key : Option Key)
+    → k < length entries
     → key ≡ key_of (get_or entries k x).part → HasKeys set (take k entries)
-    → ((q : Key) → contains key_cmp new q ≡ (is_key (eq_by_cmp key_cmp) q key || contains key_cmp set q)) → HasKeys new (take (k + 1) entries)
+    → ((q : Key) → contains key_cmp new q ≡ (is_key (eq_by_cmp key_cmp) q key || contains key_cmp set q))
+    → HasKeys new (take (k + 1) entries)
 keys-more set new entries k x key lt gives has put = λ q.
-    put q ∙ ap (λ o. is_key (eq_by_cmp key_cmp) q o || contains key_cmp set q) gives ∙ ap (λ b. has_key q (get_or entries k x) || b) (has q)
+    put q ∙ ap (λ o. is_key (eq_by_cmp key_cmp) q o || contains key_cmp set q) gives
+        ∙ ap (λ b. has_key q (get_or entries k x) || b) (has q)
     ∙ sym (any-push (has_key q) (take k entries) (get_or entries k x))
     ∙ sym (ap (list_any (has_key q)) (take_more entries k x lt))
 
@@ -149,7 +163,8 @@ or_right true b is = refl
 or_right false b is = is
 
 -- a key of a list that passes
-found : (p : Key → Bool) (xs : List Key) → list_any p xs ≡ true → (key : Key) × (p key ≡ true) × (list_any (eq_by_cmp key_cmp key) xs ≡ true)
+found : (p : Key → Bool) (xs : List Key) → list_any p xs ≡ true
+    → (key : Key) × (p key ≡ true) × (list_any (eq_by_cmp key_cmp key) xs ≡ true)
 found p [] is = cc
 found p (x ∷ xs) is = ⊎_elim
     (λ here. (x, here, or_left (eq_by_cmp key_cmp x x) (list_any (eq_by_cmp key_cmp x) xs) (equal.refl x)))
@@ -157,7 +172,8 @@ found p (x ∷ xs) is = ⊎_elim
     (rest.0, rest.1, or_right (eq_by_cmp key_cmp rest.0 x) (list_any (eq_by_cmp key_cmp rest.0) xs) rest.2))
     (or_cases (p x) (list_any p xs) is)
 
-passes : (p : Key → Bool) (key : Key) (xs : List Key) → p key ≡ true → list_any (eq_by_cmp key_cmp key) xs ≡ true → list_any p xs ≡ true
+passes : (p : Key → Bool) (key : Key) (xs : List Key) → p key ≡ true → list_any (eq_by_cmp key_cmp key) xs ≡ true
+    → list_any p xs ≡ true
 passes p key [] is any = cc
 passes p key (x ∷ xs) is any = ⊎_elim
     (λ here. or_left (p x) (list_any p xs) (ap p (sym (exact key x here)) ∙ is))
@@ -168,17 +184,22 @@ passes p key (x ∷ xs) is any = ⊎_elim
 abbrev passing : (Key → Bool) → At Entry → Bool
 passing p x = passes_key p (key_of x.part)
 
-found_at : (p : Key → Bool) (xs : List (At Entry)) → list_any (passing p) xs ≡ true → (key : Key) × (p key ≡ true) × (list_any (has_key key) xs ≡ true)
+found_at : (p : Key → Bool) (xs : List (At Entry)) → list_any (passing p) xs ≡ true
+    → (key : Key) × (p key ≡ true) × (list_any (has_key key) xs ≡ true)
 found_at p [] is = cc
 found_at p (x ∷ xs) is = ⊎_elim
     (λ here. at (key_of x.part) refl here)
-    (λ there. let rest = found_at p xs there in (rest.0, rest.1, or_right (has_key rest.0 x) (list_any (has_key rest.0) xs) rest.2))
+    (λ there. let rest = found_at p xs there in
+        (rest.0, rest.1, or_right (has_key rest.0 x) (list_any (has_key rest.0) xs) rest.2))
     (or_cases (passing p x) (list_any (passing p) xs) is) where
-      at : (key : Option Key) → key_of x.part ≡ key → passes_key p key ≡ true → (key : Key) × (p key ≡ true) × (list_any (has_key key) (x ∷ xs) ≡ true)
+      at : (key : Option Key) → key_of x.part ≡ key → passes_key p key ≡ true
+          → (key : Key) × (p key ≡ true) × (list_any (has_key key) (x ∷ xs) ≡ true)
       at None of here = cc
-      at (Some key) of here = (key, here, or_left (has_key key x) (list_any (has_key key) xs) (ap (is_key (eq_by_cmp key_cmp) key) of ∙ equal.refl key))
+      at (Some key) of here = (key, here,
+          or_left (has_key key x) (list_any (has_key key) xs) (ap (is_key (eq_by_cmp key_cmp) key) of ∙ equal.refl key))
 
-passes_at : (p : Key → Bool) (key : Key) (xs : List (At Entry)) → p key ≡ true → list_any (has_key key) xs ≡ true → list_any (passing p) xs ≡ true
+passes_at : (p : Key → Bool) (key : Key) (xs : List (At Entry)) → p key ≡ true → list_any (has_key key) xs ≡ true
+    → list_any (passing p) xs ≡ true
 passes_at p key [] is any = cc
 passes_at p key (x ∷ xs) is any = ⊎_elim
     (λ here. or_left (passing p x) (list_any (passing p) xs) (at (key_of x.part) here))
@@ -194,7 +215,8 @@ alike false true to from = from refl
 alike false false to from = refl
 
 -- a set that has the keys of entries passes a test where they do
-has_passing : (set : BTreeSet Key) (xs : List (At Entry)) (p : Key → Bool) → HasKeys set xs → list_any p set.keys ≡ list_any (passing p) xs
+has_passing : (set : BTreeSet Key) (xs : List (At Entry)) (p : Key → Bool) → HasKeys set xs
+    → list_any p set.keys ≡ list_any (passing p) xs
 has_passing set xs p has = alike (list_any p set.keys) (list_any (passing p) xs)
     (λ any. let one = found p set.keys any in passes_at p one.0 xs one.1 (sym (has one.0) ∙ one.2))
     (λ any. let one = found_at p xs any in passes p one.0 set.keys one.1 (has one.0 ∙ one.2))
@@ -204,15 +226,18 @@ and-assoc true b c = refl
 and-assoc false b c = refl
 
 one-between : (mode : ModeNo) (a : Activation) (other : Entry)
-    → passes_key (comes_between_key (mode.0, a.task.0, a.offset) a.deadline) (key_of other) ≡ comes_between (entry.Activates mode a) other
+    → passes_key (comes_between_key (mode.0, a.task.0, a.offset) a.deadline) (key_of other)
+    ≡ comes_between (entry.Activates mode a) other
 one-between mode a (entry.Activates m b) = and-assoc (mode.0 == m.0) (a.task.0 == b.task.0) _
 one-between mode a (entry.Enables m e) = refl
 
 any-between : (mode : ModeNo) (a : Activation) (xs : List (At Entry))
-    → list_any (passing (comes_between_key (mode.0, a.task.0, a.offset) a.deadline)) xs ≡ list_any (comes_between (entry.Activates mode a)) (parts xs)
+    → list_any (passing (comes_between_key (mode.0, a.task.0, a.offset) a.deadline)) xs
+    ≡ list_any (comes_between (entry.Activates mode a)) (parts xs)
 any-between mode a [] = refl
 any-between mode a (x ∷ xs) =
-    ap (λ b. b || list_any (passing (comes_between_key (mode.0, a.task.0, a.offset) a.deadline)) xs) (one-between mode a x.part)
+    ap (λ b. b || list_any (passing (comes_between_key (mode.0, a.task.0, a.offset) a.deadline)) xs)
+        (one-between mode a x.part)
     ∙ ap (λ b. comes_between (entry.Activates mode a) x.part || b) (any-between mode a xs)
 
 none-between : (e : ModeNo) (f : _) (xs : List Entry) → list_any (comes_between (entry.Enables e f)) xs ≡ false
@@ -220,13 +245,16 @@ none-between e f [] = refl
 none-between e f (x ∷ xs) = none-between e f xs
 
 -- an activation is apart by a set of the keys of entries exactly where it clashes with none of them
-pub apart-exactly : (set : BTreeSet Key) (xs : List (At Entry)) → HasKeys set xs → (x : Entry) → is_apart set.keys x ≡ is_clear comes_between (parts xs) x
+pub apart-exactly : (set : BTreeSet Key) (xs : List (At Entry)) → HasKeys set xs → (x : Entry)
+    → is_apart set.keys x ≡ is_clear comes_between (parts xs) x
 apart-exactly set xs has (entry.Activates mode a) =
     ap not (has_passing set xs (comes_between_key (mode.0, a.task.0, a.offset) a.deadline) has ∙ any-between mode a xs)
 apart-exactly set xs has (entry.Enables mode e) = sym (ap not (none-between mode e (parts xs)))
 
 -- tests that answer alike give the same lines
-pub failing-same : {A : Type 0} (test other : A → Bool) (xs : List (At A)) → ((x : A) → test x ≡ other x) → failing test xs ≡ failing other xs
+pub failing-same : {A : Type 0} (test other : A → Bool) (xs : List (At A)) → ((x : A) → test x ≡ other x)
+    → failing test xs ≡ failing other xs
 failing-same test other [] same = refl
 failing-same test other (x ∷ xs) same =
-    ap (λ b. line_unless b x.line (failing test xs)) (same x.part) ∙ ap (line_unless (other x.part) x.line) (failing-same test other xs same)
+    ap (λ b. line_unless b x.line (failing test xs)) (same x.part)
+        ∙ ap (line_unless (other x.part) x.line) (failing-same test other xs same)

@@ -14,17 +14,21 @@ use Rattle.tt_rules.specs.Latest.{is_after, is_thing, latest_at, latest_in, late
 use Rattle.tt_rules.specs.Shapes.{is_new, repeating}
 
 -- one arrival more, of the thing or of another
-late-step : (it : Bool) (tick other : ℕ) (latest : Option ℕ) → ((it && nat_le tick other) || not (is_after tick latest)) ≡ not (is_after tick (latest_then it other latest))
+late-step : (it : Bool) (tick other : ℕ) (latest : Option ℕ)
+    → ((it && nat_le tick other) || not (is_after tick latest)) ≡ not (is_after tick (latest_then it other latest))
 late-step false tick other latest = refl
 late-step true tick other None = grind (arith, nat_tests)
 late-step true tick other (Some latest) = by (nat_lt latest other) refl where
-  by : (after : Bool) → nat_lt latest other ≡ after → (nat_le tick other || not (nat_lt latest tick)) ≡ not (is_after tick (if after then Some other else Some latest))
+  by : (after : Bool) → nat_lt latest other ≡ after
+      → (nat_le tick other || not (nat_lt latest tick))
+      ≡ not (is_after tick (if after then Some other else Some latest))
   by true is = grind (arith, nat_tests)
   by false is = grind (arith, nat_tests)
 
 -- an arrival of a source that is not after one above is not after the latest
 late : (tick : ℕ) (d : Declared) (above : List Arrival)
-    → list_any (λ (o : Arrival). is_same_source o.source (Some d) && nat_le tick o.tick) above ≡ not (is_after tick (latest_in (thing_of d) above))
+    → list_any (λ (o : Arrival). is_same_source o.source (Some d) && nat_le tick o.tick) above
+    ≡ not (is_after tick (latest_in (thing_of d) above))
 late tick d [] = refl
 late tick d (o ∷ above) = by o.source (late tick d above) where
   rest : Option ℕ
@@ -34,11 +38,14 @@ late tick d (o ∷ above) = by o.source (late tick d above) where
   others = list_any (λ (o : Arrival). is_same_source o.source (Some d) && nat_le tick o.tick) above
 
   by : (source : Option Declared) → others ≡ not (is_after tick rest)
-      → ((is_same_source source (Some d) && nat_le tick o.tick) || others) ≡ not (is_after tick (latest_then (is_thing (thing_of d) source) o.tick rest))
+      → ((is_same_source source (Some d) && nat_le tick o.tick) || others)
+      ≡ not (is_after tick (latest_then (is_thing (thing_of d) source) o.tick rest))
   by None is = is
-  by (Some e) is = ap (λ b. (is_same_thing e d && nat_le tick o.tick) || b) is ∙ late-step (is_same_thing e d) tick o.tick rest
+  by (Some e) is = ap (λ b. (is_same_thing e d && nat_le tick o.tick) || b) is
+      ∙ late-step (is_same_thing e d) tick o.tick rest
 
-none : (tick : ℕ) (above : List Arrival) → list_any (λ (o : Arrival). is_same_source o.source None && nat_le tick o.tick) above ≡ false
+none : (tick : ℕ) (above : List Arrival)
+    → list_any (λ (o : Arrival). is_same_source o.source None && nat_le tick o.tick) above ≡ false
 none tick [] = refl
 none tick (o ∷ above) = by o.source ∙ none tick above where
   others : Bool
@@ -53,36 +60,48 @@ not-not true = refl
 not-not false = refl
 
 -- one is after all above of its source exactly where it is after the latest
-pub after-exactly : (x : Arrival) (above : List Arrival) (found : (ℕ × ℕ) → Option ℕ) → ((q : ℕ × ℕ) → found q ≡ latest_in q above)
+pub after-exactly : (x : Arrival) (above : List Arrival) (found : (ℕ × ℕ) → Option ℕ)
+    → ((q : ℕ × ℕ) → found q ≡ latest_in q above)
     → is_after x.tick (latest_at found x.source) ≡ is_new is_not_after above x
 after-exactly x above found has = by x.source where
-  by : (source : Option Declared) → is_after x.tick (latest_at found source) ≡ not (list_any (λ (o : Arrival). is_same_source o.source source && nat_le x.tick o.tick) above)
+  by : (source : Option Declared)
+      → is_after x.tick (latest_at found source)
+      ≡ not (list_any (λ (o : Arrival). is_same_source o.source source && nat_le x.tick o.tick) above)
   by None = sym (ap not (none x.tick above))
-  by (Some d) = ap (is_after x.tick) (has (thing_of d)) ∙ sym (ap not (late x.tick d above) ∙ not-not (is_after x.tick (latest_in (thing_of d) above)))
+  by (Some d) = ap (is_after x.tick) (has (thing_of d))
+      ∙ sym (ap not (late x.tick d above) ∙ not-not (is_after x.tick (latest_in (thing_of d) above)))
 
 -- of some arrivals the first are read: the map has the latest of each source, and the least line so far is this
 pub record AreNoted (found : (ℕ × ℕ) → Option ℕ) (least : Option ℕ) (xs : List (At Arrival)) (k : ℕ) : Type 0 where
   pub above : List Arrival
   pub has : (q : ℕ × ℕ) → found q ≡ latest_in q above
-  pub lines : lesser_of least (least_line (repeating is_not_after above (drop k xs))) ≡ least_line (repeating is_not_after [] xs)
+  pub lines : lesser_of least (least_line (repeating is_not_after above (drop k xs)))
+      ≡ least_line (repeating is_not_after [] xs)
 
-pub noted-more : (found more : (ℕ × ℕ) → Option ℕ) (least lesser : Option ℕ) (xs : List (At Arrival)) (k : ℕ) (x : At Arrival) (after : Bool)
+pub noted-more : (found more : (ℕ × ℕ) → Option ℕ) (least lesser : Option ℕ) (xs : List (At Arrival)) (k : ℕ)
+    (x : At Arrival) (after : Bool)
     → k < length xs → AreNoted found least xs k
     → after ≡ is_after (get_or xs k x).part.tick (latest_at found (get_or xs k x).part.source)
     → ((q : ℕ × ℕ) → more q ≡ latest_then (is_thing q (get_or xs k x).part.source) (get_or xs k x).part.tick (found q))
-    → lesser ≡ lesser_of least (least_line (line_unless after (get_or xs k x).line [])) → AreNoted more lesser xs (k + 1)
+    → lesser ≡ lesser_of least (least_line (line_unless after (get_or xs k x).line []))
+    → AreNoted more lesser xs (k + 1)
 noted-more found more least lesser xs k x after lt noted is put less = record {
   above = here.part ∷ noted.above;
   has = λ q. put q ∙ ap (latest_then (is_thing q here.part.source) here.part.tick) (noted.has q);
-  lines = least-step (is_new is_not_after noted.above here.part) here.line least lesser (repeating is_not_after (here.part ∷ noted.above) (drop (k + 1) xs))
-      (less ∙ ap (λ b. lesser_of least (least_line (line_unless b here.line []))) (is ∙ after-exactly here.part noted.above found noted.has))
-      ∙ sym (ap (λ ls. lesser_of least (least_line ls)) (at_drop_more (repeating is_not_after noted.above) xs k x lt)) ∙ noted.lines;
+  lines = least-step (is_new is_not_after noted.above here.part) here.line least lesser
+      (repeating is_not_after (here.part ∷ noted.above) (drop (k + 1) xs))
+      (less ∙ ap (λ b. lesser_of least (least_line (line_unless b here.line [])))
+          (is ∙ after-exactly here.part noted.above found noted.has))
+      ∙ sym (ap (λ ls. lesser_of least (least_line ls)) (at_drop_more (repeating is_not_after noted.above) xs k x lt))
+      ∙ noted.lines;
 } where
   here : At Arrival
   here = get_or xs k x
 
-pub noted-end : (found : (ℕ × ℕ) → Option ℕ) (least : Option ℕ) (xs : List (At Arrival)) (k : ℕ) → length xs ≤ k → AreNoted found least xs k
+pub noted-end : (found : (ℕ × ℕ) → Option ℕ) (least : Option ℕ) (xs : List (At Arrival)) (k : ℕ) → length xs ≤ k
+    → AreNoted found least xs k
     → least ≡ least_line (repeating is_not_after [] xs ++ [])
 noted-end found least xs k le noted =
-    sym (lesser_of-none least) ∙ sym (ap (λ ls. lesser_of least (least_line ls)) (at_drop_all (repeating is_not_after noted.above) xs k le))
+    sym (lesser_of-none least) ∙ sym
+        (ap (λ ls. lesser_of least (least_line ls)) (at_drop_all (repeating is_not_after noted.above) xs k le))
     ∙ noted.lines ∙ ap least_line (sym (append-nil (repeating is_not_after [] xs)))

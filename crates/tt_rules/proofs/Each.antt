@@ -74,20 +74,14 @@ module _ {A : Type 0} (R : A → A → Type 0) where
     pairs_of_all xs (each_weaker (λ y. Each (R y) (x ∷ xs)) (λ y. Each (R y) xs) (λ y k. k.1) xs h.1),
   )
 
-  pub pairs_map : {B : Type 0} (f : B → A) (ys : List B) → Pairs (λ x y. R (f x) (f y)) ys → Pairs R (map f ys)
-  pairs_map f [] h = tt
-  pairs_map f (y ∷ ys) h = (each_map (R (f y)) f ys h.0, pairs_map f ys h.1)
-
-pub pairs_of_each : {A : Type 0} (P : A → Type 0) (xs : List A) → Each P xs → Pairs (λ x y. P x × P y) xs
-pairs_of_each P [] h = tt
-pairs_of_each P (x ∷ xs) h = (each_weaker P (λ y. P x × P y) (λ y k. (h.0, k)) xs h.1, pairs_of_each P xs h.1)
-
 -- ---- what several lists joined have
 
 module _ {X A : Type 0} (f : X → List A) where
-  pub each_flat_map : (P : X → Type 0) (Q : A → Type 0) → ((x : X) → P x → Each Q (f x)) → (xs : List X) → Each P xs → Each Q (flat_map f xs)
+  pub each_flat_map : (P : X → Type 0) (Q : A → Type 0) → ((x : X) → P x → Each Q (f x)) → (xs : List X) → Each P xs
+      → Each Q (flat_map f xs)
   each_flat_map P Q gives [] h = tt
-  each_flat_map P Q gives (x ∷ xs) h = each_append Q (f x) (flat_map f xs) (gives x h.0) (each_flat_map P Q gives xs h.1)
+  each_flat_map P Q gives (x ∷ xs) h =
+      each_append Q (f x) (flat_map f xs) (gives x h.0) (each_flat_map P Q gives xs h.1)
 
   -- what one of the lists has with each of those that the others give
   across : (R : X → X → Type 0) (S : A → A → Type 0) → ((x y : X) → R x y → Each (λ a. Each (S a) (f y)) (f x))
@@ -96,16 +90,20 @@ module _ {X A : Type 0} (f : X → List A) where
   across R S gives x (y ∷ ys) h =
       each_weaker (λ a. Each (S a) (f y) × Each (S a) (flat_map f ys)) (λ a. Each (S a) (f y ++ flat_map f ys))
       (λ a k. each_append (S a) (f y) (flat_map f ys) k.0 k.1) (f x)
-      (each_both (λ a. Each (S a) (f y)) (λ a. Each (S a) (flat_map f ys)) (f x) (gives x y h.0) (across R S gives x ys h.1))
+      (each_both (λ a. Each (S a) (f y)) (λ a. Each (S a) (flat_map f ys)) (f x) (gives x y h.0)
+          (across R S gives x ys h.1))
 
-  pub pairs_flat_map : (R : X → X → Type 0) (S : A → A → Type 0) → ((x y : X) → R x y → Each (λ a. Each (S a) (f y)) (f x))
+  pub pairs_flat_map : (R : X → X → Type 0) (S : A → A → Type 0)
+      → ((x y : X) → R x y → Each (λ a. Each (S a) (f y)) (f x))
       → ((x : X) → Pairs S (f x)) → (xs : List X) → Pairs R xs → Pairs S (flat_map f xs)
   pairs_flat_map R S gives inside [] h = tt
   pairs_flat_map R S gives inside (x ∷ xs) h =
-      pairs_append S (f x) (flat_map f xs) (inside x) (pairs_flat_map R S gives inside xs h.1) (across R S gives x xs h.0)
+      pairs_append S (f x) (flat_map f xs) (inside x) (pairs_flat_map R S gives inside xs h.1)
+          (across R S gives x xs h.0)
 
 -- what holds of each holds of the one at a place
-pub each_index : {A : Type 0} (P : A → Type 0) (xs : List A) (k : ℕ) (x : A) → k < length xs → Each P xs → P (get_or xs k x)
+pub each_index : {A : Type 0} (P : A → Type 0) (xs : List A) (k : ℕ) (x : A) → k < length xs → Each P xs
+    → P (get_or xs k x)
 each_index P [] k x lt h = absurd (omega arith)
 each_index P (y ∷ xs) zero x lt h = h.0
 each_index P (y ∷ xs) (suc k) x lt h = each_index P xs k x (omega arith) h.1

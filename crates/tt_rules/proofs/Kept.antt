@@ -13,11 +13,8 @@ abbrev pub is_none : List ℕ → Bool
 is_none [] = true
 is_none (line ∷ lines) = false
 
-pub none-from : (lines : List ℕ) → is_none lines ≡ true → lines ≡ []
-none-from [] is = refl
-none-from (line ∷ lines) is = cc
-
-is_none-unless : (test : Bool) (line : ℕ) (lines : List ℕ) → is_none (line_unless test line lines) ≡ (test && is_none lines)
+is_none-unless : (test : Bool) (line : ℕ) (lines : List ℕ)
+    → is_none (line_unless test line lines) ≡ (test && is_none lines)
 is_none-unless true line lines = refl
 is_none-unless false line lines = refl
 
@@ -31,12 +28,15 @@ leb-suc m n = grind (arith, nat_tests)
 module _ {A : Type 0} where
   failing-exactly : (test : A → Bool) (xs : List (At A)) → is_none (failing test xs) ≡ list_all test (parts xs)
   failing-exactly test [] = refl
-  failing-exactly test (x ∷ xs) = is_none-unless (test x.part) x.line (failing test xs) ∙ ap (λ b. test x.part && b) (failing-exactly test xs)
+  failing-exactly test (x ∷ xs) = is_none-unless (test x.part) x.line (failing test xs)
+      ∙ ap (λ b. test x.part && b) (failing-exactly test xs)
 
-  repeating-exactly : (same : A → A → Bool) (above : List A) (xs : List (At A)) → is_none (repeating same above xs) ≡ differ_from same above (parts xs)
+  repeating-exactly : (same : A → A → Bool) (above : List A) (xs : List (At A))
+      → is_none (repeating same above xs) ≡ differ_from same above (parts xs)
   repeating-exactly same above [] = refl
   repeating-exactly same above (x ∷ xs) =
-      is_none-unless (is_new same above x.part) x.line (repeating same (x.part ∷ above) xs) ∙ ap (λ b. is_new same above x.part && b) (repeating-exactly same (x.part ∷ above) xs)
+      is_none-unless (is_new same above x.part) x.line (repeating same (x.part ∷ above) xs)
+          ∙ ap (λ b. is_new same above x.part && b) (repeating-exactly same (x.part ∷ above) xs)
 
   past-exactly : (n : ℕ) (xs : List (At A)) → is_none (drop n (lines xs)) ≡ nat_le (length (parts xs)) n
   past-exactly zero [] = refl
@@ -45,7 +45,8 @@ module _ {A : Type 0} where
   past-exactly (suc n) (x ∷ xs) = past-exactly n xs ∙ sym (leb-suc (length (parts xs)) n)
 
   -- no line breaks a rule exactly where the parts keep it
-  pub kept-exactly : (first : ℕ) (rule : Shape A) (xs : List (At A)) → is_none (breaking first rule xs) ≡ keeps rule (parts xs)
+  pub kept-exactly : (first : ℕ) (rule : Shape A) (xs : List (At A))
+      → is_none (breaking first rule xs) ≡ keeps rule (parts xs)
   kept-exactly first Present [] = refl
   kept-exactly first Present (x ∷ xs) = sym (le-leb 1 (length (parts (x ∷ xs))) (omega arith))
   kept-exactly first (AtMost n) xs = past-exactly n xs
@@ -53,7 +54,8 @@ module _ {A : Type 0} where
   kept-exactly first (Differ same) xs = repeating-exactly same [] xs
   kept-exactly first (Clear clash) xs = failing-exactly (is_clear clash (parts xs)) xs
 
-  pub each_kept-exactly : (first : ℕ) (rules : List (Shape A)) (xs : List (At A)) → is_none (breaking_one first rules xs) ≡ keeps_each rules (parts xs)
+  pub each_kept-exactly : (first : ℕ) (rules : List (Shape A)) (xs : List (At A))
+      → is_none (breaking_one first rules xs) ≡ keeps_each rules (parts xs)
   each_kept-exactly first [] xs = refl
   each_kept-exactly first (rule ∷ rules) xs =
       is_none-append (breaking first rule xs) (breaking_one first rules xs)
@@ -61,10 +63,12 @@ module _ {A : Type 0} where
       ∙ ap (λ b. keeps rule (parts xs) && b) (each_kept-exactly first rules xs)
 
   -- parts keep some rules that no line breaks
-  pub kept : (first : ℕ) (rules : List (Shape A)) (xs : List (At A)) → breaking_one first rules xs ≡ [] → keeps_each rules (parts xs) ≡ true
+  pub kept : (first : ℕ) (rules : List (Shape A)) (xs : List (At A)) → breaking_one first rules xs ≡ []
+      → keeps_each rules (parts xs) ≡ true
   kept first rules xs is = sym (each_kept-exactly first rules xs) ∙ ap is_none is
 
-  pub kept_one : (first : ℕ) (rule : Shape A) (xs : List (At A)) → breaking first rule xs ≡ [] → keeps rule (parts xs) ≡ true
+  pub kept_one : (first : ℕ) (rule : Shape A) (xs : List (At A)) → breaking first rule xs ≡ []
+      → keeps rule (parts xs) ≡ true
   kept_one first rule xs is = sym (kept-exactly first rule xs) ∙ ap is_none is
 
 -- no line of two lists
@@ -77,10 +81,12 @@ none_right [] others is = is
 none_right (line ∷ lines) others is = cc
 
 -- the parts of those that pass a test
-pub filter_at-parts : {A : Type 0} (test : A → Bool) (xs : List (At A)) → parts (filter_at test xs) ≡ filter test (parts xs)
+pub filter_at-parts : {A : Type 0} (test : A → Bool) (xs : List (At A))
+    → parts (filter_at test xs) ≡ filter test (parts xs)
 filter_at-parts test [] = refl
 filter_at-parts test (x ∷ xs) = by (test x.part) (filter_at-parts test xs) where
   by : (b : Bool) → parts (filter_at test xs) ≡ filter test (parts xs)
-      → parts (cond b (x ∷ filter_at test xs) (filter_at test xs)) ≡ cond b (x.part ∷ filter test (parts xs)) (filter test (parts xs))
+      → parts (cond b (x ∷ filter_at test xs) (filter_at test xs))
+      ≡ cond b (x.part ∷ filter test (parts xs)) (filter test (parts xs))
   by true rest = ap (λ ys. x.part ∷ ys) rest
   by false rest = rest

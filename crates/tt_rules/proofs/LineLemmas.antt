@@ -18,19 +18,23 @@ lesser_of-assoc (Some a) (Some b) None = refl
 lesser_of-assoc (Some a) (Some b) (Some c) = let same : min (min a b) c ≡ min a (min b c) = omega arith in ap Some same
 
 -- the least of two lists of lines is the lesser of their leasts
-pub least_line-append : (lines others : List ℕ) → least_line (lines ++ others) ≡ lesser_of (least_line lines) (least_line others)
+pub least_line-append : (lines others : List ℕ)
+    → least_line (lines ++ others) ≡ lesser_of (least_line lines) (least_line others)
 least_line-append [] others = refl
 least_line-append (line ∷ lines) others =
-    ap (lesser_of (Some line)) (least_line-append lines others) ∙ sym (lesser_of-assoc (Some line) (least_line lines) (least_line others))
+    ap (lesser_of (Some line)) (least_line-append lines others)
+        ∙ sym (lesser_of-assoc (Some line) (least_line lines) (least_line others))
 
 -- a line that a test adds
-pub least_line-unless : (test : Bool) (line : ℕ) (lines : List ℕ) → least_line (line_unless test line lines) ≡ lesser_of (least_line (line_unless test line [])) (least_line lines)
+pub least_line-unless : (test : Bool) (line : ℕ) (lines : List ℕ)
+    → least_line (line_unless test line lines) ≡ lesser_of (least_line (line_unless test line [])) (least_line lines)
 least_line-unless true line lines = refl
 least_line-unless false line lines = refl
 
 -- the least of those after an element, with what was found in front of it
 pub least-step : (test : Bool) (line : ℕ) (found found' : Option ℕ) (lines : List ℕ)
-    → found' ≡ lesser_of found (least_line (line_unless test line [])) → lesser_of found' (least_line lines) ≡ lesser_of found (least_line (line_unless test line lines))
+    → found' ≡ lesser_of found (least_line (line_unless test line []))
+    → lesser_of found' (least_line lines) ≡ lesser_of found (least_line (line_unless test line lines))
 least-step test line found found' lines is =
     ap (λ o. lesser_of o (least_line lines)) is
     ∙ lesser_of-assoc found (least_line (line_unless test line [])) (least_line lines)
@@ -39,7 +43,8 @@ least-step test line found found' lines is =
 -- ---- a loop over a list
 
 -- a function of the elements from one on, at that element. Elements that a loop has not passed are `drop k xs`.
-pub at_element : {A : Type 0} {Y : Type 0} (f : List A → Y) (xs : List A) (k : ℕ) (x : A) → k < length xs → x ≡ get_or xs k x → f (drop k xs) ≡ f (x ∷ drop (k + 1) xs)
+pub at_element : {A : Type 0} {Y : Type 0} (f : List A → Y) (xs : List A) (k : ℕ) (x : A) → k < length xs
+    → x ≡ get_or xs k x → f (drop k xs) ≡ f (x ∷ drop (k + 1) xs)
 at_element f xs k x lt is = at_drop_more f xs k x lt ∙ ap (λ r. f (r ∷ drop (k + 1) xs)) (sym is)
 
 -- ---- a rule of some shapes
@@ -49,15 +54,18 @@ pub least-each : {A : Type 0} (first : ℕ) (rules : List (Shape A)) (xs : List 
     → least_line (breaking_one first rules xs) ≡ least_of (map (λ rule. least_line (breaking first rule xs)) rules)
 least-each first [] xs = refl
 least-each first (rule ∷ rules) xs =
-    least_line-append (breaking first rule xs) (breaking_one first rules xs) ∙ ap (lesser_of (least_line (breaking first rule xs))) (least-each first rules xs)
+    least_line-append (breaking first rule xs) (breaking_one first rules xs)
+        ∙ ap (lesser_of (least_line (breaking first rule xs))) (least-each first rules xs)
 
 -- ---- the parts that pass a test
 
 module _ {A : Type 0} (passes : A → Bool) where
-  filter_at-true : (x : At A) (xs : List (At A)) → passes x.part ≡ true → filter_at passes (x ∷ xs) ≡ x ∷ filter_at passes xs
+  filter_at-true : (x : At A) (xs : List (At A)) → passes x.part ≡ true
+      → filter_at passes (x ∷ xs) ≡ x ∷ filter_at passes xs
   filter_at-true x xs is = ap (λ b. cond b (x ∷ filter_at passes xs) (filter_at passes xs)) is
 
-  filter_at-false : (x : At A) (xs : List (At A)) → passes x.part ≡ false → filter_at passes (x ∷ xs) ≡ filter_at passes xs
+  filter_at-false : (x : At A) (xs : List (At A)) → passes x.part ≡ false
+      → filter_at passes (x ∷ xs) ≡ filter_at passes xs
   filter_at-false x xs is = ap (λ b. cond b (x ∷ filter_at passes xs) (filter_at passes xs)) is
 
   module _ (xs : List (At A)) (k : ℕ) (x : At A) (lt : k < length xs) (is : x ≡ get_or xs k x) where
@@ -67,13 +75,17 @@ module _ {A : Type 0} (passes : A → Bool) where
     pub not_passing : passes x.part ≡ false → filter_at passes (drop k xs) ≡ filter_at passes (drop (k + 1) xs)
     not_passing false_ = at_element (filter_at passes) xs k x lt is ∙ filter_at-false x (drop (k + 1) xs) false_
 
-    module _ (least all : Option ℕ) (left : ℕ) (before : lesser_of least (least_line (drop left (lines (filter_at passes (drop k xs))))) ≡ all) where
+    module _ (least all : Option ℕ) (left : ℕ)
+        (before : lesser_of least (least_line (drop left (lines (filter_at passes (drop k xs))))) ≡ all) where
       -- one that does not pass
-      pub past-other : passes x.part ≡ false → lesser_of least (least_line (drop left (lines (filter_at passes (drop (k + 1) xs))))) ≡ all
-      past-other other = sym (ap (λ ys. lesser_of least (least_line (drop left (lines ys)))) (not_passing other)) ∙ before
+      pub past-other : passes x.part ≡ false
+          → lesser_of least (least_line (drop left (lines (filter_at passes (drop (k + 1) xs))))) ≡ all
+      past-other other = sym (ap (λ ys. lesser_of least (least_line (drop left (lines ys)))) (not_passing other))
+          ∙ before
 
       -- one of the first n
-      pub past-first : passes x.part ≡ true → 0 < left → lesser_of least (least_line (drop (left - 1) (lines (filter_at passes (drop (k + 1) xs))))) ≡ all
+      pub past-first : passes x.part ≡ true → 0 < left
+          → lesser_of least (least_line (drop (left - 1) (lines (filter_at passes (drop (k + 1) xs))))) ≡ all
       past-first here more = by left more before where
         by : (n : ℕ) → 0 < n → lesser_of least (least_line (drop n (lines (filter_at passes (drop k xs))))) ≡ all
             → lesser_of least (least_line (drop (n - 1) (lines (filter_at passes (drop (k + 1) xs))))) ≡ all
@@ -84,10 +96,13 @@ module _ {A : Type 0} (passes : A → Bool) where
             ∙ sym (ap (λ ys. lesser_of least (least_line (drop (suc n) (lines ys)))) (passing here)) ∙ h
 
       -- one after them
-      pub past-found : passes x.part ≡ true → left ≡ 0 → lesser_of (lesser_of least (Some x.line)) (least_line (drop left (lines (filter_at passes (drop (k + 1) xs))))) ≡ all
+      pub past-found : passes x.part ≡ true → left ≡ 0
+          → lesser_of (lesser_of least (Some x.line))
+          (least_line (drop left (lines (filter_at passes (drop (k + 1) xs))))) ≡ all
       past-found here none = by left none before where
         by : (n : ℕ) → n ≡ 0 → lesser_of least (least_line (drop n (lines (filter_at passes (drop k xs))))) ≡ all
-            → lesser_of (lesser_of least (Some x.line)) (least_line (drop n (lines (filter_at passes (drop (k + 1) xs))))) ≡ all
+            → lesser_of (lesser_of least (Some x.line))
+                (least_line (drop n (lines (filter_at passes (drop (k + 1) xs))))) ≡ all
         by (suc n) zero_ h = absurd (omega arith)
         by zero zero_ h =
             lesser_of-assoc least (Some x.line) (least_line (lines (filter_at passes (drop (k + 1) xs))))
@@ -96,8 +111,10 @@ module _ {A : Type 0} (passes : A → Bool) where
 -- ---- the lines of each of some things
 
 -- one thing more: the last of some, or the first of those that are left
-pub flat-step : {A : Type 0} (f : A → List ℕ) (xs : List A) (k : ℕ) (x : A) → k < length xs → (found more all : Option ℕ)
-    → more ≡ lesser_of found (least_line (f (get_or xs k x))) → lesser_of found (least_line (flat_map f (drop k xs))) ≡ all
+pub flat-step : {A : Type 0} (f : A → List ℕ) (xs : List A) (k : ℕ) (x : A) → k < length xs
+    → (found more all : Option ℕ)
+    → more ≡ lesser_of found (least_line (f (get_or xs k x)))
+    → lesser_of found (least_line (flat_map f (drop k xs))) ≡ all
     → lesser_of more (least_line (flat_map f (drop (k + 1) xs))) ≡ all
 flat-step f xs k x lt found more all is before =
     ap (λ o. lesser_of o (least_line (flat_map f (drop (k + 1) xs)))) is
@@ -108,9 +125,11 @@ flat-step f xs k x lt found more all is before =
 pub flat-end : {A : Type 0} (f : A → List ℕ) (xs : List A) (k : ℕ) → length xs ≤ k → (found all : Option ℕ)
     → lesser_of found (least_line (flat_map f (drop k xs))) ≡ all → found ≡ all
 flat-end f xs k le found all before =
-    sym (lesser_of-none found) ∙ sym (ap (λ ls. lesser_of found (least_line ls)) (at_drop_all (flat_map f) xs k le)) ∙ before
+    sym (lesser_of-none found) ∙ sym (ap (λ ls. lesser_of found (least_line ls)) (at_drop_all (flat_map f) xs k le))
+        ∙ before
 
-flat-push : {A : Type 0} (f : A → List ℕ) (xs : List A) (x : A) → least_line (flat_map f (xs ++ x ∷ [])) ≡ lesser_of (least_line (flat_map f xs)) (least_line (f x))
+flat-push : {A : Type 0} (f : A → List ℕ) (xs : List A) (x : A)
+    → least_line (flat_map f (xs ++ x ∷ [])) ≡ lesser_of (least_line (flat_map f xs)) (least_line (f x))
 flat-push f [] x = ap least_line (append-nil (f x))
 flat-push f (y ∷ xs) x =
     least_line-append (f y) (flat_map f (xs ++ x ∷ []))
@@ -119,7 +138,8 @@ flat-push f (y ∷ xs) x =
     ∙ ap (λ o. lesser_of o (least_line (f x))) (sym (least_line-append (f y) (flat_map f xs)))
 
 -- the next of the numbers below one
-pub below-step : (f : ℕ → List ℕ) (n : ℕ) (found more : Option ℕ) → found ≡ least_line (flat_map f (below n)) → more ≡ lesser_of found (least_line (f n))
+pub below-step : (f : ℕ → List ℕ) (n : ℕ) (found more : Option ℕ) → found ≡ least_line (flat_map f (below n))
+    → more ≡ lesser_of found (least_line (f n))
     → more ≡ least_line (flat_map f (below (n + 1)))
 below-step f n found more before is =
     is ∙ ap (λ o. lesser_of o (least_line (f n))) before ∙ sym (flat-push f (below n) n)

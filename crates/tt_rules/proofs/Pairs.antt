@@ -16,12 +16,15 @@ module _ {A : Type 0} where
       (each_both (λ o. same o x ≡ false) (λ o. Each (λ y. same o y ≡ false) xs) above here rest.0.1, (rest.0.0, rest.1))
 
   -- no part is the same as one above
-  pub pairs_differ : (same : A → A → Bool) (xs : List A) → differ_from same [] xs ≡ true → Pairs (λ a b. same a b ≡ false) xs
+  pub pairs_differ : (same : A → A → Bool) (xs : List A) → differ_from same [] xs ≡ true
+      → Pairs (λ a b. same a b ≡ false) xs
   pairs_differ same xs is = (differ-all same [] xs is).1
 
   -- no part clashes with another, whichever comes first
-  pub pairs_clear : (clash : A → A → Bool) (xs : List A) → list_all (is_clear clash xs) xs ≡ true → Pairs (λ a b. (clash a b ≡ false) × (clash b a ≡ false)) xs
+  pub pairs_clear : (clash : A → A → Bool) (xs : List A) → list_all (is_clear clash xs) xs ≡ true
+      → Pairs (λ a b. (clash a b ≡ false) × (clash b a ≡ false)) xs
   pairs_clear clash xs is =
       pairs_of_all (λ a b. clash a b ≡ false) xs
-      (each_weaker (λ a. is_clear clash xs a ≡ true) (λ a. Each (λ b. clash a b ≡ false) xs) (λ a k. each_from_none (clash a) xs (not-true (list_any (clash a) xs) k)) xs
+      (each_weaker (λ a. is_clear clash xs a ≡ true) (λ a. Each (λ b. clash a b ≡ false) xs)
+          (λ a k. each_from_none (clash a) xs (not-true (list_any (clash a) xs) k)) xs
       (each_from_all (is_clear clash xs) xs is))

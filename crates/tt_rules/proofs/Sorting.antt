@@ -22,7 +22,8 @@ module _ {A : Type 0} (is_before : A → A → Bool) where
   each_inserted : (P : A → Type 0) (x : A) (ys : List A) → P x → Each P ys → Each P (inserted is_before x ys)
   each_inserted P x [] here h = (here, tt)
   each_inserted P x (y ∷ ys) here h = by (is_before y x) (each_inserted P x ys here h.1) where
-    by : (b : Bool) → Each P (inserted is_before x ys) → Each P (if b then y ∷ inserted is_before x ys else x ∷ (y ∷ ys))
+    by : (b : Bool) → Each P (inserted is_before x ys)
+        → Each P (if b then y ∷ inserted is_before x ys else x ∷ (y ∷ ys))
     by true rest = (h.0, rest)
     by false rest = (here, h)
 
@@ -31,14 +32,17 @@ module _ {A : Type 0} (is_before : A → A → Bool) where
   each_ascending P (x ∷ xs) h = each_inserted P x (ascending is_before xs) h.0 (each_ascending P xs h.1)
 
   -- what holds of two elements in either order
-  pairs_inserted : (R : A → A → Type 0) → ((x y : A) → R x y → R y x) → (x : A) (ys : List A) → Each (R x) ys → Pairs R ys → Pairs R (inserted is_before x ys)
+  pairs_inserted : (R : A → A → Type 0) → ((x y : A) → R x y → R y x) → (x : A) (ys : List A) → Each (R x) ys
+      → Pairs R ys → Pairs R (inserted is_before x ys)
   pairs_inserted R turned x [] own h = (tt, tt)
   pairs_inserted R turned x (y ∷ ys) own h = by (is_before y x) (pairs_inserted R turned x ys own.1 h.1) where
-    by : (b : Bool) → Pairs R (inserted is_before x ys) → Pairs R (if b then y ∷ inserted is_before x ys else x ∷ (y ∷ ys))
+    by : (b : Bool) → Pairs R (inserted is_before x ys)
+        → Pairs R (if b then y ∷ inserted is_before x ys else x ∷ (y ∷ ys))
     by true rest = (each_inserted (R y) x ys (turned x y own.0) h.0, rest)
     by false rest = (own, h)
 
-  pub pairs_ascending : (R : A → A → Type 0) → ((x y : A) → R x y → R y x) → (xs : List A) → Pairs R xs → Pairs R (ascending is_before xs)
+  pub pairs_ascending : (R : A → A → Type 0) → ((x y : A) → R x y → R y x) → (xs : List A) → Pairs R xs
+      → Pairs R (ascending is_before xs)
   pairs_ascending R turned [] h = tt
   pairs_ascending R turned (x ∷ xs) h =
       pairs_inserted R turned x (ascending is_before xs) (each_ascending (R x) xs h.0) (pairs_ascending R turned xs h.1)
@@ -49,11 +53,13 @@ module _ {A : Type 0} (is_before : A → A → Bool) where
   abbrev pub InOrder : A → A → Type 0
   InOrder x y = is_before y x ≡ false
 
-  module _ (one_way : (x y : A) → is_before x y ≡ true → is_before y x ≡ false) (through : (x y z : A) → InOrder x y → InOrder y z → InOrder x z) where
+  module _ (one_way : (x y : A) → is_before x y ≡ true → is_before y x ≡ false)
+      (through : (x y z : A) → InOrder x y → InOrder y z → InOrder x z) where
     order_inserted : (x : A) (ys : List A) → Pairs InOrder ys → Pairs InOrder (inserted is_before x ys)
     order_inserted x [] h = (tt, tt)
     order_inserted x (y ∷ ys) h = by (is_before y x) refl (order_inserted x ys h.1) where
-      by : (b : Bool) → is_before y x ≡ b → Pairs InOrder (inserted is_before x ys) → Pairs InOrder (if b then y ∷ inserted is_before x ys else x ∷ (y ∷ ys))
+      by : (b : Bool) → is_before y x ≡ b → Pairs InOrder (inserted is_before x ys)
+          → Pairs InOrder (if b then y ∷ inserted is_before x ys else x ∷ (y ∷ ys))
       by true is rest = (each_inserted (InOrder y) x ys (one_way y x is) h.0, rest)
       by false is rest = ((is, each_weaker (InOrder y) (InOrder x) (λ z k. through x y z is k) ys h.0), h)
 

@@ -65,10 +65,13 @@ opens_kind r.HookShutdown owner is = ap (λ o. Opener (kind_or o)) is
 opens_kind row owner is = cc
 
 -- a row stands where it may, and those after it do
-pub formed : (stack : List Open) (last : ℕ) (row : NumberedRow) (rows : List NumberedRow) → lines_2_from stack last (row ∷ rows) ≡ []
-    → (is_misplaced stack (standing_of row.row) ≡ false) × (lines_2_from (stack_then stack (standing_of row.row)) row.line rows ≡ [])
+pub formed : (stack : List Open) (last : ℕ) (row : NumberedRow) (rows : List NumberedRow)
+    → lines_2_from stack last (row ∷ rows) ≡ []
+    → (is_misplaced stack (standing_of row.row) ≡ false)
+    × (lines_2_from (stack_then stack (standing_of row.row)) row.line rows ≡ [])
 formed stack last row rows is = by (is_misplaced stack (standing_of row.row)) is where
-  by : (b : Bool) → (if b then row.line ∷ [] else lines_2_from (stack_then stack (standing_of row.row)) row.line rows) ≡ []
+  by : (b : Bool) → (if b then row.line ∷ [] else lines_2_from (stack_then stack (standing_of row.row)) row.line rows)
+      ≡ []
       → (b ≡ false) × (lines_2_from (stack_then stack (standing_of row.row)) row.line rows ≡ [])
   by true wrong = cc
   by false right = (refl, right)
@@ -77,10 +80,12 @@ formed stack last row rows is = by (is_misplaced stack (standing_of row.row)) is
 
 -- a test that does not look inside a statement
 pub record IsShallow (test : Head → Bool) : Type 0 where
-  pub branches : (expr : Expr) (first second : List Bool) → test (Stmt-F.If expr first second) ≡ test (Stmt-F.If expr [] [])
+  pub branches : (expr : Expr) (first second : List Bool)
+      → test (Stmt-F.If expr first second) ≡ test (Stmt-F.If expr [] [])
   pub turns : (n : ℕ) (body : List Bool) → test (Stmt-F.Repeat n body) ≡ test (Stmt-F.Repeat n [])
 
-module _ (test : OwnerKind → Head → Bool) (shallow : (k : OwnerKind) → IsShallow (test k)) (names : List NameEntry) where
+module _ (test : OwnerKind → Head → Bool) (shallow : (k : OwnerKind) → IsShallow (test k))
+    (names : List NameEntry) where
   abbrev pub passes : OwnerKind → Option Head → Bool
   passes k None = true
   passes k (Some head) = test k head
@@ -90,35 +95,47 @@ module _ (test : OwnerKind → Head → Bool) (shallow : (k : OwnerKind) → IsS
   Passes k (row ∷ rows) = (passes k (head_of names row.row) ≡ true) × Passes (owner_after k (standing_of row.row)) rows
 
   -- a statement passes where its head and those inside it do
-  statement_passes : (k : OwnerKind) (head : Head) (first second : List Stmt) → test k head ≡ true → each_in (test k) first ≡ true → each_in (test k) second ≡ true
+  statement_passes : (k : OwnerKind) (head : Head) (first second : List Stmt) → test k head ≡ true
+      → each_in (test k) first ≡ true → each_in (test k) second ≡ true
       → each_of (test k) (statement_of head first second) ≡ true
-  statement_passes k (Stmt-F.Work n) first second is one other = fold-Work Bool (λ stmt. test k stmt && inner_pass stmt) n ∙ and_from (test k (Stmt-F.Work n)) true is refl
-  statement_passes k (Stmt-F.Take n) first second is one other = fold-Take Bool (λ stmt. test k stmt && inner_pass stmt) n ∙ and_from (test k (Stmt-F.Take n)) true is refl
-  statement_passes k (Stmt-F.Set v e) first second is one other = fold-Set Bool (λ stmt. test k stmt && inner_pass stmt) v e ∙ and_from (test k (Stmt-F.Set v e)) true is refl
-  statement_passes k (Stmt-F.Out e) first second is one other = fold-Out Bool (λ stmt. test k stmt && inner_pass stmt) e ∙ and_from (test k (Stmt-F.Out e)) true is refl
-  statement_passes k (Stmt-F.Service c) first second is one other = fold-Service Bool (λ stmt. test k stmt && inner_pass stmt) c ∙ and_from (test k (Stmt-F.Service c)) true is refl
+  statement_passes k (Stmt-F.Work n) first second is one other =
+      fold-Work Bool (λ stmt. test k stmt && inner_pass stmt) n ∙ and_from (test k (Stmt-F.Work n)) true is refl
+  statement_passes k (Stmt-F.Take n) first second is one other =
+      fold-Take Bool (λ stmt. test k stmt && inner_pass stmt) n ∙ and_from (test k (Stmt-F.Take n)) true is refl
+  statement_passes k (Stmt-F.Set v e) first second is one other =
+      fold-Set Bool (λ stmt. test k stmt && inner_pass stmt) v e ∙ and_from (test k (Stmt-F.Set v e)) true is refl
+  statement_passes k (Stmt-F.Out e) first second is one other =
+      fold-Out Bool (λ stmt. test k stmt && inner_pass stmt) e ∙ and_from (test k (Stmt-F.Out e)) true is refl
+  statement_passes k (Stmt-F.Service c) first second is one other =
+      fold-Service Bool (λ stmt. test k stmt && inner_pass stmt) c ∙ and_from (test k (Stmt-F.Service c)) true is refl
   statement_passes k (Stmt-F.If e x y) first second is one other =
       fold-If Bool (λ stmt. test k stmt && inner_pass stmt) e first second
       ∙ and_from (test k (Stmt-F.If e _ _)) (each_in (test k) first && each_in (test k) second)
-      ((shallow k).branches e _ _ ∙ sym ((shallow k).branches e x y) ∙ is) (and_from (each_in (test k) first) (each_in (test k) second) one other)
+      ((shallow k).branches e _ _ ∙ sym ((shallow k).branches e x y) ∙ is)
+          (and_from (each_in (test k) first) (each_in (test k) second) one other)
   statement_passes k (Stmt-F.Repeat n x) first second is one other =
       fold-Repeat Bool (λ stmt. test k stmt && inner_pass stmt) n first
-      ∙ and_from (test k (Stmt-F.Repeat n _)) (each_in (test k) first) ((shallow k).turns n _ ∙ sym ((shallow k).turns n x) ∙ is) one
+      ∙ and_from (test k (Stmt-F.Repeat n _)) (each_in (test k) first)
+          ((shallow k).turns n _ ∙ sym ((shallow k).turns n x) ∙ is) one
 
   -- what stands in each open thing passes
   abbrev Fits : List Open → OwnerKind → List Branches → Type 0
   Fits [] k rest = Unit {0}
   Fits (open_ ∷ stack) k [] = Unit {0}
-  Fits (open_ ∷ stack) k (b ∷ rest) = (each_in (test k) b.first ≡ true) × ((each_in (test k) b.second ≡ true) × Fits stack k rest)
+  Fits (open_ ∷ stack) k (b ∷ rest) =
+      (each_in (test k) b.first ≡ true) × ((each_in (test k) b.second ≡ true) × Fits stack k rest)
 
-  fits-plain : (inner : Open) (outer : List Open) (k : OwnerKind) (head : Option Head) (rest : List Branches) → passes k head ≡ true
+  fits-plain : (inner : Open) (outer : List Open) (k : OwnerKind) (head : Option Head) (rest : List Branches)
+      → passes k head ≡ true
       → Fits (inner ∷ outer) k rest → Fits (inner ∷ outer) k (plain_then head rest)
   fits-plain inner outer k None rest is there = there
   fits-plain inner outer k (Some head) [] is there = tt
   fits-plain inner outer k (Some head) (b ∷ rest) is there =
-      (and_from (each_of (test k) (statement_of head [] [])) (each_in (test k) b.first) (statement_passes k head [] [] is refl refl) there.0, there.1)
+      (and_from (each_of (test k) (statement_of head [] [])) (each_in (test k) b.first)
+          (statement_passes k head [] [] is refl refl) there.0, there.1)
 
-  fits-block : (own inner : Open) (outer : List Open) (k : OwnerKind) (head : Option Head) (rest : List Branches) → is_some head ≡ true → passes k head ≡ true
+  fits-block : (own inner : Open) (outer : List Open) (k : OwnerKind) (head : Option Head) (rest : List Branches)
+      → is_some head ≡ true → passes k head ≡ true
       → Fits (own ∷ inner ∷ outer) k rest → Fits (inner ∷ outer) k (block_then head rest)
   fits-block own inner outer k None rest some is there = cc
   fits-block own inner outer k (Some head) [] some is there = tt
@@ -129,7 +146,8 @@ module _ (test : OwnerKind → Head → Bool) (shallow : (k : OwnerKind) → IsS
     there.1.1.1,
   )
 
-  fits-else : (inner : Open) (outer : List Open) (k : OwnerKind) (head : Option Head) (rest : List Branches) → is_misplaced (inner ∷ outer) OfElse ≡ false
+  fits-else : (inner : Open) (outer : List Open) (k : OwnerKind) (head : Option Head) (rest : List Branches)
+      → is_misplaced (inner ∷ outer) OfElse ≡ false
       → Fits (stack_then (inner ∷ outer) OfElse) k rest → Fits (inner ∷ outer) k (row_then OfElse head rest)
   fits-else If outer k head [] ok there = tt
   fits-else If outer k head (b ∷ rest) ok there = (refl, (there.0, there.1.1))
@@ -137,41 +155,52 @@ module _ (test : OwnerKind → Head → Bool) (shallow : (k : OwnerKind) → IsS
   fits-else Else outer k head rest ok there = cc
   fits-else Repeat outer k head rest ok there = cc
 
-  fits-row : (stack : List Open) (k : OwnerKind) (standing : Standing) (head : Option Head) (rest : List Branches) → is_misplaced stack standing ≡ false
-      → has_block standing head ≡ true → passes k head ≡ true → Fits (stack_then stack standing) (owner_after k standing) rest → Fits stack k (row_then standing head rest)
+  fits-row : (stack : List Open) (k : OwnerKind) (standing : Standing) (head : Option Head) (rest : List Branches)
+      → is_misplaced stack standing ≡ false
+      → has_block standing head ≡ true → passes k head ≡ true
+      → Fits (stack_then stack standing) (owner_after k standing) rest → Fits stack k (row_then standing head rest)
   fits-row [] k standing head rest ok block is there = tt
   fits-row (inner ∷ outer) k Top head rest ok block is there = cc
   fits-row (inner ∷ outer) k (Opener other) head rest ok block is there = cc
   fits-row (inner ∷ outer) k Plain head rest ok block is there = fits-plain inner outer k head rest is there
   fits-row (inner ∷ outer) k OfIf head rest ok block is there = fits-block If inner outer k head rest block is there
-  fits-row (inner ∷ outer) k OfRepeat head rest ok block is there = fits-block Repeat inner outer k head rest block is there
+  fits-row (inner ∷ outer) k OfRepeat head rest ok block is there =
+      fits-block Repeat inner outer k head rest block is there
   fits-row (inner ∷ outer) k OfElse head rest ok block is there = fits-else inner outer k head rest ok there
   fits-row (inner ∷ outer) k OfEnd head rest ok block is there = (refl, (refl, there))
 
-  fits : (stack : List Open) (last : ℕ) (k : OwnerKind) (rows : List NumberedRow) → lines_2_from stack last rows ≡ [] → Passes k rows → Fits stack k (branches_from names rows)
+  fits : (stack : List Open) (last : ℕ) (k : OwnerKind) (rows : List NumberedRow) → lines_2_from stack last rows ≡ []
+      → Passes k rows → Fits stack k (branches_from names rows)
   fits [] last k rows is pass = tt
   fits (inner ∷ outer) last k [] is pass = tt
   fits (inner ∷ outer) last k (row ∷ rows) is pass =
       let ok = formed (inner ∷ outer) last row rows is in
-      fits-row (inner ∷ outer) k (standing_of row.row) (head_of names row.row) (branches_from names rows) ok.0 (block_head names row.row) pass.0
-      (fits (stack_then (inner ∷ outer) (standing_of row.row)) row.line (owner_after k (standing_of row.row)) rows ok.1 pass.1)
+      fits-row (inner ∷ outer) k (standing_of row.row) (head_of names row.row) (branches_from names rows) ok.0
+          (block_head names row.row) pass.0
+      (fits (stack_then (inner ∷ outer) (standing_of row.row)) row.line
+          (owner_after k (standing_of row.row)) rows ok.1 pass.1)
 
   abbrev pub IsFit : At BodyPart → Type 0
   IsFit x = each_in (test (kind_of x.part.owner)) x.part.body ≡ true
 
   opened : (stack : List Open) (k own : OwnerKind) (rest : List Branches) → is_misplaced stack (Opener own) ≡ false
-      → Fits (stack_then stack (Opener own)) (owner_after k (Opener own)) rest → each_in (test own) (first_branch rest) ≡ true
+      → Fits (stack_then stack (Opener own)) (owner_after k (Opener own)) rest
+      → each_in (test own) (first_branch rest) ≡ true
   opened [] k own [] ok there = refl
   opened [] k own (b ∷ rest) ok there = there.0
   opened (inner ∷ outer) k own rest ok there = cc
 
-  fit-body : (stack : List Open) (k : OwnerKind) (row : Row) (owner : Owner) (rest : List Branches) → owner_in row ≡ Some owner → is_misplaced stack (standing_of row) ≡ false
-      → Fits (stack_then stack (standing_of row)) (owner_after k (standing_of row)) rest → each_in (test (kind_of owner)) (first_branch rest) ≡ true
+  fit-body : (stack : List Open) (k : OwnerKind) (row : Row) (owner : Owner) (rest : List Branches)
+      → owner_in row ≡ Some owner → is_misplaced stack (standing_of row) ≡ false
+      → Fits (stack_then stack (standing_of row)) (owner_after k (standing_of row)) rest
+      → each_in (test (kind_of owner)) (first_branch rest) ≡ true
   fit-body stack k row owner rest is ok there =
       let opens = opens_kind row owner is in
-      opened stack k (kind_of owner) rest (subst (λ s. is_misplaced stack s ≡ false) opens ok) (subst (λ s. Fits (stack_then stack s) (owner_after k s) rest) opens there)
+      opened stack k (kind_of owner) rest (subst (λ s. is_misplaced stack s ≡ false) opens ok)
+          (subst (λ s. Fits (stack_then stack s) (owner_after k s) rest) opens there)
 
-  pub fit_bodies : (stack : List Open) (last : ℕ) (k : OwnerKind) (rows : List NumberedRow) → lines_2_from stack last rows ≡ [] → Passes k rows → Each IsFit (bodies_of names rows)
+  pub fit_bodies : (stack : List Open) (last : ℕ) (k : OwnerKind) (rows : List NumberedRow)
+      → lines_2_from stack last rows ≡ [] → Passes k rows → Each IsFit (bodies_of names rows)
   fit_bodies stack last k [] is pass = tt
   fit_bodies stack last k (row ∷ rows) is pass =
       let ok = formed stack last row rows is in
@@ -179,10 +208,13 @@ module _ (test : OwnerKind → Head → Bool) (shallow : (k : OwnerKind) → IsS
       by (owner_in row.row) refl ok.0 (fits (stack_then stack (standing_of row.row)) row.line more rows ok.1 pass.1)
       (fit_bodies (stack_then stack (standing_of row.row)) row.line more rows ok.1 pass.1) where
         by : (o : Option Owner) → owner_in row.row ≡ o → is_misplaced stack (standing_of row.row) ≡ false
-            → Fits (stack_then stack (standing_of row.row)) (owner_after k (standing_of row.row)) (branches_from names rows)
-            → Each IsFit (bodies_of names rows) → Each IsFit (at_then row.line (body_of o (branches_from names rows)) (bodies_of names rows))
+            → Fits (stack_then stack (standing_of row.row)) (owner_after k (standing_of row.row))
+                (branches_from names rows)
+            → Each IsFit (bodies_of names rows)
+            → Each IsFit (at_then row.line (body_of o (branches_from names rows)) (bodies_of names rows))
         by None of ok there others = others
-        by (Some owner) of ok there others = (fit-body stack k row.row owner (branches_from names rows) of ok there, others)
+        by (Some owner) of ok there others =
+            (fit-body stack k row.row owner (branches_from names rows) of ok there, others)
 
 -- ---- rules 9 and 15
 
@@ -221,30 +253,36 @@ allowed_passes names k (r.Chain task) allowed = allowed
 allowed_passes names k r.Terminate allowed = allowed
 allowed_passes names k row allowed = refl
 
-numbers_pass : (names : List NameEntry) (k : OwnerKind) (rows : List NumberedRow) → list_all has_numbers_in_range (parts (rows_at rows)) ≡ true
+numbers_pass : (names : List NameEntry) (k : OwnerKind) (rows : List NumberedRow)
+    → list_all has_numbers_in_range (parts (rows_at rows)) ≡ true
     → Passes (λ j. is_number_in_range) shallow-number names k rows
 numbers_pass names k [] all = tt
 numbers_pass names k (row ∷ rows) all =
     let both = and_parts (has_numbers_in_range row.row) (list_all has_numbers_in_range (parts (rows_at rows))) all in
     (number_passes names k row.row both.0, numbers_pass names (owner_after k (standing_of row.row)) rows both.1)
 
-pub none-here : (test : Bool) (line : ℕ) (lines : List ℕ) → line_unless test line lines ≡ [] → (test ≡ true) × (lines ≡ [])
+pub none-here : (test : Bool) (line : ℕ) (lines : List ℕ) → line_unless test line lines ≡ []
+    → (test ≡ true) × (lines ≡ [])
 none-here true line lines is = (refl, is)
 none-here false line lines is = cc
 
-rows_pass : (names : List NameEntry) (k : OwnerKind) (rows : List NumberedRow) → lines_15_from k rows ≡ [] → Passes is_allowed shallow-allowed names k rows
+rows_pass : (names : List NameEntry) (k : OwnerKind) (rows : List NumberedRow) → lines_15_from k rows ≡ []
+    → Passes is_allowed shallow-allowed names k rows
 rows_pass names k [] is = tt
 rows_pass names k (row ∷ rows) is =
-    let here = none-here (is_row_allowed k row.row) row.line (lines_15_from (owner_after k (standing_of row.row)) rows) is in
+    let here = none-here (is_row_allowed k row.row) row.line
+        (lines_15_from (owner_after k (standing_of row.row)) rows) is in
     (allowed_passes names k row.row here.0, rows_pass names (owner_after k (standing_of row.row)) rows here.1)
 
-pub bodies_sound : (names : List NameEntry) (rows : List NumberedRow) → lines_2 rows ≡ [] → lines_9 rows ≡ [] → lines_15 rows ≡ []
+pub bodies_sound : (names : List NameEntry) (rows : List NumberedRow) → lines_2 rows ≡ [] → lines_9 rows ≡ []
+    → lines_15 rows ≡ []
     → Each (λ (x : At BodyPart). IsBodySound x.part) (bodies_of names rows)
 bodies_sound names rows is_2 is_9 is_15 =
     let numbers = numbers_pass names kind.Task rows (kept_one 1 (Every has_numbers_in_range) (rows_at rows) is_9) in
     let P = λ (x : At BodyPart). each_in is_number_in_range x.part.body ≡ true in
     let Q = λ (x : At BodyPart). each_in (is_allowed (kind_of x.part.owner)) x.part.body ≡ true in
-    each_weaker (λ (x : At BodyPart). P x × Q x) (λ (x : At BodyPart). IsBodySound x.part) (λ x h. record { numbers = h.0; allowed = h.1 }) (bodies_of names rows)
+    each_weaker (λ (x : At BodyPart). P x × Q x) (λ (x : At BodyPart). IsBodySound x.part)
+        (λ x h. record { numbers = h.0; allowed = h.1 }) (bodies_of names rows)
     (each_both P Q (bodies_of names rows)
     (fit_bodies (λ j. is_number_in_range) shallow-number names [] 0 kind.Task rows is_2 numbers)
     (fit_bodies is_allowed shallow-allowed names [] 0 kind.Task rows is_2 (rows_pass names kind.Task rows is_15)))

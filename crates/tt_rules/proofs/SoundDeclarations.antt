@@ -23,7 +23,8 @@ use Rattle.tt_rules.proofs.Pairs.{pairs_differ}
 
 -- ---- the round
 
-pub first-passes : (test : ℕ → Bool) (ns : List ℕ) → 1 ≤ length ns → list_all test ns ≡ true → test (first_or_zero ns) ≡ true
+pub first-passes : (test : ℕ → Bool) (ns : List ℕ) → 1 ≤ length ns → list_all test ns ≡ true
+    → test (first_or_zero ns) ≡ true
 first-passes test [] some is = absurd (omega arith)
 first-passes test (n ∷ ns) some is = (and_parts (test n) (list_all test ns) is).0
 
@@ -33,9 +34,11 @@ round_within d is =
     let ns = parts d.rounds in
     let all = kept d.first rule_4 d.rounds is in
     let some = and_parts (nat_le 1 (length ns)) _ all in
-    first-passes (is_within 2 10000000) ns (leb-true 1 (length ns) some.0) (and_parts (list_all (is_within 2 10000000) ns) _ some.1).0
+    first-passes (is_within 2 10000000) ns (leb-true 1 (length ns) some.0)
+        (and_parts (list_all (is_within 2 10000000) ns) _ some.1).0
 
-zero-or-first : (test : ℕ → Bool) (ns : List ℕ) → test 0 ≡ true → list_all test ns ≡ true → test (first_or_zero ns) ≡ true
+zero-or-first : (test : ℕ → Bool) (ns : List ℕ) → test 0 ≡ true → list_all test ns ≡ true
+    → test (first_or_zero ns) ≡ true
 zero-or-first test [] here is = here
 zero-or-first test (n ∷ ns) here is = (and_parts (test n) (list_all test ns) is).0
 
@@ -48,14 +51,17 @@ adjust_within d is =
 
 -- ---- names
 
-free : (xs : List NameEntry) → Each (λ (e : NameEntry). not (is_reserved e.name) ≡ true) xs → Pairs (λ (a b : NameEntry). bytes_eq a.name b.name ≡ false) xs
+free : (xs : List NameEntry) → Each (λ (e : NameEntry). not (is_reserved e.name) ≡ true) xs
+    → Pairs (λ (a b : NameEntry). bytes_eq a.name b.name ≡ false) xs
     → are_names_free xs ≡ true
 free [] fit apart = refl
 free (x ∷ xs) fit apart =
     and_from (not (is_reserved x.name)) _ fit.0
     (and_from (not (list_any (λ (other : NameEntry). bytes_eq other.name x.name) xs)) (are_names_free xs)
     (ap not (none_from_each (λ (other : NameEntry). bytes_eq other.name x.name) xs
-    (each_weaker (λ (b : NameEntry). bytes_eq x.name b.name ≡ false) (λ (b : NameEntry). bytes_eq b.name x.name ≡ false) (λ b k. nat_list_eq_equiv.symm b.name x.name ∙ k) xs apart.0)))
+    (each_weaker (λ (b : NameEntry). bytes_eq x.name b.name ≡ false)
+        (λ (b : NameEntry). bytes_eq b.name x.name ≡ false)
+        (λ b k. nat_list_eq_equiv.symm b.name x.name ∙ k) xs apart.0)))
     (free xs fit.1 apart.1))
 
 -- 7. The names differ, and none is reserved.
@@ -65,9 +71,11 @@ names_free d is =
     let fit = λ (e : NameEntry). not (is_reserved e.name) in
     let same = same_by bytes_eq (λ (e : NameEntry). Some e.name) in
     let both = and_parts (list_all fit names) _ (kept d.first rule_7 d.names is) in
-    free names (each_from_all fit names both.0) (pairs_differ same names (and_parts (differ_from same [] names) true both.1).0)
+    free names (each_from_all fit names both.0)
+        (pairs_differ same names (and_parts (differ_from same [] names) true both.1).0)
 
-counted : (d : Declarations) (kind : NameKind) → length (parts (filter_at (is_of_kind kind) d.names)) ≡ count_of kind (parts d.names)
+counted : (d : Declarations) (kind : NameKind)
+    → length (parts (filter_at (is_of_kind kind) d.names)) ≡ count_of kind (parts d.names)
 counted d kind =
     ap length (filter_at-parts (is_of_kind kind) d.names)
     ∙ sym (length-map (filter (is_of_kind kind) (parts d.names)) (λ (e : NameEntry). e.name))
@@ -89,16 +97,22 @@ of_kinds P each Kind.Oisr = each.1.1.1.1.1.1.0
 -- 8. A kind has no more names than its limit, and there is a mode.
 few : (d : Declarations) → lines_8 d ≡ [] → (kind : NameKind) → count_of kind (parts d.names) ≤ most_of kind
 few d is kind =
-    let none = of_kinds (λ k. lines_past d k ≡ []) (each_none (lines_past d) kinds (none_right (breaking d.first Present (filter_at (is_of_kind Kind.Mode) d.names)) _ is)) kind in
+    let none = of_kinds (λ k. lines_past d k ≡ [])
+        (each_none (lines_past d) kinds
+        (none_right (breaking d.first Present (filter_at (is_of_kind Kind.Mode) d.names)) _ is)) kind in
     let xs = filter_at (is_of_kind kind) d.names in
-    subst (λ n. n ≤ most_of kind) (counted d kind) (leb-true (length (parts xs)) (most_of kind) (kept_one d.first (AtMost (most_of kind)) xs none))
+    subst (λ n. n ≤ most_of kind) (counted d kind)
+        (leb-true (length (parts xs)) (most_of kind) (kept_one d.first (AtMost (most_of kind)) xs none))
 
 some_mode : (d : Declarations) → lines_8 d ≡ [] → 1 ≤ count_of Kind.Mode (parts d.names)
 some_mode d is =
     let xs = filter_at (is_of_kind Kind.Mode) d.names in
-    subst (λ n. 1 ≤ n) (counted d Kind.Mode) (leb-true 1 (length (parts xs)) (kept_one d.first Present xs (none_left (breaking d.first Present xs) (flat_map (lines_past d) kinds) is)))
+    subst (λ n. 1 ≤ n) (counted d Kind.Mode)
+        (leb-true 1 (length (parts xs))
+        (kept_one d.first Present xs (none_left (breaking d.first Present xs) (flat_map (lines_past d) kinds) is)))
 
-pub declarations_sound : (d : Declarations) → lines_4 d ≡ [] → lines_6 d ≡ [] → lines_7 d ≡ [] → lines_8 d ≡ [] → AreDeclarationsSound d
+pub declarations_sound : (d : Declarations) → lines_4 d ≡ [] → lines_6 d ≡ [] → lines_7 d ≡ [] → lines_8 d ≡ []
+    → AreDeclarationsSound d
 declarations_sound d is_4 is_6 is_7 is_8 =
     let within = and_parts (nat_le 2 (round_of d)) (nat_le (round_of d) 10000000) (round_within d is_4) in
     record {

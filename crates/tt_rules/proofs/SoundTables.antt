@@ -30,7 +30,8 @@ pub record AreEntriesApart (a b : Entry) : Type 0 where
   pub forth : comes_between a b ≡ false
   pub back : comes_between b a ≡ false
 
--- two activations of a mode have different offsets, and the earlier has its deadline before the later, where they are of one task
+-- two activations of a mode have different offsets, and the earlier has its deadline before the later, where they are
+-- of one task
 pub record AreApart (a b : Activation) : Type 0 where
   pub differ : a.offset ≡ b.offset → ⊥
   pub forth : a.offset < b.offset → has_ended_before a b ≡ true
@@ -49,28 +50,35 @@ pub alone : {A : Type 0} (R : A → A → Type 0) (here : Bool) (a : A) → Pair
 alone R true a = (tt, tt)
 alone R false a = tt
 
-ended : (mode other : ModeNo) (a b : Activation) → comes_between (entry.Activates mode a) (entry.Activates other b) ≡ false → (mode.0 == other.0) ≡ true
+ended : (mode other : ModeNo) (a b : Activation)
+    → comes_between (entry.Activates mode a) (entry.Activates other b) ≡ false → (mode.0 == other.0) ≡ true
     → a.offset < b.offset → has_ended_before a b ≡ true
 ended mode other a b is same less = by (b.task.0 == a.task.0) refl where
   by : (t : Bool) → (b.task.0 == a.task.0) ≡ t → not t || nat_le a.deadline b.offset ≡ true
   by false t = refl
   by true t =
-      le-leb a.deadline b.offset (ltb-false b.offset a.deadline (false_from_ne_true (nat_lt b.offset a.deadline) (λ within. both_ways _ is
-      (and_from (mode.0 == other.0) _ same (and_from (a.task.0 == b.task.0) _ (eq-eqb a.task.0 b.task.0 (sym (eqb-true b.task.0 a.task.0 t)))
+      le-leb a.deadline b.offset (ltb-false b.offset a.deadline
+          (false_from_ne_true (nat_lt b.offset a.deadline) (λ within. both_ways _ is
+      (and_from (mode.0 == other.0) _ same
+          (and_from (a.task.0 == b.task.0) _ (eq-eqb a.task.0 b.task.0 (sym (eqb-true b.task.0 a.task.0 t)))
       (and_from (nat_lt a.offset b.offset) _ (lt-ltb a.offset b.offset less) within))))))
 
 module _ (mode : ℕ) where
   same_mode : (a b : ℕ) → (a == mode) ≡ true → (b == mode) ≡ true → (a == b) ≡ true
   same_mode a b one other = eq-eqb a b (eqb-true a mode one ∙ sym (eqb-true b mode other))
 
-  activations_apart : (x y : Entry) → AreEntriesApart x y → Each (λ a. Each (AreApart a) (activation_in mode y)) (activation_in mode x)
+  activations_apart : (x y : Entry) → AreEntriesApart x y
+      → Each (λ a. Each (AreApart a) (activation_in mode y)) (activation_in mode x)
   activations_apart (entry.Activates m a) (entry.Activates n b) h =
-      one (λ a. Each (AreApart a) (activation_in mode (entry.Activates n b))) (m.0 == mode) a (λ here. one (AreApart a) (n.0 == mode) b (λ there. record {
-        differ = λ e. both_ways _ h.place (and_from (m.0 == n.0) _ (same_mode m.0 n.0 here there) (eq-eqb a.offset b.offset e));
+      one (λ a. Each (AreApart a) (activation_in mode (entry.Activates n b))) (m.0 == mode) a
+          (λ here. one (AreApart a) (n.0 == mode) b (λ there. record {
+        differ = λ e. both_ways _ h.place
+            (and_from (m.0 == n.0) _ (same_mode m.0 n.0 here there) (eq-eqb a.offset b.offset e));
         forth = ended m n a b h.forth (same_mode m.0 n.0 here there);
         back = ended n m b a h.back (same_mode n.0 m.0 there here);
       }))
-  activations_apart (entry.Activates m a) (entry.Enables n f) h = one (λ a. Each (AreApart a) []) (m.0 == mode) a (λ here. tt)
+  activations_apart (entry.Activates m a) (entry.Enables n f) h =
+      one (λ a. Each (AreApart a) []) (m.0 == mode) a (λ here. tt)
   activations_apart (entry.Enables m e) y h = tt
 
   activation_alone : (x : Entry) → Pairs AreApart (activation_in mode x)
@@ -86,11 +94,16 @@ module _ (mode : ℕ) where
   enables_turned : (a b : Enable) → AreEnablesApart a b → AreEnablesApart b a
   enables_turned a b h = λ offset isr. h (sym offset) (sym isr)
 
-  enables_apart : (x y : Entry) → AreEntriesApart x y → Each (λ a. Each (AreEnablesApart a) (enable_in mode y)) (enable_in mode x)
+  enables_apart : (x y : Entry) → AreEntriesApart x y
+      → Each (λ a. Each (AreEnablesApart a) (enable_in mode y)) (enable_in mode x)
   enables_apart (entry.Enables m a) (entry.Enables n b) h =
-      one (λ a. Each (AreEnablesApart a) (enable_in mode (entry.Enables n b))) (m.0 == mode) a (λ here. one (AreEnablesApart a) (n.0 == mode) b (λ there offset isr.
-      both_ways _ h.enable (and_from ((m.0 == n.0) && (a.offset == b.offset)) _ (and_from (m.0 == n.0) _ (same_mode m.0 n.0 here there) (eq-eqb a.offset b.offset offset)) (eq-eqb a.isr.0 b.isr.0 isr))))
-  enables_apart (entry.Enables m a) (entry.Activates n f) h = one (λ a. Each (AreEnablesApart a) []) (m.0 == mode) a (λ here. tt)
+      one (λ a. Each (AreEnablesApart a) (enable_in mode (entry.Enables n b))) (m.0 == mode) a
+          (λ here. one (AreEnablesApart a) (n.0 == mode) b (λ there offset isr.
+      both_ways _ h.enable (and_from ((m.0 == n.0) && (a.offset == b.offset)) _
+          (and_from (m.0 == n.0) _ (same_mode m.0 n.0 here there) (eq-eqb a.offset b.offset offset))
+          (eq-eqb a.isr.0 b.isr.0 isr))))
+  enables_apart (entry.Enables m a) (entry.Activates n f) h =
+      one (λ a. Each (AreEnablesApart a) []) (m.0 == mode) a (λ here. tt)
   enables_apart (entry.Activates m e) y h = tt
 
   enable_alone : (x : Entry) → Pairs AreEnablesApart (enable_in mode x)
@@ -99,16 +112,24 @@ module _ (mode : ℕ) where
 
   -- ---- how many
 
-  entries_of : (xs : List Entry) → length (flat_map (activation_in mode) xs) + length (flat_map (enable_in mode) xs) ≡ length (filter (is_of mode) xs)
+  entries_of : (xs : List Entry)
+      → length (flat_map (activation_in mode) xs) + length (flat_map (enable_in mode) xs)
+      ≡ length (filter (is_of mode) xs)
   entries_of [] = refl
   entries_of (entry.Activates m a ∷ xs) = by (m.0 == mode) (entries_of xs) where
-    by : (b : Bool) → length (flat_map (activation_in mode) xs) + length (flat_map (enable_in mode) xs) ≡ length (filter (is_of mode) xs)
-        → length ((if b then a ∷ [] else []) ++ flat_map (activation_in mode) xs) + length (flat_map (enable_in mode) xs) ≡ length (if b then entry.Activates m a ∷ filter (is_of mode) xs else filter (is_of mode) xs)
+    by : (b : Bool) → length (flat_map (activation_in mode) xs) + length (flat_map (enable_in mode) xs)
+        ≡ length (filter (is_of mode) xs)
+        → length ((if b then a ∷ [] else []) ++ flat_map (activation_in mode) xs) + length
+            (flat_map (enable_in mode) xs)
+        ≡ length (if b then entry.Activates m a ∷ filter (is_of mode) xs else filter (is_of mode) xs)
     by true rest = omega arith
     by false rest = rest
   entries_of (entry.Enables m e ∷ xs) = by (m.0 == mode) (entries_of xs) where
-    by : (b : Bool) → length (flat_map (activation_in mode) xs) + length (flat_map (enable_in mode) xs) ≡ length (filter (is_of mode) xs)
-        → length (flat_map (activation_in mode) xs) + length ((if b then e ∷ [] else []) ++ flat_map (enable_in mode) xs) ≡ length (if b then entry.Enables m e ∷ filter (is_of mode) xs else filter (is_of mode) xs)
+    by : (b : Bool) → length (flat_map (activation_in mode) xs) + length (flat_map (enable_in mode) xs)
+        ≡ length (filter (is_of mode) xs)
+        → length (flat_map (activation_in mode) xs) + length
+            ((if b then e ∷ [] else []) ++ flat_map (enable_in mode) xs)
+        ≡ length (if b then entry.Enables m e ∷ filter (is_of mode) xs else filter (is_of mode) xs)
     by true rest = omega arith
     by false rest = rest
 
@@ -118,7 +139,8 @@ one_way : (a b : Activation) → is_earlier a b ≡ true → is_earlier b a ≡ 
 one_way a b is = le-ltb b.offset a.offset (omega (arith, ltb-true a.offset b.offset is))
 
 through : (a b c : Activation) → InOrder is_earlier a b → InOrder is_earlier b c → InOrder is_earlier a c
-through a b c one other = le-ltb c.offset a.offset (omega (arith, ltb-false b.offset a.offset one, ltb-false c.offset b.offset other))
+through a b c one other = le-ltb c.offset a.offset
+    (omega (arith, ltb-false b.offset a.offset one, ltb-false c.offset b.offset other))
 
 -- an activation comes before another, and has its deadline before it where they are of one task
 abbrev ComesBefore : Activation → Activation → Type 0
@@ -132,19 +154,24 @@ before a b h =
 sorted : (acts : List Activation) → Pairs AreApart acts → Pairs ComesBefore (ascending is_earlier acts)
 sorted acts h =
     pairs_weaker (λ a b. AreApart a b × InOrder is_earlier a b) ComesBefore before (ascending is_earlier acts)
-    (pairs_both AreApart (InOrder is_earlier) (ascending is_earlier acts) (pairs_ascending is_earlier AreApart turned acts h) (order_ascending is_earlier one_way through acts))
+    (pairs_both AreApart (InOrder is_earlier) (ascending is_earlier acts)
+        (pairs_ascending is_earlier AreApart turned acts h) (order_ascending is_earlier one_way through acts))
 
-offsets : (least : ℕ) (acts : List Activation) → Each (λ (a : Activation). least ≤ a.offset) acts → Pairs ComesBefore acts → offsets_ascend least acts ≡ true
+offsets : (least : ℕ) (acts : List Activation) → Each (λ (a : Activation). least ≤ a.offset) acts
+    → Pairs ComesBefore acts → offsets_ascend least acts ≡ true
 offsets least [] low h = refl
 offsets least (a ∷ rest) low h =
     and_from (nat_le least a.offset) _ (le-leb least a.offset low.0)
-    (offsets (a.offset + 1) rest (each_weaker (ComesBefore a) (λ (b : Activation). a.offset + 1 ≤ b.offset) (λ b k. omega (arith, k.0)) rest h.0) h.1)
+    (offsets (a.offset + 1) rest
+        (each_weaker (ComesBefore a) (λ (b : Activation). a.offset + 1 ≤ b.offset)
+        (λ b k. omega (arith, k.0)) rest h.0) h.1)
 
 deadlines : (acts : List Activation) → Pairs ComesBefore acts → are_apart acts ≡ true
 deadlines [] h = refl
 deadlines (a ∷ rest) h =
     and_from (list_all (has_ended_before a) rest) _
-    (all_from_each (has_ended_before a) rest (each_weaker (ComesBefore a) (λ b. has_ended_before a b ≡ true) (λ b k. k.1) rest h.0)) (deadlines rest h.1)
+    (all_from_each (has_ended_before a) rest
+        (each_weaker (ComesBefore a) (λ b. has_ended_before a b ≡ true) (λ b k. k.1) rest h.0)) (deadlines rest h.1)
 
 abbrev is_before : ℕ → ℕ → ℕ → ℕ → Bool
 is_before a m b n = nat_lt a b || ((a == b) && nat_lt m n)
@@ -158,7 +185,8 @@ before_through a m b n c k one other = grind (arith, nat_tests)
 before_other : (a m b n : ℕ) → is_before b n a m ≡ false → (a ≡ b → m ≡ n → ⊥) → is_before a m b n ≡ true
 before_other a m b n is differ = grind (arith, nat_tests)
 
-enables_sorted : (mode : ℕ) (es : List Enable) → Pairs (AreEnablesApart mode) es → Pairs (λ a b. comes_before a b ≡ true) (ascending is_enabled_earlier es)
+enables_sorted : (mode : ℕ) (es : List Enable) → Pairs (AreEnablesApart mode) es
+    → Pairs (λ a b. comes_before a b ≡ true) (ascending is_enabled_earlier es)
 enables_sorted mode es h =
     pairs_weaker (λ a b. AreEnablesApart mode a b × InOrder is_enabled_earlier a b) (λ a b. comes_before a b ≡ true)
     (λ a b k. before_other a.offset a.isr.0 b.offset b.isr.0 k.1 k.0) (ascending is_enabled_earlier es)
@@ -169,7 +197,8 @@ enables_sorted mode es h =
 
 ascend : (es : List Enable) → Pairs (λ a b. comes_before a b ≡ true) es → enables_ascend es ≡ true
 ascend [] h = refl
-ascend (e ∷ rest) h = and_from (list_all (comes_before e) rest) _ (all_from_each (comes_before e) rest h.0) (ascend rest h.1)
+ascend (e ∷ rest) h = and_from (list_all (comes_before e) rest) _ (all_from_each (comes_before e) rest h.0)
+    (ascend rest h.1)
 
 -- ---- the whole
 
@@ -177,7 +206,8 @@ flat-last : (f : ℕ → List ℕ) (xs : List ℕ) (x : ℕ) → flat_map f (xs 
 flat-last f [] x = append-nil (f x)
 flat-last f (y ∷ xs) x = ap (λ ls. f y ++ ls) (flat-last f xs x) ∙ sym (append_assoc (f y) (flat_map f xs) (f x))
 
-module _ (c : ConfigParts) (modes : ℕ) (located : List (At Entry)) (all_known : list_all (is_entry_known modes (length c.tasks) (length c.isrs)) (parts located) ≡ true)
+module _ (c : ConfigParts) (modes : ℕ) (located : List (At Entry))
+    (all_known : list_all (is_entry_known modes (length c.tasks) (length c.isrs)) (parts located) ≡ true)
     (kept : AreTablesKept (c.round - c.adjust) modes located) where
   abbrev xs : List Entry
   xs = parts located
@@ -197,46 +227,61 @@ module _ (c : ConfigParts) (modes : ℕ) (located : List (At Entry)) (all_known 
       let E = λ (x : Entry). is_enable_early limit x ≡ true in
       let D = λ (x : Entry). has_deadline limit x ≡ true in
       each_weaker (λ x. K x × (E x × D x)) IsFit (λ x k. record { known = k.0; early = k.1.0; deadline = k.1.1 }) xs
-      (each_both K (λ x. E x × D x) xs (each_from_all (is_entry_known modes (length c.tasks) (length c.isrs)) xs all_known)
-      (each_both E D xs (each_from_all (is_enable_early limit) xs (kept_one 1 (Every (is_enable_early limit)) located kept.enables)) (each_from_all (has_deadline limit) xs (kept_one 1 (Every (has_deadline limit)) located kept.deadlines))))
+      (each_both K (λ x. E x × D x) xs
+          (each_from_all (is_entry_known modes (length c.tasks) (length c.isrs)) xs all_known)
+      (each_both E D xs (each_from_all (is_enable_early limit) xs
+          (kept_one 1 (Every (is_enable_early limit)) located kept.enables))
+          (each_from_all (has_deadline limit) xs (kept_one 1 (Every (has_deadline limit)) located kept.deadlines))))
 
   all_apart : Pairs AreEntriesApart xs
   all_apart =
       let P = λ (a b : Entry). same_place a b ≡ false in
       let E = λ (a b : Entry). same_enable a b ≡ false in
       let C = λ (a b : Entry). (comes_between a b ≡ false) × (comes_between b a ≡ false) in
-      pairs_weaker (λ a b. P a b × (E a b × C a b)) AreEntriesApart (λ a b k. record { place = k.0; enable = k.1.0; forth = k.1.1.0; back = k.1.1.1 }) xs
-      (pairs_both P (λ a b. E a b × C a b) xs (pairs_differ same_place xs (kept_one 1 (Differ same_place) located kept.places))
-      (pairs_both E C xs (pairs_differ same_enable xs (kept_one 1 (Differ same_enable) located kept.sources)) (pairs_clear comes_between xs (kept_one 1 (Clear comes_between) located kept.apart))))
+      pairs_weaker (λ a b. P a b × (E a b × C a b)) AreEntriesApart
+          (λ a b k. record { place = k.0; enable = k.1.0; forth = k.1.1.0; back = k.1.1.1 }) xs
+      (pairs_both P (λ a b. E a b × C a b) xs
+          (pairs_differ same_place xs (kept_one 1 (Differ same_place) located kept.places))
+      (pairs_both E C xs (pairs_differ same_enable xs (kept_one 1 (Differ same_enable) located kept.sources))
+          (pairs_clear comes_between xs (kept_one 1 (Clear comes_between) located kept.apart))))
 
   activation_fits : (mode : ℕ) (x : Entry) → IsFit x → Each (λ a. is_activation c a ≡ true) (activation_in mode x)
   activation_fits mode (entry.Activates m a) fit =
       one (λ a. is_activation c a ≡ true) (m.0 == mode) a (λ here.
-      and_from (nat_lt a.task.0 (length c.tasks)) (is_deadline limit a) (and_parts (nat_lt m.0 modes) (nat_lt a.task.0 (length c.tasks)) fit.known).1 fit.deadline)
+      and_from (nat_lt a.task.0 (length c.tasks)) (is_deadline limit a)
+          (and_parts (nat_lt m.0 modes) (nat_lt a.task.0 (length c.tasks)) fit.known).1 fit.deadline)
   activation_fits mode (entry.Enables m e) fit = tt
 
   enable_fits : (mode : ℕ) (x : Entry) → IsFit x → Each (λ e. is_enable c e ≡ true) (enable_in mode x)
   enable_fits mode (entry.Activates m a) fit = tt
   enable_fits mode (entry.Enables m e) fit =
       one (λ e. is_enable c e ≡ true) (m.0 == mode) e (λ here.
-      and_from (nat_lt e.isr.0 (length c.isrs)) (nat_lt e.offset limit) (and_parts (nat_lt m.0 modes) (nat_lt e.isr.0 (length c.isrs)) fit.known).1 fit.early)
+      and_from (nat_lt e.isr.0 (length c.isrs)) (nat_lt e.offset limit)
+          (and_parts (nat_lt m.0 modes) (nat_lt e.isr.0 (length c.isrs)) fit.known).1 fit.early)
 
   -- 14, 18 to 24. The table of each mode keeps the rules.
   mode_fits : (mode : ℕ) → length (filter (is_of mode) xs) ≤ 4096 → IsMode c (mode_with xs mode)
   mode_fits mode few =
       let acts = flat_map (activation_in mode) xs in
       let ens = flat_map (enable_in mode) xs in
-      let apart = sorted acts (pairs_flat_map (activation_in mode) AreEntriesApart AreApart (activations_apart mode) (activation_alone mode) xs all_apart) in
+      let apart = sorted acts (pairs_flat_map (activation_in mode) AreEntriesApart AreApart (activations_apart mode)
+          (activation_alone mode) xs all_apart) in
       record {
         activations = all_from_each (is_activation c) (ascending is_earlier acts)
-            (each_ascending is_earlier (λ a. is_activation c a ≡ true) acts (each_flat_map (activation_in mode) IsFit (λ a. is_activation c a ≡ true) (activation_fits mode) xs all_fit));
-        ascending = offsets 0 (ascending is_earlier acts) (each_always (λ (a : Activation). 0 ≤ a.offset) (λ a. omega arith) (ascending is_earlier acts)) apart;
+            (each_ascending is_earlier (λ a. is_activation c a ≡ true) acts
+                (each_flat_map (activation_in mode) IsFit (λ a. is_activation c a ≡ true)
+                (activation_fits mode) xs all_fit));
+        ascending = offsets 0 (ascending is_earlier acts)
+            (each_always (λ (a : Activation). 0 ≤ a.offset) (λ a. omega arith) (ascending is_earlier acts)) apart;
         apart = deadlines (ascending is_earlier acts) apart;
         enables = all_from_each (is_enable c) (ascending is_enabled_earlier ens)
-            (each_ascending is_enabled_earlier (λ e. is_enable c e ≡ true) ens (each_flat_map (enable_in mode) IsFit (λ e. is_enable c e ≡ true) (enable_fits mode) xs all_fit));
+            (each_ascending is_enabled_earlier (λ e. is_enable c e ≡ true) ens
+                (each_flat_map (enable_in mode) IsFit (λ e. is_enable c e ≡ true) (enable_fits mode) xs all_fit));
         enables_ascending = ascend (ascending is_enabled_earlier ens)
-            (enables_sorted mode ens (pairs_flat_map (enable_in mode) AreEntriesApart (AreEnablesApart mode) (enables_apart mode) (enable_alone mode) xs all_apart));
-        few = omega (arith, length-ascending is_earlier acts, length-ascending is_enabled_earlier ens, entries_of mode xs);
+            (enables_sorted mode ens (pairs_flat_map (enable_in mode) AreEntriesApart (AreEnablesApart mode)
+                (enables_apart mode) (enable_alone mode) xs all_apart));
+        few = omega (arith, length-ascending is_earlier acts, length-ascending is_enabled_earlier ens,
+            entries_of mode xs);
       }
 
   -- no line of a number below one
@@ -252,6 +297,8 @@ module _ (c : ConfigParts) (modes : ℕ) (located : List (At Entry)) (all_known 
 
   pub mode_sound : (mode : ℕ) → mode < modes → IsMode c (mode_with xs mode)
   mode_sound mode lt =
-      let most = kept_one 1 (AtMost 4096) (filter_at (is_of mode) located) (none_below (lines_of_mode located) modes mode lt kept.few) in
-      let few : length (parts (filter_at (is_of mode) located)) ≤ 4096 = leb-true (length (parts (filter_at (is_of mode) located))) 4096 most in
+      let most = kept_one 1 (AtMost 4096) (filter_at (is_of mode) located)
+          (none_below (lines_of_mode located) modes mode lt kept.few) in
+      let few : length (parts (filter_at (is_of mode) located)) ≤ 4096 =
+          leb-true (length (parts (filter_at (is_of mode) located))) 4096 most in
       mode_fits mode (subst (λ ys. length ys ≤ 4096) (filter_at-parts (is_of mode) located) few)

@@ -23,11 +23,13 @@ key_cmp x y = ordering_then (ordering_then (nat_cmp x.0 y.0) (nat_cmp x.1 y.1)) 
 
 -- a set has the keys of some entries and no others
 abbrev pub HasKeys : BTreeSet Key → List (At Entry) → Type 0
-HasKeys set xs = (key : Key) → contains key_cmp set key ≡ list_any (λ (x : At Entry). is_key (eq_by_cmp key_cmp) key (key_of x.part)) xs
+HasKeys set xs = (key : Key)
+    → contains key_cmp set key ≡ list_any (λ (x : At Entry). is_key (eq_by_cmp key_cmp) key (key_of x.part)) xs
 
 -- a key has the mode and the task of another, and comes above its offset and below a deadline
 abbrev pub comes_between_key : Key → ℕ → Key → Bool
-comes_between_key key deadline other = ((key.0 == other.0) && (key.1 == other.1)) && (nat_lt key.2 other.2 && nat_lt other.2 deadline)
+comes_between_key key deadline other =
+    ((key.0 == other.0) && (key.1 == other.1)) && (nat_lt key.2 other.2 && nat_lt other.2 deadline)
 
 -- no key comes above the offset of an activation and below its deadline
 abbrev pub is_apart : List Key → Entry → Bool

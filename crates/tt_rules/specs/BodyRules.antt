@@ -105,7 +105,8 @@ owner_after kind standing = kind
 -- 15. Each row of a body is allowed for its owner. Here, with the kind of the owner before the rows.
 abbrev pub lines_15_from : OwnerKind → List NumberedRow → List ℕ
 lines_15_from kind [] = []
-lines_15_from kind (row ∷ rows) = line_unless (is_row_allowed kind row.row) row.line (lines_15_from (owner_after kind (standing_of row.row)) rows)
+lines_15_from kind (row ∷ rows) =
+    line_unless (is_row_allowed kind row.row) row.line (lines_15_from (owner_after kind (standing_of row.row)) rows)
 
 abbrev pub lines_15 : List NumberedRow → List ℕ
 lines_15 rows = lines_15_from kind.Task rows

@@ -15,7 +15,8 @@ abbrev pub has_numbers_in_range : Row → Bool
 has_numbers_in_range (r.Task name stack) = nat_le stack 65535
 has_numbers_in_range (r.Demand name most usual) = nat_le most 10000000 && nat_le usual most
 has_numbers_in_range (r.Isr name level stack) = is_within 1 255 level && nat_le stack 65535
-has_numbers_in_range (r.IsrFar name level stack distance) = is_within 1 255 level && (nat_le stack 65535 && is_within 1 1000000000 distance)
+has_numbers_in_range (r.IsrFar name level stack distance) =
+    is_within 1 255 level && (nat_le stack 65535 && is_within 1 1000000000 distance)
 has_numbers_in_range (r.Osek name priority) = is_within 1 255 priority
 has_numbers_in_range (r.OsekAuto name priority) = is_within 1 255 priority
 has_numbers_in_range (r.Oisr name priority) = is_within 1 255 priority

@@ -40,7 +40,8 @@ pub record AreDeclarationsSound (d : Declarations) : Type 0 where
 
 -- Rules 4, 6, 7 and 8 make the round and the names those of a configuration.
 abbrev pub DeclarationsAreSound : Type 0
-DeclarationsAreSound = (d : Declarations) → lines_4 d ≡ [] → lines_6 d ≡ [] → lines_7 d ≡ [] → lines_8 d ≡ [] → AreDeclarationsSound d
+DeclarationsAreSound = (d : Declarations) → lines_4 d ≡ [] → lines_6 d ≡ [] → lines_7 d ≡ [] → lines_8 d ≡ []
+    → AreDeclarationsSound d
 
 -- no line breaks a rule on tables
 pub record AreTablesKept (limit modes : ℕ) (xs : List (At Entry)) : Type 0 where
@@ -53,7 +54,8 @@ pub record AreTablesKept (limit modes : ℕ) (xs : List (At Entry)) : Type 0 whe
 
 -- Rules 14 and 19 to 24 make the table of each mode one of a configuration.
 abbrev pub TablesAreSound : Type 0
-TablesAreSound = (c : ConfigParts) (modes : ℕ) (xs : List (At Entry)) → list_all (is_entry_known modes (length c.tasks) (length c.isrs)) (parts xs) ≡ true
+TablesAreSound = (c : ConfigParts) (modes : ℕ) (xs : List (At Entry))
+    → list_all (is_entry_known modes (length c.tasks) (length c.isrs)) (parts xs) ≡ true
     → AreTablesKept (c.round - c.adjust) modes xs → (mode : ℕ) → mode < modes → IsMode c (mode_with (parts xs) mode)
 
 abbrev pub kind_of : Owner → OwnerKind
@@ -71,5 +73,6 @@ pub record IsBodySound (b : BodyPart) : Type 0 where
 
 -- Rules 2, 9 and 15 make it so for each body.
 abbrev pub BodiesAreSound : Type 0
-BodiesAreSound = (names : List NameEntry) (rows : List NumberedRow) → lines_2 rows ≡ [] → lines_9 rows ≡ [] → lines_15 rows ≡ []
+BodiesAreSound = (names : List NameEntry) (rows : List NumberedRow) → lines_2 rows ≡ [] → lines_9 rows ≡ []
+    → lines_15 rows ≡ []
     → AllByRecursion (λ (x : At BodyPart). IsBodySound x.part) (bodies_of names rows)

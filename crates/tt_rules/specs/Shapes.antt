@@ -1,4 +1,5 @@
--- Rules on parts. A rule is said once and read twice: as the lines that break it, and as a test of the parts without their lines.
+-- Rules on parts. A rule is said once and read twice: as the lines that break it, and as a test of the parts without
+-- their lines.
 use Rattle.std.specs.Prelude.{◌≡◌, ℕ, ◌&&◌, not, nat_le, Bool, true, false, Option, Some, None, List, [], ◌∷◌, ◌++◌, drop, filter, length}
 use Rattle.std.specs.List.{list_all, list_any}
 use Rattle.std.specs.Fn.{Shared, FnReturnsAt}
@@ -7,8 +8,8 @@ use Rattle.tt_parts.specs.declared.located.At.{At}
 pub use Rattle.tt_parts.specs.Located.{parts, lines}
 use Rattle.tt_rules.specs.Lines.{line_unless}
 
--- a rule on a list of parts: there is one; there are at most n; every one passes a test; no one is the same as one above; no
--- one clashes with one of them
+-- a rule on a list of parts: there is one; there are at most n; every one passes a test; no one is the same as one
+-- above; no one clashes with one of them
 pub data Shape (A : Type 0) : Type 0 where
   Present : Shape A
   AtMost : ℕ → Shape A

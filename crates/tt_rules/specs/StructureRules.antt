@@ -17,7 +17,8 @@ is_header row = false
 -- 1. The first row is the header and no other row is.
 abbrev pub lines_1 : List NumberedRow → List ℕ
 lines_1 [] = 1 ∷ []
-lines_1 (row ∷ rows) = if is_header row.row then breaking 1 (Every (λ other. not (is_header other))) (rows_at rows) else row.line ∷ []
+lines_1 (row ∷ rows) = if is_header row.row then breaking 1 (Every (λ other. not (is_header other))) (rows_at rows)
+    else row.line ∷ []
 
 abbrev pub is_nothing : Option (List Open) → Bool
 is_nothing None = true
@@ -45,7 +46,8 @@ last_line_if_open (inner ∷ outer) last = last ∷ []
 abbrev pub lines_2_from : List Open → ℕ → List NumberedRow → List ℕ
 lines_2_from stack last [] = last_line_if_open stack last
 lines_2_from stack last (row ∷ rows) =
-    if is_misplaced stack (standing_of row.row) then row.line ∷ [] else lines_2_from (stack_then stack (standing_of row.row)) row.line rows
+    if is_misplaced stack (standing_of row.row) then row.line ∷ []
+        else lines_2_from (stack_then stack (standing_of row.row)) row.line rows
 
 abbrev pub lines_2 : List NumberedRow → List ℕ
 lines_2 rows = lines_2_from [] 0 rows
@@ -62,7 +64,8 @@ is_block_high stack row = not (opens_block row && nat_le 5 (length stack))
 -- 3. At most 4 blocks are open at once inside a body, beside the body itself: the row that opens the fifth.
 abbrev pub lines_3_from : List Open → List NumberedRow → List ℕ
 lines_3_from stack [] = []
-lines_3_from stack (row ∷ rows) = line_unless (is_block_high stack row.row) row.line (lines_3_from (stack_then stack (standing_of row.row)) rows)
+lines_3_from stack (row ∷ rows) =
+    line_unless (is_block_high stack row.row) row.line (lines_3_from (stack_then stack (standing_of row.row)) rows)
 
 abbrev pub lines_3 : List NumberedRow → List ℕ
 lines_3 rows = lines_3_from [] rows

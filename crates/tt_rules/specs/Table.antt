@@ -39,10 +39,12 @@ AreKept rules d = (n : ℕ) → slice_index_or rules n (λ (other : Document). [
 -- ---- the rules by topic
 
 abbrev pub structure_rules : List Rule
-structure_rules = (λ (d : Document). lines_1 d.rows) ∷ (λ (d : Document). lines_2 d.rows) ∷ (λ (d : Document). lines_3 d.rows) ∷ []
+structure_rules = (λ (d : Document). lines_1 d.rows) ∷ (λ (d : Document). lines_2 d.rows)
+    ∷ (λ (d : Document). lines_3 d.rows) ∷ []
 
 abbrev pub round_rules : List Rule
-round_rules = (λ (d : Document). lines_4 d.declared) ∷ (λ (d : Document). lines_5 d.declared) ∷ (λ (d : Document). lines_6 d.declared) ∷ []
+round_rules = (λ (d : Document). lines_4 d.declared) ∷ (λ (d : Document). lines_5 d.declared)
+    ∷ (λ (d : Document). lines_6 d.declared) ∷ []
 
 abbrev pub name_rules : List Rule
 name_rules = (λ (d : Document). lines_7 d.declared) ∷ (λ (d : Document). lines_8 d.declared) ∷ []
@@ -54,19 +56,22 @@ declaration_rules =
 
 abbrev pub body_rules : List Rule
 body_rules =
-    (λ (d : Document). lines_14 (names_of d) d.rows) ∷ (λ (d : Document). lines_15 d.rows) ∷ (λ (d : Document). lines_16 d.bodies)
+    (λ (d : Document). lines_14 (names_of d) d.rows) ∷ (λ (d : Document). lines_15 d.rows)
+        ∷ (λ (d : Document). lines_16 d.bodies)
     ∷ (λ (d : Document). lines_17 (parts d.said.demands) d.bodies) ∷ []
 
 abbrev pub table_rules : List Rule
 table_rules =
-    (λ (d : Document). lines_18 (limit_of d.declared) d.said.entries) ∷ (λ (d : Document). lines_19 (limit_of d.declared) d.said.entries)
+    (λ (d : Document). lines_18 (limit_of d.declared) d.said.entries)
+        ∷ (λ (d : Document). lines_19 (limit_of d.declared) d.said.entries)
     ∷ (λ (d : Document). lines_20 (limit_of d.declared) d.said.entries) ∷ (λ (d : Document). lines_21 d.said.entries)
     ∷ (λ (d : Document). lines_22 d.said.entries) ∷ (λ (d : Document). lines_23 d.said.entries)
     ∷ (λ (d : Document). lines_24 (count_of Kind.Mode (names_of d)) d.said.entries) ∷ []
 
 abbrev pub input_rules : List Rule
 input_rules =
-    (λ (d : Document). lines_25 d.declared.first d.said.starts) ∷ (λ (d : Document). lines_26 d.declared.first d.said.counts)
+    (λ (d : Document). lines_25 d.declared.first d.said.starts)
+        ∷ (λ (d : Document). lines_26 d.declared.first d.said.counts)
     ∷ (λ (d : Document). lines_27 d.said.arrivals) ∷ (λ (d : Document). lines_28 d.said.values) ∷ []
 
 -- those that need no number of a name, and those that do

@@ -155,7 +155,8 @@ fn is_light(demands: &Demands, body: &BodyPart) -> bool
     is_hook(body.owner) || worst(&body.body, demands) <= MOST_TICKS
 }
 
-/// Rule 17. The worst case of each body of a task, an isr, an osek or an oisr is at most 10^12 ticks.
+/// Rule 17. The worst case of each body of a task, an isr, an osek or an oisr is at most 10^12
+/// ticks.
 fn rule_17(demands: &Demands, bodies: &[At<BodyPart>]) -> Option<u32>
     requires { AreTellable demands.now bodies.now }
     ensures { result ≡ least_line (lines_17 demands.now bodies.now) }

@@ -53,13 +53,14 @@ fn is_after(tick: u64, latest: Option<u64>) -> bool
     }
 }
 
-/// Notes an arrival as the latest of its source, and answers whether it is after the one before. One that is not
-/// is not noted.
+/// Notes an arrival as the latest of its source, and answers whether it is after the one before.
+/// One that is not is not noted.
 fn note(latest: &mut HashMap<(usize, u16), u64>, arrival: &Arrival) -> Result<bool, Memory>
     ensures after { IfOk result (λ after. after
         ≡ is_after arrival.now.tick (latest_at (get same_pair latest.old) arrival.now.source)) }
     ensures latest { OnOk result ((q : _) → get same_pair latest.new q
-        ≡ latest_then (is_thing q arrival.now.source) arrival.now.tick (get same_pair latest.old q)) }
+        ≡ latest_then (is_thing q arrival.now.source) arrival.now.tick
+            (get same_pair latest.old q)) }
 {
     let Some(which) = arrival.source else {
         return Ok(true);

@@ -7,13 +7,14 @@ pub fn declarations_are_sound()
     ensures { DeclarationsAreSound }
 {}
 
-/// Where no line breaks rules 19 to 24, and each entry names what is declared, the table of each mode is one of a
-/// configuration.
+/// Where no line breaks rules 19 to 24, and each entry names what is declared, the table of each
+/// mode is one of a configuration.
 pub fn tables_are_sound()
     ensures { TablesAreSound }
 {}
 
-/// Where no line breaks rules 2, 9 and 15, the numbers of each body are in range, and its owner may have its statements.
+/// Where no line breaks rules 2, 9 and 15, the numbers of each body are in range, and its owner
+/// may have its statements.
 pub fn bodies_are_sound()
     ensures { BodiesAreSound }
 {}

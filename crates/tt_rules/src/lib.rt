@@ -1,5 +1,5 @@
-//! The rules of the bench on the rows of a document and their parts, by topic. Each rule answers the
-//! least line that breaks it.
+//! The rules of the bench on the rows of a document and their parts, by topic. Each rule answers
+//! the least line that breaks it.
 #![tactic(auto)]
 
 mod bodies;

@@ -30,7 +30,8 @@ fn key_of(entry: &Entry) -> Option<Key>
 /// Puts a key that there may be into a set.
 fn put_key(keys: &mut BTreeSet<Key>, key: Option<Key>) -> Result<(), Memory>
     ensures { OnOk result ((q : _)
-        → contains key_cmp keys.new q ≡ is_key (eq_by_cmp key_cmp) q key || contains key_cmp keys.old q) }
+        → contains key_cmp keys.new q ≡ is_key (eq_by_cmp key_cmp) q key
+            || contains key_cmp keys.old q) }
 {
     match key {
         None => Ok(()),
@@ -75,7 +76,8 @@ fn is_apart(keys: &BTreeSet<Key>, entry: &Entry) -> bool
     }
 }
 
-/// Rule 23. No other activation of the mode and the task of one has an offset above its offset and below its deadline.
+/// Rule 23. No other activation of the mode and the task of one has an offset above its offset and
+/// below its deadline.
 pub(crate) fn rule_23(alloc: Global, entries: &[At<Entry>]) -> Result<Option<u32>, Memory>
     ensures { IfOk result (λ line. line ≡ least_line (lines_23 entries.now)) }
 {

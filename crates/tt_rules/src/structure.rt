@@ -39,7 +39,8 @@ fn rule_1(rows: &[NumberedRow]) -> Option<u32>
 
 /// Whether a row may not stand where this is the innermost open thing.
 fn is_misplaced(inner: Option<Open>, standing: Standing) -> bool
-    ensures { (stack : List Open) → inner ≡ slice_get stack 0 → result ≡ is_misplaced stack standing }
+    ensures { (stack : List Open) → inner ≡ slice_get stack 0
+        → result ≡ is_misplaced stack standing }
 {
     match (inner, standing) {
         (None, Standing::Top | Standing::Opener(_)) => false,
@@ -71,8 +72,8 @@ fn pass(stack: &mut FrontList<Open>, standing: Standing) -> Result<(), Memory>
     }
 }
 
-/// Rule 2. Blocks are well formed: the first row that stands where it may not, or the last row where something is
-/// open after it. The stack of what is open takes memory.
+/// Rule 2. Blocks are well formed: the first row that stands where it may not, or the last row
+/// where something is open after it. The stack of what is open takes memory.
 fn rule_2(alloc: Global, rows: &[NumberedRow]) -> Result<Option<u32>, Memory>
     ensures { IfOk result (λ line. line ≡ least_line (lines_2 rows.now)) }
 {

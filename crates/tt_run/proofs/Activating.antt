@@ -26,10 +26,12 @@ few_rows : (c : ConfigParts) (n : ℕ) → IsConfig c → length (mode_at c n).a
 few_rows c n rules =
     ⊎_elim
     (λ (l : n < length c.modes). let few = (All-get_or (IsMode c) c.modes n no_mode l rules.modes).few in omega arith)
-    (λ (g : length c.modes ≤ n). subst (λ (m : ModeDef). length m.activations ≤ 4096) (sym (get_or_past c.modes n no_mode g)) (omega arith))
+    (λ (g : length c.modes ≤ n). subst (λ (m : ModeDef). length m.activations ≤ 4096)
+        (sym (get_or_past c.modes n no_mode g)) (omega arith))
     (cases_lt n (length c.modes))
 
-module _ (c : ConfigParts) (s : ScriptParts) (rules : IsConfig c) (table : TableRows) (w : World) (is_table : IsTableOf c table w)
+module _ (c : ConfigParts) (s : ScriptParts) (rules : IsConfig c) (table : TableRows) (w : World)
+    (is_table : IsTableOf c table w)
     (st : RunState) (fixed : IsFor c s st.beside) (before : BeforeActivation c w st.world) where
   same_mode : table.mode ≡ mode_of c st.world
   same_mode = ap (λ (t : TableRows). t.mode) is_table ∙ ap (λ m. mode_of c (record w { mode = m })) (sym before.mode)
@@ -41,7 +43,8 @@ module _ (c : ConfigParts) (s : ScriptParts) (rules : IsConfig c) (table : Table
       let here : entry_at (offset_of st.world) (mode_of c st.world).activations ≡ Some entry =
       ap (λ o. entry_at o (mode_of c st.world).activations) before.offset
       ∙ ap (λ (m : ModeDef). entry_at (offset_of w) m.activations) (sym same_mode) ∙ sym is in
-      let inside : entry < length (mode_of c st.world).activations = subst (λ (m : ModeDef). entry < length m.activations) same_mode within in
+      let inside : entry < length (mode_of c st.world).activations =
+          subst (λ (m : ModeDef). entry < length m.activations) same_mode within in
       let exists : (row_of table.mode entry).task.0 < length c.tasks =
       subst (λ (m : ModeDef). (row_of m entry).task.0 < length c.tasks) (sym same_mode)
       (task_exists c s rules st.world before.ahead before.placed entry here entry inside) in

@@ -1,14 +1,12 @@
 -- A routine that begins.
-use Rattle.std.proofs.Common.{ℕ, ◌≡◌, ◌≢◌, ◌<◌, ◌≤◌, ◌+◌, List, [], ◌∷◌, length, get_or, refl, ap, sym, ◌∙◌, subst, arith}
-use Rattle.std.specs.Prelude.{map, Some, Option, IfSome, slice_set}
+use Rattle.std.proofs.Common.{ℕ, ◌≡◌, ◌≢◌, ◌<◌, ◌≤◌, ◌+◌, List, [], ◌∷◌, length, get_or, ap, ◌∙◌, arith}
+use Rattle.std.specs.Prelude.{Some, Option, IfSome, slice_set}
 use Rattle.std.proofs.lemmas.List.{length-map, map-set}
 use Rattle.std.proofs.lemmas.List.Elements.{All-get_or, All-set}
 use Rattle.task_lang.specs.declared.syntax.Stmt.{Stmt}
 use Rattle.task_machine.specs.Standing.{body_of}
 use Rattle.tt_world.specs.declared.config.ConfigParts.{ConfigParts}
-use Rattle.tt_world.specs.declared.config.IsrDef.{IsrDef}
 use Rattle.tt_world.specs.declared.config.OsekDef.{OsekDef}
-use Rattle.tt_world.specs.declared.config.OisrDef.{OisrDef}
 use Rattle.tt_world.specs.declared.script.ScriptParts.{ScriptParts}
 use Rattle.tt_world.specs.ConfigRules.{IsConfig, IsOisr}
 use Rattle.tt_world.specs.Rows.{no_oisr, routine_of}
@@ -22,12 +20,6 @@ module _ (c : ConfigParts) (s : ScriptParts) (b : Beside) (is_for : IsFor c s b)
   codes_are : b.codes ≡ bodies_of c
   codes_are = ap (λ (f : Fixed). f.codes) is_for
 
-  -- the routine of a time-triggered source is there
-  pub isr_there : (n : ℕ) → n < length c.isrs → n < length b.levels
-  isr_there n l =
-      subst (λ k. n < k)
-      (sym (ap (λ (f : Fixed). length f.levels) is_for ∙ length-map c.isrs (λ (isr : IsrDef). isr.level))) l
-
   -- it begins with its whole body
   pub isr_begins : (n : ℕ) → n < length c.isrs
       → body_of b.codes (b.first + n) ≡ routine_of c (IsrSource (record { 0 = n }))
@@ -35,12 +27,6 @@ module _ (c : ConfigParts) (s : ScriptParts) (b : Beside) (is_for : IsFor c s b)
       ap (λ codes. body_of codes (b.first + n)) codes_are
       ∙ ap (λ first. body_of (bodies_of c) (first + n)) (ap (λ (f : Fixed). f.first) is_for)
       ∙ isr_program c n l
-
-  -- so for the OSEK subsystem
-  pub oisr_there : (n : ℕ) → n < length c.oisrs → n < length b.setup.routines
-  oisr_there n l =
-      subst (λ k. n < k)
-      (sym (ap (λ (f : Fixed). length f.setup.routines) is_for ∙ length-map c.oisrs (λ (oisr : OisrDef). oisr.priority))) l
 
   pub oisr_begins : (n : ℕ) → n < length c.oisrs
       → routine_body b.codes b.setup n ≡ routine_of c (OisrSource (record { 0 = n }))
@@ -52,7 +38,8 @@ module _ (c : ConfigParts) (s : ScriptParts) (b : Beside) (is_for : IsFor c s b)
       ∙ oisr_program c n l
 
 -- the body of a routine is not empty
-pub oisr_some : (c : ConfigParts) → IsConfig c → (n : ℕ) → n < length c.oisrs → routine_of c (OisrSource (record { 0 = n })) ≢ []
+pub oisr_some : (c : ConfigParts) → IsConfig c → (n : ℕ) → n < length c.oisrs
+    → routine_of c (OisrSource (record { 0 = n })) ≢ []
 oisr_some c rules n l e =
     let some = (All-get_or (IsOisr c) c.oisrs n no_oisr l rules.oisrs).routine.some in
     let none : length (get_or c.oisrs n no_oisr).body ≡ 0 = ap length e in
@@ -74,5 +61,6 @@ lefts_begun body n s = map-set left_in s.routines n (Some body)
 pub settled_begun : (body : List Stmt) (n : ℕ) (s : Subsystem) → body ≢ [] → IsSettled s → IsSettled (begun body n s)
 settled_begun body n s some h = record {
   tasks = h.tasks;
-  routines = All-set (λ (state : Option (List Stmt)). IfSome state (λ left. left ≢ [])) s.routines n (Some body) some h.routines;
+  routines = All-set (λ (state : Option (List Stmt)). IfSome state (λ left. left ≢ [])) s.routines n
+      (Some body) some h.routines;
 }

@@ -16,7 +16,8 @@ abbrev no_offset : IsrNo → EnableRow
 no_offset isr = record { offset = 0; isr = isr }
 
 -- what is left gives the world and the end of all, and of the events of all the others were told
-pub record Leads {L : Type 0} (Told : L → List Event → L → Type 0) (before : L) (all : Moved) (now : L) (left : Moved) : Type 0 where
+pub record Leads {L : Type 0} (Told : L → List Event → L → Type 0) (before : L) (all : Moved) (now : L)
+    (left : Moved) : Type 0 where
   pub world_is : all.world ≡ left.world
   pub so_far : SoFar Told before all.events now left.events
   pub end_is : all.end ≡ left.end
@@ -28,7 +29,8 @@ module _ {L : Type 0} {Told : L → List Event → L → Type 0} (telling : IsTe
   module _ (isrs : List IsrNo) (i j : ℕ) (before : L) (all : Moved) (now : L) (w : World)
       (led : Leads Told before all now (enables_by (slice_range isrs i j) w)) where
     pub leads_more : (isr : IsrNo) → i < j → slice_get isrs i ≡ Some isr → (next : L) (v : World)
-        → Gives Told now next v None (enable (no_offset isr) w) → Leads Told before all next (enables_by (slice_range isrs (i + 1) j) v)
+        → Gives Told now next v None (enable (no_offset isr) w)
+        → Leads Told before all next (enables_by (slice_range isrs (i + 1) j) v)
     unfolding enable chain followed
     leads_more isr l here next v g =
         let rest = slice_range isrs (i + 1) j in
@@ -39,7 +41,8 @@ module _ {L : Type 0} {Told : L → List Event → L → Type 0} (telling : IsTe
           so_far = subst (λ es. SoFar Told before all.events next es) (ap (λ (m : Moved). m.events) same)
               (so_far_more telling before now next all.events (enable (no_offset isr) w).events
               (enables_by rest (enable (no_offset isr) w).world).events
-              (subst (λ es. SoFar Told before all.events now es) (ap (λ (m : Moved). m.events) first) led.so_far) g.told);
+              (subst (λ es. SoFar Told before all.events now es) (ap (λ (m : Moved). m.events) first) led.so_far)
+                  g.told);
           end_is = led.end_is ∙ ap (λ (m : Moved). m.end) first ∙ ap (λ (m : Moved). m.end) same;
         }
 

@@ -67,7 +67,8 @@ module _ (c : ConfigParts) where
       enough = omega (arith, length_bodies, length-map c.oisrs (λ (oisr : OisrDef). oisr.body));
       bodies_are = λ n l.
           let within : n < length c.oisrs = omega (arith, l, length-map c.oisrs (λ (oisr : OisrDef). oisr.body)) in
-          let same : (length c.tasks + length c.isrs) + length c.oseks + n ≡ (length c.tasks + length c.isrs) + (length c.oseks + n) =
+          let same : (length c.tasks + length c.isrs) + length c.oseks + n
+              ≡ (length c.tasks + length c.isrs) + (length c.oseks + n) =
           omega arith in
           ap (body_of (bodies_of c)) same ∙ oisr_program c n within
           ∙ sym (get_or-map (λ (oisr : OisrDef). oisr.body) c.oisrs n no_oisr [] within);
@@ -76,7 +77,8 @@ module _ (c : ConfigParts) where
 
 -- ---- before tick 0 the subsystem is settled, and what is left of it is that of the definitions
 
-first_some : (auto : Bool) (body : List Stmt) → 1 ≤ length body → IfSome (if auto then Some body else None) (λ left. left ≢ [])
+first_some : (auto : Bool) (body : List Stmt) → 1 ≤ length body
+    → IfSome (if auto then Some body else None) (λ left. left ≢ [])
 first_some true body some = λ none. let zero : length body ≡ 0 = ap length none in omega (arith, some, zero)
 first_some false body some = tt
 
@@ -88,7 +90,8 @@ lefts_first : (xs : List OsekDef) → lefts (map (λ (task : OsekDef). if task.a
     ≡ map (λ (task : OsekDef). if task.auto then task.body else []) xs
 lefts_first [] = refl
 lefts_first (x ∷ xs) =
-    ap (λ (left : List Stmt). left ∷ lefts (map (λ (task : OsekDef). if task.auto then Some task.body else None) xs)) (first_left x.auto x.body)
+    ap (λ (left : List Stmt). left ∷ lefts (map (λ (task : OsekDef). if task.auto then Some task.body else None) xs))
+        (first_left x.auto x.body)
     ∙ ap (λ (ls : List (List Stmt)). (if x.auto then x.body else []) ∷ ls) (lefts_first xs)
 
 none_left : (xs : List OisrDef) → lefts (map (λ (oisr : OisrDef). None) xs) ≡ replicate (length xs) []
@@ -100,7 +103,8 @@ first_settled c rules = record {
   tasks = All-map (λ (state : Option (List Stmt)). IfSome state (λ left. left ≢ []))
       (λ (task : OsekDef). if task.auto then Some task.body else None) c.oseks
       (λ k d l. first_some (get_or c.oseks k d).auto (get_or c.oseks k d).body (rules.oseks k d l).routine.some);
-  routines = All-map (λ (state : Option (List Stmt)). IfSome state (λ left. left ≢ [])) (λ (oisr : OisrDef). None) c.oisrs (λ k d l. tt);
+  routines = All-map (λ (state : Option (List Stmt)). IfSome state (λ left. left ≢ []))
+      (λ (oisr : OisrDef). None) c.oisrs (λ k d l. tt);
 }
 
 -- what contracts see of a state before tick 0, by its parts
@@ -144,7 +148,8 @@ view_by round env stack gates setup sub = record {
 }
 
 abbrev env_first : ConfigParts → ScriptParts → Store
-env_first c s = record { vars = c.vars; cursors = replicate (length c.demands) 0; demands = c.demands; values = s.values }
+env_first c s = record { vars = c.vars; cursors = replicate (length c.demands) 0; demands = c.demands; values =
+    s.values }
 
 abbrev stack_first : ConfigParts → Stacked
 stack_first c = record {
@@ -155,7 +160,8 @@ stack_first c = record {
   isrs = replicate (length c.isrs) [];
 }
 
-module _ (c : ConfigParts) (s : ScriptParts) (script : IsScript c s) (round : Round) (env : Store) (stack : Stacked) (gates : Window)
+module _ (c : ConfigParts) (s : ScriptParts) (script : IsScript c s) (round : Round) (env : Store) (stack : Stacked)
+    (gates : Window)
     (setup : Setup) (sub : Subsystem) where
   pub first_view : round ≡ first_round c s.start s.rounds s.times
       → env ≡ record { vars = c.vars; cursors = replicate (length c.demands) 0; demands = c.demands; values = s.values }
@@ -171,9 +177,12 @@ module _ (c : ConfigParts) (s : ScriptParts) (script : IsScript c s) (round : Ro
       ap (λ (r : Round). view_by r env stack gates setup sub) er
       ∙ ap (λ (e : Store). view_by (first_round c s.start s.rounds s.times) e stack gates setup sub) ee
       ∙ ap (λ (k : Stacked). view_by (first_round c s.start s.rounds s.times) (env_first c s) k gates setup sub) es
-      ∙ ap (λ (g : Window). view_by (first_round c s.start s.rounds s.times) (env_first c s) (stack_first c) g setup sub) eg
-      ∙ ap (λ (u : Setup). view_by (first_round c s.start s.rounds s.times) (env_first c s) (stack_first c) (new_window s.arrivals) u sub) eu
-      ∙ ap (λ (b : Subsystem). view_by (first_round c s.start s.rounds s.times) (env_first c s) (stack_first c) (new_window s.arrivals)
+      ∙ ap (λ (g : Window). view_by (first_round c s.start s.rounds s.times) (env_first c s)
+          (stack_first c) g setup sub) eg
+      ∙ ap (λ (u : Setup). view_by (first_round c s.start s.rounds s.times) (env_first c s) (stack_first c)
+          (new_window s.arrivals) u sub) eu
+      ∙ ap (λ (b : Subsystem). view_by (first_round c s.start s.rounds s.times) (env_first c s) (stack_first c)
+          (new_window s.arrivals)
       (setup_for c (length c.tasks + length c.isrs)) b) eb
       ∙ ap (λ (ls : List (List Stmt)). record (first_state c s) {
         world = record (first_world c s) {
@@ -199,4 +208,5 @@ module _ (c : ConfigParts) (s : ScriptParts) (script : IsScript c s) (round : Ro
           oisrs_held = replicate (length s.arrivals.oisrs) false;
         };
       }) script.isrs
-      ∙ ap (λ (n : ℕ). record (first_state c s) { world = record (first_world c s) { oisrs_held = replicate n false } }) script.oisrs
+      ∙ ap (λ (n : ℕ). record (first_state c s)
+          { world = record (first_world c s) { oisrs_held = replicate n false } }) script.oisrs

@@ -40,7 +40,8 @@ none_marked lefts flags e = record {
     replicated (suc n) zero = refl
     replicated (suc n) (suc k) = replicated n k
 
-pub one_marked : (n : ℕ) (lefts : List (List Stmt)) (flags : List Bool) → n < 16 → is_done (get_or lefts n []) ≡ false → MarkedTo n lefts flags
+pub one_marked : (n : ℕ) (lefts : List (List Stmt)) (flags : List Bool) → n < 16 → is_done (get_or lefts n []) ≡ false
+    → MarkedTo n lefts flags
     → MarkedTo (n + 1) lefts (set flags n true)
 one_marked n lefts flags l u m =
     let long = m.long in
@@ -52,7 +53,8 @@ one_marked n lefts flags l u m =
       later = λ k h. get_or-set_other flags n k true false (λ e. absurd (omega arith)) ∙ m.later k (omega arith);
     }
 
-pub not_marked : (n : ℕ) (lefts : List (List Stmt)) (flags : List Bool) → is_done (get_or lefts n []) ≡ true → MarkedTo n lefts flags
+pub not_marked : (n : ℕ) (lefts : List (List Stmt)) (flags : List Bool) → is_done (get_or lefts n []) ≡ true
+    → MarkedTo n lefts flags
     → MarkedTo (n + 1) lefts flags
 not_marked n lefts flags d m = record {
   long = m.long;
@@ -80,11 +82,14 @@ none_where states n settled e = not_false _ (sym (ready_at states n settled) ∙
     not_false false e = cc
 
 -- the sources that are marked are those whose routine is unfinished
-pub are_unfinished : (c : ConfigParts) (busy : BusySources) (w : World) (g : Window) → AreMarked (length c.isrs) w.isrs busy.isrs
+pub are_unfinished : (c : ConfigParts) (busy : BusySources) (w : World) (g : Window)
+    → AreMarked (length c.isrs) w.isrs busy.isrs
     → AreMarked (length c.oisrs) w.oisrs busy.oisrs → AreUnfinished c busy w g
-are_unfinished c busy w g isrs oisrs = record { flags = λ place l _. of_source (source_at c place) (source_is c place l) }
+are_unfinished c busy w g isrs oisrs =
+    record { flags = λ place l _. of_source (source_at c place) (source_is c place l) }
   where
-    of_source : (x : Source) → IsSource c x → is_busy busy (source_owner x) ≡ not (is_done (left_of w (source_runner x)))
+    of_source : (x : Source) → IsSource c x
+        → is_busy busy (source_owner x) ≡ not (is_done (left_of w (source_runner x)))
     of_source x (IsIsr k l) = isrs k l
     of_source x (IsOisr k l) = oisrs k l
 
@@ -129,7 +134,8 @@ accepted_window c who g st next world beside =
     ∙ begun_window c who (with_sources g st).world (with_sources g st).beside
 
 -- an acceptance leaves the arrivals to come as they are
-pub accepting_beside : (found : Option Source) (st : RunState) → (with_sources (accepting found (window_in st)) st).beside ≡ st.beside
+pub accepting_beside : (found : Option Source) (st : RunState)
+    → (with_sources (accepting found (window_in st)) st).beside ≡ st.beside
 accepting_beside None st = refl
 accepting_beside (Some (IsrSource isr)) st = refl
 accepting_beside (Some (OisrSource oisr)) st = refl

@@ -58,8 +58,8 @@ pub record Kept (w v : World) : Type 0 where
   pub held : v.isrs_held ≡ w.isrs_held
   pub oheld : v.oisrs_held ≡ w.oisrs_held
 
--- before an activation, at the offset and in the mode of this world: no point of an unfinished activation was passed, and the activations
--- are those of the rows before the offset
+-- before an activation, at the offset and in the mode of this world: no point of an unfinished activation was passed,
+-- and the activations are those of the rows before the offset
 pub record BeforeActivation (c : ConfigParts) (w v : World) : Type 0 where
   pub ahead : Ahead c 1 v
   pub placed : Placed c 0 v
@@ -89,11 +89,13 @@ module _ {L : Type 0} {Told : L → List Event → L → Type 0} (telling : IsTe
     }
 
   module _ (c : ConfigParts) (s : ScriptParts) where
-    pub has_sources : (st next : RunState) → next.beside ≡ st.beside → Kept st.world next.world → HasSources c s st.world.tick st
+    pub has_sources : (st next : RunState) → next.beside ≡ st.beside → Kept st.world next.world
+        → HasSources c s st.world.tick st
         → HasSources c s next.world.tick next
     has_sources st next beside k h = record {
       sources = sources_kept c s st.world.tick st next beside k.held k.oheld h.sources;
-      left = subst (λ t. AreLeftFrom c s t (window_in next)) (sym k.tick) (left_kept c s st.world.tick st next beside h.left);
+      left = subst (λ t. AreLeftFrom c s t (window_in next)) (sym k.tick)
+          (left_kept c s st.world.tick st next beside h.left);
     }
 
     module _ (w : World) where
@@ -101,18 +103,21 @@ module _ {L : Type 0} {Told : L → List Event → L → Type 0} (telling : IsTe
       unfolding latch
       latch_kept =
           cond_both (eqb (offset_of w) (c.round - c.adjust)) _ _ (Holds (Kept w) [])
-          (λ _. record { tick = refl; held = refl; oheld = refl }) (λ _. record { tick = refl; held = refl; oheld = refl })
+          (λ _. record { tick = refl; held = refl; oheld = refl })
+              (λ _. record { tick = refl; held = refl; oheld = refl })
 
       next_kept : Leads (Alone (Kept w)) (Alone (Kept w)) Anything (next_round s)
       unfolding next_round
       next_kept v es p =
-          cond_both (eqb v.number s.rounds) _ _ (Holds (Kept w) es) (λ _. tt) (λ _. record { tick = p.tick; held = p.held; oheld = p.oheld })
+          cond_both (eqb v.number s.rounds) _ _ (Holds (Kept w) es) (λ _. tt)
+              (λ _. record { tick = p.tick; held = p.held; oheld = p.oheld })
 
       pub round_end_kept : Holds (Kept w) [] (round_end c s w)
       unfolding round_end
       round_end_kept =
           cond_both (is_length w.latched (offset_of w)) _ _ (Holds (Kept w) [])
-          (λ _. followed_leads (Alone (Kept w)) (Alone (Kept w)) Anything [] (monitored c (is_at_end (offset_of w)) w) (next_round s)
+          (λ _. followed_leads (Alone (Kept w)) (Alone (Kept w)) Anything [] (monitored c (is_at_end (offset_of w)) w)
+              (next_round s)
           (monitored_holds (Kept w) c _ w [] (λ _. record { tick = refl; held = refl; oheld = refl })) next_kept)
           (λ _. record { tick = refl; held = refl; oheld = refl })
 
@@ -120,20 +125,23 @@ module _ {L : Type 0} {Told : L → List Event → L → Type 0} (telling : IsTe
     unfolding enable
     enables_kept isrs w =
         chain_each (Alone (Kept w)) Anything (λ (isr : IsrNo). enable (record { offset = 0; isr = isr })) isrs
-        (λ x v es p. record { tick = p.tick; held = p.held; oheld = p.oheld }) w [] (record { tick = refl; held = refl; oheld = refl })
+        (λ x v es p. record { tick = p.tick; held = p.held; oheld = p.oheld }) w []
+            (record { tick = refl; held = refl; oheld = refl })
 
     activated_kept : (mode : ModeDef) (found : Option ℕ) (w : World) → Kept w (activated_in c mode found w).world
     activated_kept mode None w = record { tick = refl; held = refl; oheld = refl }
     activated_kept mode (Some entry) w = record { tick = refl; held = refl; oheld = refl }
 
-    activated_accepts : (mode : ModeDef) (found : Option ℕ) (w : World) (x : Source) → is_accepted (activated_in c mode found w).world x ≡ is_accepted w x
+    activated_accepts : (mode : ModeDef) (found : Option ℕ) (w : World) (x : Source)
+        → is_accepted (activated_in c mode found w).world x ≡ is_accepted w x
     activated_accepts mode None w x = refl
     activated_accepts mode (Some entry) w (IsrSource i) = refl
     activated_accepts mode (Some entry) w (OisrSource i) = refl
 
     -- after an activation too the sources are as they were, and nothing can be accepted
     pub is_opened : (t : ℕ) (mode : ModeDef) (found : Option ℕ) (st last : RunState) (a b : L) → last.beside ≡ st.beside
-        → Gives Told a b last.world None (activated_in c mode found st.world) → AreSourcesOf c (window_in st) → AreLeftFrom c s (t + 1) (window_in st)
+        → Gives Told a b last.world None (activated_in c mode found st.world) → AreSourcesOf c (window_in st)
+        → AreLeftFrom c s (t + 1) (window_in st)
         → NoneAccepted c st.world → IsOpened c s t last
     is_opened t mode found st last a b beside g sources left none =
         let k = subst (Kept st.world) (sym g.world_is) (activated_kept mode found st.world) in
@@ -143,7 +151,8 @@ module _ {L : Type 0} {Told : L → List Event → L → Type 0} (telling : IsTe
             left = left_kept c s (t + 1) st last beside left;
           };
           none = λ place l.
-              ap (λ (w : World). is_accepted w (source_at c place)) g.world_is ∙ activated_accepts mode found st.world (source_at c place)
+              ap (λ (w : World). is_accepted w (source_at c place)) g.world_is
+                  ∙ activated_accepts mode found st.world (source_at c place)
               ∙ none place l;
         }
 
@@ -166,29 +175,36 @@ module _ {L : Type 0} {Told : L → List Event → L → Type 0} (telling : IsTe
     module _ (table : TableRows) (w : World) (served : IsServed Begun c s w) (is_table : IsTableOf c table w) (d : Due)
         (stands : StandsAt table (offset_of w) d) where
       checks_part : (a b : L) (v : World) (end : Outcome)
-          → Gives Told a b v end (monitored_entries c table.mode (slice_range (checks_of table) d.checks_from d.checks_to) w)
+          → Gives Told a b v end (monitored_entries c table.mode
+              (slice_range (checks_of table) d.checks_from d.checks_to) w)
           → Gives Told a b v end (monitored c (is_at (offset_of w)) w)
       checks_part a b v end g = due_given telling Begun c s table w served is_table a b v end _ g stands.checks
 
       -- after the checks and the enables the tick and the sources are as they were
       pub enabled : (v u : World) (a b e : L) (end : Outcome) (isrs : List IsrNo)
-          → Gives Told a b v end (monitored_entries c table.mode (slice_range (checks_of table) d.checks_from d.checks_to) w) → end ≡ None
+          → Gives Told a b v end (monitored_entries c table.mode
+              (slice_range (checks_of table) d.checks_from d.checks_to) w) → end ≡ None
           → Gives Told b e u None (enables_by isrs v) → Kept w u
       enabled v u a b e end isrs g on h =
-          let checks = subst (λ o. Gives Told a b v o (monitored c (is_at (offset_of w)) w)) on (checks_part a b v end g) in
-          subst (λ x. Kept x u) (checked_same telling c (is_at (offset_of w)) w v a b checks) (after (Kept v) _ b e u h (enables_kept isrs v))
+          let checks = subst (λ o. Gives Told a b v o (monitored c (is_at (offset_of w)) w)) on
+              (checks_part a b v end g) in
+          subst (λ x. Kept x u) (checked_same telling c (is_at (offset_of w)) w v a b checks)
+              (after (Kept v) _ b e u h (enables_kept isrs v))
 
       -- a check was missed
       pub due_over : (a b : L) (v : World) (end : Outcome) (last : RunEnd)
-          → Gives Told a b v end (monitored_entries c table.mode (slice_range (checks_of table) d.checks_from d.checks_to) w) → end ≡ Some last
+          → Gives Told a b v end (monitored_entries c table.mode
+              (slice_range (checks_of table) d.checks_from d.checks_to) w) → end ≡ Some last
           → Gives Told a b v (Some last) (chain (due c s) w)
       due_over a b v end last g is =
           subst (Gives Told a b v (Some last)) (sym (due_same c s w))
-          (gives_over a b v (Some last) _ _ w refl (subst (λ o. Gives Told a b v o (monitored c (is_at (offset_of w)) w)) is (checks_part a b v end g)))
+          (gives_over a b v (Some last) _ _ w refl
+              (subst (λ o. Gives Told a b v o (monitored c (is_at (offset_of w)) w)) is (checks_part a b v end g)))
 
       -- the enables of the code are those of the definitions
       enables_part : (a b : L) (u v : World) → u ≡ w
-          → Gives Told a b v None (enables_by (slice_range (enables_of table) d.enables_from d.enables_to) u) → Gives Told a b v None (enables c u)
+          → Gives Told a b v None (enables_by (slice_range (enables_of table) d.enables_from d.enables_to) u)
+          → Gives Told a b v None (enables c u)
       unfolding enables
       enables_part a b u v is g =
           let same : table.mode ≡ mode_of c w = ap (λ (t : TableRows). t.mode) is_table in
@@ -196,20 +212,25 @@ module _ {L : Type 0} {Told : L → List Event → L → Type 0} (telling : IsTe
           let here : enables_at (offset_of w) (mode_of c w).enables ≡ enables_at (offset_of u) (mode_of c u).enables =
           ap (λ (x : World). enables_at (offset_of x) (mode_of c x).enables) (sym is) in
           subst (Gives Told a b v None)
-          (ap (λ isrs. enables_by isrs u) (stands.enables ∙ ap (λ (m : ModeDef). isrs_of (rows m)) same) ∙ sym (enables_are (rows (mode_of c w)) u)
+          (ap (λ isrs. enables_by isrs u) (stands.enables ∙ ap (λ (m : ModeDef). isrs_of (rows m)) same)
+              ∙ sym (enables_are (rows (mode_of c w)) u)
           ∙ ap (λ (es : List Enable). chain (map enable es) u) here) g
 
       -- after the acceptances the activations stand as before, and no checked point is ahead of the offset
       pub before_activation : (e0 e1 e2 e3 e4 : L) (w1 w2 w3 w4 : World) (end : Outcome)
-          → Gives Told e0 e1 w1 end (monitored_entries c table.mode (slice_range (checks_of table) d.checks_from d.checks_to) w) → end ≡ None
+          → Gives Told e0 e1 w1 end (monitored_entries c table.mode
+              (slice_range (checks_of table) d.checks_from d.checks_to) w) → end ≡ None
           → Gives Told e1 e2 w2 None (enables_by (slice_range (enables_of table) d.enables_from d.enables_to) w1)
-          → Gives Told e2 e3 w3 None (arrivals c s w2) → Gives Told e3 e4 w4 None (acceptances c w3) → BeforeActivation c w w4
+          → Gives Told e2 e3 w3 None (arrivals c s w2) → Gives Told e3 e4 w4 None (acceptances c w3)
+          → BeforeActivation c w w4
       unfolding checks
       before_activation e0 e1 e2 e3 e4 w1 w2 w3 w4 end g1 on g2 g3 g4 =
-          let checked = subst (λ o. Gives Told e0 e1 w1 o (monitored c (is_at (offset_of w)) w)) on (checks_part e0 e1 w1 end g1) in
+          let checked = subst (λ o. Gives Told e0 e1 w1 o (monitored c (is_at (offset_of w)) w)) on
+              (checks_part e0 e1 w1 end g1) in
           let same1 = checked_same telling c (is_at (offset_of w)) w w1 e0 e1 checked in
           let first : BeforeActivation c w w1 = record {
-            ahead = after (Ahead c 1) (monitored c (is_at (offset_of w)) w) e0 e1 w1 checked (checks_ahead c s served.rules w [] served.ahead);
+            ahead = after (Ahead c 1) (monitored c (is_at (offset_of w)) w) e0 e1 w1 checked
+                (checks_ahead c s served.rules w [] served.ahead);
             placed = subst (Placed c 0) (sym same1) served.placed;
             offset = ap offset_of same1;
             mode = ap (λ (x : World). x.mode) same1;
@@ -222,16 +243,20 @@ module _ {L : Type 0} {Told : L → List Event → L → Type 0} (telling : IsTe
           (acceptances_hold (BeforeActivation c w) (ignores_gates w) c w3 [] third)
 
       pub due_all : (e0 e1 e2 e3 e4 e5 : L) (w1 w2 w3 w4 w5 : World) (end : Outcome)
-          → Gives Told e0 e1 w1 end (monitored_entries c table.mode (slice_range (checks_of table) d.checks_from d.checks_to) w) → end ≡ None
+          → Gives Told e0 e1 w1 end (monitored_entries c table.mode
+              (slice_range (checks_of table) d.checks_from d.checks_to) w) → end ≡ None
           → Gives Told e1 e2 w2 None (enables_by (slice_range (enables_of table) d.enables_from d.enables_to) w1)
           → Gives Told e2 e3 w3 None (arrivals c s w2) → Gives Told e3 e4 w4 None (acceptances c w3)
-          → Gives Told e4 e5 w5 None (activated_in c table.mode d.activation w4) → Gives Told e0 e5 w5 None (chain (due c s) w)
+          → Gives Told e4 e5 w5 None (activated_in c table.mode d.activation w4)
+          → Gives Told e0 e5 w5 None (chain (due c s) w)
       due_all e0 e1 e2 e3 e4 e5 w1 w2 w3 w4 w5 end g1 on g2 g3 g4 g5 =
           let same : table.mode ≡ mode_of c w = ap (λ (t : TableRows). t.mode) is_table in
-          let checks = subst (λ o. Gives Told e0 e1 w1 o (monitored c (is_at (offset_of w)) w)) on (checks_part e0 e1 w1 end g1) in
+          let checks = subst (λ o. Gives Told e0 e1 w1 o (monitored c (is_at (offset_of w)) w)) on
+              (checks_part e0 e1 w1 end g1) in
           let rows = λ (m : ModeDef). enables_at (offset_of w) m.enables in
           let enables = subst (Gives Told e1 e2 w2 None)
-          (ap (λ isrs. enables_by isrs w1) (stands.enables ∙ ap (λ (m : ModeDef). isrs_of (rows m)) same) ∙ sym (enables_are (rows (mode_of c w)) w1)) g2 in
+          (ap (λ isrs. enables_by isrs w1) (stands.enables ∙ ap (λ (m : ModeDef). isrs_of (rows m)) same)
+              ∙ sym (enables_are (rows (mode_of c w)) w1)) g2 in
           let activation = subst (Gives Told e4 e5 w5 None)
           (ap (λ (found : Option ℕ). activated_in c table.mode found w4) stands.activation
           ∙ ap (λ (m : ModeDef). activated_in c m (entry_at (offset_of w) m.activations) w4) same) g5 in
@@ -243,29 +268,35 @@ module _ {L : Type 0} {Told : L → List Event → L → Type 0} (telling : IsTe
     -- ---- the parts of a round
 
     module _ (w : World) where
-      pub latched_served : (a b : L) (v : World) → Gives Told a b v None (latch c w) → IsServed Before c s w → IsServed Latched c s v
+      pub latched_served : (a b : L) (v : World) → Gives Told a b v None (latch c w) → IsServed Before c s w
+          → IsServed Latched c s v
       latched_served a b v g h = record {
         rules = h.rules;
         script = h.script;
-        timed = after (Timed Latched c s) (latch c w) a b v g (latch_timed c s (are_bounded c s h.rules h.script) w [] h.timed);
+        timed = after (Timed Latched c s) (latch c w) a b v g
+            (latch_timed c s (are_bounded c s h.rules h.script) w [] h.timed);
         placed = after (Placed c 0) (latch c w) a b v g (latch_placed c s h.rules w [] h.placed);
         ahead = after (Ahead c 0) (latch c w) a b v g (latch_ahead c s h.rules w [] h.ahead);
       }
 
-      pub begun_served : (a b : L) (v : World) → Gives Told a b v None (round_end c s w) → IsServed Latched c s w → IsServed Begun c s v
+      pub begun_served : (a b : L) (v : World) → Gives Told a b v None (round_end c s w) → IsServed Latched c s w
+          → IsServed Begun c s v
       begun_served a b v g h = record {
         rules = h.rules;
         script = h.script;
-        timed = after (Timed Begun c s) (round_end c s w) a b v g (round_end_timed c s (are_bounded c s h.rules h.script) w [] h.timed);
+        timed = after (Timed Begun c s) (round_end c s w) a b v g
+            (round_end_timed c s (are_bounded c s h.rules h.script) w [] h.timed);
         placed = after (Placed c 0) (round_end c s w) a b v g (round_end_placed c s h.rules w [] h.placed);
         ahead = after (Ahead c 0) (round_end c s w) a b v g (round_end_ahead c s h.rules w [] h.ahead);
       }
 
-      pub first_served : (a b : L) → w.tick ≡ 0 → Gives Told a b w None (head s w) → IsServed Before c s w → IsServed Begun c s w
+      pub first_served : (a b : L) → w.tick ≡ 0 → Gives Told a b w None (head s w) → IsServed Before c s w
+          → IsServed Begun c s w
       first_served a b z g h = record {
         rules = h.rules;
         script = h.script;
-        timed = after (Timed Begun c s) (head s w) a b w g ((opening_keeps c s (are_bounded c s h.rules h.script)).head_is w [] z h.timed);
+        timed = after (Timed Begun c s) (head s w) a b w g
+            ((opening_keeps c s (are_bounded c s h.rules h.script)).head_is w [] z h.timed);
         placed = h.placed;
         ahead = h.ahead;
       }
@@ -275,27 +306,33 @@ module _ {L : Type 0} {Told : L → List Event → L → Type 0} (telling : IsTe
           → Gives Told b d v end (chain (due c s) w) → Gives Told a d v end (opening c s w)
       unfolding opening
       opens_first a b d v end z g h =
-          subst (Gives Told a d v end) (sym (cond-true (eqb w.tick 0) _ _ (ap (λ n. eqb n 0) z))) (gives_first telling a b d w v end _ _ w g h)
+          subst (Gives Told a d v end) (sym (cond-true (eqb w.tick 0) _ _ (ap (λ n. eqb n 0) z)))
+              (gives_first telling a b d w v end _ _ w g h)
 
-      pub opens_later : (a b : L) (v : World) (end : Outcome) → (w.tick ≡ 0 → ⊥) → Gives Told a b v end (chain (later_parts c s) w)
+      pub opens_later : (a b : L) (v : World) (end : Outcome) → (w.tick ≡ 0 → ⊥)
+          → Gives Told a b v end (chain (later_parts c s) w)
           → Gives Told a b v end (opening c s w)
       unfolding opening
       opens_later a b v end ne h =
-          subst (Gives Told a b v end) (sym (cond-false (eqb w.tick 0) _ _ (false_from_ne_true _ (λ e. ne (eqb-true w.tick 0 e))))) h
+          subst (Gives Told a b v end)
+              (sym (cond-false (eqb w.tick 0) _ _ (false_from_ne_true _ (λ e. ne (eqb-true w.tick 0 e))))) h
 
     -- ---- the instant
 
-    module _ (w v : World) (a b : L) (g : Gives Told a b v None (opening c s w)) (h : IsServed Before c s w) (n : Named c w) where
+    module _ (w v : World) (a b : L) (g : Gives Told a b v None (opening c s w)) (h : IsServed Before c s w)
+        (n : Named c w) where
       pub opened_tick : v.tick ≡ w.tick
       opened_tick =
           ap (λ (x : World). x.tick) g.world_is
-          ∙ (led_on (AtStamp c s w.tick) (EndsAtTick c s w.tick) [] (opening c s w) (ap is_over (sym g.end_is)) (opening_at_tick c s w.tick w refl)).0
+          ∙ (led_on (AtStamp c s w.tick) (EndsAtTick c s w.tick) [] (opening c s w) (ap is_over (sym g.end_is))
+              (opening_at_tick c s w.tick w refl)).0
 
       opened_named : Named c v
       opened_named = after (Named c) (opening c s w) a b v g (opening_named c s h.rules w [] n)
 
       pub opened_timed : Timed Begun c s v
-      opened_timed = after (Timed Begun c s) (opening c s w) a b v g (opening_timed c s (are_bounded c s h.rules h.script) w [] h.timed)
+      opened_timed = after (Timed Begun c s) (opening c s w) a b v g
+          (opening_timed c s (are_bounded c s h.rules h.script) w [] h.timed)
 
       pub can_tick : (st : RunState) → st.world ≡ v → IsFor c s st.beside → w.tick + 1 < 2 ^ 64 → CanTick c s st
       can_tick st is fixed room =
@@ -309,20 +346,25 @@ module _ {L : Type 0} {Told : L → List Event → L → Type 0} (telling : IsTe
             runnable = named.lefts (runner_of c st.world);
           }
 
-    pub instant_over : (w v : World) (a b : L) (end : Outcome) (last : RunEnd) → Gives Told a b v end (opening c s w) → end ≡ Some last
+    pub instant_over : (w v : World) (a b : L) (end : Outcome) (last : RunEnd) → Gives Told a b v end (opening c s w)
+        → end ≡ Some last
         → Gives Told a b v (Some last) (instant c s w)
     unfolding instant
     instant_over w v a b end last g is =
-        gives_stop a b v (Some last) (opening c s w) (step c s) refl (subst (λ o. Gives Told a b v o (opening c s w)) is g)
+        gives_stop a b v (Some last) (opening c s w) (step c s) refl
+            (subst (λ o. Gives Told a b v o (opening c s w)) is g)
 
-    pub instant_on : (w v u : World) (a b d : L) (end last : Outcome) → Gives Told a b v end (opening c s w) → end ≡ None
+    pub instant_on : (w v u : World) (a b d : L) (end last : Outcome) → Gives Told a b v end (opening c s w)
+        → end ≡ None
         → Gives Told b d u last (step c s v) → Gives Told a d u last (instant c s w)
     unfolding instant
     instant_on w v u a b d end last g on h =
-        gives_next telling a b d v u last (opening c s w) (step c s) (subst (λ o. Gives Told a b v o (opening c s w)) on g) h
+        gives_next telling a b d v u last (opening c s w) (step c s)
+            (subst (λ o. Gives Told a b v o (opening c s w)) on g) h
 
     -- after the tick the arrivals to come are those from the next tick on
-    pub ticked_sources : (t : ℕ) (st next : RunState) (a b : L) → Gives Told a b next.world None (step c s st.world) → next.beside ≡ st.beside
+    pub ticked_sources : (t : ℕ) (st next : RunState) (a b : L) → Gives Told a b next.world None (step c s st.world)
+        → next.beside ≡ st.beside
         → HasSources c s t st → HasSources c s t next
     ticked_sources t st next a b g beside h =
         let still = step_still c s st.world (ap is_over (sym g.end_is)) in
@@ -335,7 +377,8 @@ module _ {L : Type 0} {Told : L → List Event → L → Type 0} (telling : IsTe
     -- ---- the run
 
     -- at each tick of a run
-    pub can_pass : (st : RunState) (first now : L) → IsConfig c → IsScript c s → AtTick Told c s first st.world now → IsFor c s st.beside
+    pub can_pass : (st : RunState) (first now : L) → IsConfig c → IsScript c s → AtTick Told c s first st.world now
+        → IsFor c s st.beside
         → HasSources c s st.world.tick st → CanPass c s st
     can_pass st first now rules script a fixed sources =
         let bounded = are_bounded c s rules script in

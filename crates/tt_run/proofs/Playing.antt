@@ -21,12 +21,16 @@ use Rattle.tt_world.specs.Moved.{IsTelling}
 use Rattle.tt_world.specs.World.{World}
 use Rattle.tt_run.proofs.Telling.{SoFar, so_far_more}
 
-pub vars_more : (vars : List ℤ) (body : List Stmt) (i : ℕ) (stmt : Stmt) → i < length body → stmt ≡ get_or body i stmt → vars_after vars (drop i body) ≡ vars_after (vars_by vars (out-Stmt stmt)) (drop (i + 1) body)
+pub vars_more : (vars : List ℤ) (body : List Stmt) (i : ℕ) (stmt : Stmt) → i < length body → stmt ≡ get_or body i stmt
+    → vars_after vars (drop i body) ≡ vars_after (vars_by vars (out-Stmt stmt)) (drop (i + 1) body)
 unfolding vars_after
 vars_more vars body i stmt h e =
     at_drop_more (vars_after vars) body i stmt h ∙ sym (ap (λ s. vars_after vars (s ∷ drop (i + 1) body)) e)
 
-pub outs_more : (at : ℕ) (hook : Owner) (vars : List ℤ) (body : List Stmt) (i : ℕ) (stmt : Stmt) → i < length body → stmt ≡ get_or body i stmt → outs_of at hook vars (drop i body) ≡ outs_by at hook vars (out-Stmt stmt) ++ outs_of at hook (vars_by vars (out-Stmt stmt)) (drop (i + 1) body)
+pub outs_more : (at : ℕ) (hook : Owner) (vars : List ℤ) (body : List Stmt) (i : ℕ) (stmt : Stmt) → i < length body
+    → stmt ≡ get_or body i stmt
+    → outs_of at hook vars (drop i body)
+    ≡ outs_by at hook vars (out-Stmt stmt) ++ outs_of at hook (vars_by vars (out-Stmt stmt)) (drop (i + 1) body)
 unfolding outs_of
 outs_more at hook vars body i stmt h e =
     at_drop_more (outs_of at hook vars) body i stmt h ∙ sym (ap (λ s. outs_of at hook vars (s ∷ drop (i + 1) body)) e)
@@ -92,7 +96,8 @@ others_stay first before after vars e f =
 
 -- one more statement was played
 module _ {L : Type 0} {Told : L → List Event → L → Type 0} (telling : IsTelling Told) (at : ℕ) (hook : Owner)
-    (body : List Stmt) (i : ℕ) (stmt : Stmt) (l : i < length body) (is : stmt ≡ get_or body i stmt) (before after : Store)
+    (body : List Stmt) (i : ℕ) (stmt : Stmt) (l : i < length body) (is : stmt ≡ get_or body i stmt)
+        (before after : Store)
     (env : after ≡ with_vars before (vars_by before.vars (out-Stmt stmt))) where
   vars_are : vars_by before.vars (out-Stmt stmt) ≡ after.vars
   vars_are = sym (ap (λ (x : Store). x.vars) env)
@@ -101,7 +106,8 @@ module _ {L : Type 0} {Told : L → List Event → L → Type 0} (telling : IsTe
   vars_left =
       vars_more before.vars body i stmt l is ∙ ap (λ vars. vars_after vars (drop (i + 1) body)) vars_are
 
-  pub outs_left : (first now next : L) (all : List Event) → SoFar Told first all now (outs_of at hook before.vars (drop i body))
+  pub outs_left : (first now next : L) (all : List Event)
+      → SoFar Told first all now (outs_of at hook before.vars (drop i body))
       → Told now (outs_by at hook before.vars (out-Stmt stmt)) next
       → SoFar Told first all next (outs_of at hook after.vars (drop (i + 1) body))
   outs_left first now next all so_far told =

@@ -32,7 +32,8 @@ module _ (c : ConfigParts) where
   -- the program of a task has its body
   pub task_program : (n : ℕ) → n < length c.tasks → program_body (bodies_of c) n ≡ (get_or c.tasks n no_task).body
   task_program n l =
-      get_or_append_left tasks (isrs ++ (oseks ++ oisrs)) [] n (rw (length-map c.tasks (λ (task : TaskDef). task.body)) l)
+      get_or_append_left tasks (isrs ++ (oseks ++ oisrs)) [] n
+          (rw (length-map c.tasks (λ (task : TaskDef). task.body)) l)
       ∙ get_or-map (λ (task : TaskDef). task.body) c.tasks n no_task [] l
 
   -- so has that of a time-triggered routine
@@ -62,7 +63,8 @@ module _ (c : ConfigParts) where
 
   -- so has that of a routine of the OSEK subsystem
   pub oisr_program : (n : ℕ) → n < length c.oisrs
-      → program_body (bodies_of c) ((length c.tasks + length c.isrs) + (length c.oseks + n)) ≡ (get_or c.oisrs n no_oisr).body
+      → program_body (bodies_of c) ((length c.tasks + length c.isrs) + (length c.oseks + n))
+      ≡ (get_or c.oisrs n no_oisr).body
   oisr_program n l =
       later (length c.oseks + n)
       ∙ past oseks oisrs (length c.oseks) n [] (length-map c.oseks (λ (task : OsekDef). task.body))

@@ -18,8 +18,10 @@ use Rattle.tt_world.proofs.Ends.{tick_at, few_ticks, last_is, last_unique, goes_
 use Rattle.tt_world.proofs.Stamps.{EndsAs}
 use Rattle.tt_world.proofs.Closing.{schedule_says, ended_status, ended_stamp}
 
--- the world is that of the schedule at the present tick, and the events of the instants before it were told from this on
-pub record AtTick {L : Type 0} (Told : L → List Event → L → Type 0) (c : ConfigParts) (s : ScriptParts) (first : L) (w : World) (now : L)
+-- the world is that of the schedule at the present tick, and the events of the instants before it were told from this
+-- on
+pub record AtTick {L : Type 0} (Told : L → List Event → L → Type 0) (c : ConfigParts) (s : ScriptParts) (first : L)
+    (w : World) (now : L)
     : Type 0 where
   pub world : w ≡ world_at c s w.tick
   pub told : Told first (events_before c s w.tick) now
@@ -31,9 +33,11 @@ nearer most a b l e = omega arith
 
 -- ---- the events of a front of a run, and the others
 
-front_is : (c : ConfigParts) (s : ScriptParts) (n k : ℕ) → events_before c s (n + k) ≡ events_before c s n ++ events_between c s n k
+front_is : (c : ConfigParts) (s : ScriptParts) (n k : ℕ)
+    → events_before c s (n + k) ≡ events_before c s n ++ events_between c s n k
 unfolding events_before events_between
-front_is c s n zero = let z : n + 0 ≡ n = omega arith in ap (events_before c s) z ∙ sym (append-nil (events_before c s n))
+front_is c s n zero = let z : n + 0 ≡ n = omega arith in ap (events_before c s) z
+    ∙ sym (append-nil (events_before c s n))
 front_is c s n (suc k) =
     let z : n + suc k ≡ suc (n + k) = omega arith in
     ap (events_before c s) z ∙ ap (λ es. es ++ (instant_at c s (n + k)).events) (front_is c s n k)
@@ -60,7 +64,8 @@ module _ {L : Type 0} {Told : L → List Event → L → Type 0} (telling : IsTe
   at_first c s first = record { world = refl; told = telling.none first; going = λ k l. absurd (omega arith) }
 
   -- the next tick has a number
-  pub has_number : (c : ConfigParts) (s : ScriptParts) → IsBounded c s → (first : L) (w : World) (now : L) → AtTick Told c s first w now
+  pub has_number : (c : ConfigParts) (s : ScriptParts) → IsBounded c s → (first : L) (w : World) (now : L)
+      → AtTick Told c s first w now
       → w.tick + 1 < 2 ^ 64
   has_number c s bounded first w now a =
       let few : w.tick ≤ s.rounds * (c.round + c.adjust) = few_ticks c s bounded w.tick a.going in
@@ -72,7 +77,8 @@ module _ {L : Type 0} {Told : L → List Event → L → Type 0} (telling : IsTe
 
   -- ---- an instant after another
 
-  module _ (c : ConfigParts) (s : ScriptParts) (first : L) (v w : World) (now next : L) (end : Outcome) (a : AtTick Told c s first v now)
+  module _ (c : ConfigParts) (s : ScriptParts) (first : L) (v w : World) (now next : L) (end : Outcome)
+      (a : AtTick Told c s first v now)
       (g : Gives Told now next w end (instant c s v)) where
     ends_is : is_over end ≡ ends_at c s v.tick
     unfolding instant_at
@@ -112,7 +118,8 @@ module _ {L : Type 0} {Told : L → List Event → L → Type 0} (telling : IsTe
       over = sym ends_is ∙ ap is_over is
 
       at_last : v.tick ≡ last_instant c s
-      at_last = last_unique c s v.tick (last_instant c s) (record { ends = over; first = a.going }) (last_is c s bounded)
+      at_last = last_unique c s v.tick (last_instant c s) (record { ends = over; first = a.going })
+          (last_is c s bounded)
 
       pub all_told : Told first (schedule c s) next
       unfolding schedule
@@ -124,7 +131,8 @@ module _ {L : Type 0} {Told : L → List Event → L → Type 0} (telling : IsTe
           let outcome : (instant_at c s v.tick).end ≡ Some last =
           ap (λ x. (instant c s x).end) (sym a.world) ∙ sym g.end_is ∙ is in
           subst (λ (k : ℕ). EndsAs (Some last) v.tick (events_before c s (suc k))) at_last
-          (subst (λ o. EndsAs o v.tick (events_before c s (suc v.tick))) outcome (schedule_says c s v.tick a.going over))
+          (subst (λ o. EndsAs o v.tick (events_before c s (suc v.tick))) outcome
+              (schedule_says c s v.tick a.going over))
 
       pub status_is : status_by last v.tick ≡ status_of (schedule c s)
       status_is = ended_status last v.tick (schedule c s) says

@@ -46,7 +46,8 @@ least_length c (Some length) offset e h = let same = eqb-true length offset e in
 
 early : (c : ConfigParts) (row : Activation) → is_activation c row ≡ true → row.offset < c.round - c.adjust
 early c row e =
-    let parts = and_parts (nat_lt row.task.0 (length c.tasks)) (nat_lt row.offset row.deadline && nat_le row.deadline (c.round - c.adjust)) e in
+    let parts = and_parts (nat_lt row.task.0 (length c.tasks))
+        (nat_lt row.offset row.deadline && nat_le row.deadline (c.round - c.adjust)) e in
     let both = and_parts (nat_lt row.offset row.deadline) (nat_le row.deadline (c.round - c.adjust)) parts.1 in
     let before = ltb-true row.offset row.deadline both.0 in
     let upto = leb-true row.deadline (c.round - c.adjust) both.1 in omega arith
@@ -77,7 +78,8 @@ module _ {L : Type 0} {Told : L → List Event → L → Type 0} (telling : IsTe
         ⊎_elim (λ (there : entry < length w.jobs). there)
         (λ (past : length w.jobs ≤ entry).
         let later = served.placed.later entry past l in
-        let below = early c (row_of mode entry) (list_all_get (is_activation c) mode.activations entry no_row rows.activations l) in
+        let below = early c (row_of mode entry)
+            (list_all_get (is_activation c) mode.activations entry no_row rows.activations l) in
         absurd (omega arith))
         (cases_lt entry (length w.jobs))
 
@@ -97,9 +99,11 @@ module _ {L : Type 0} {Told : L → List Event → L → Type 0} (telling : IsTe
         (g : Gives Told a b v end (monitored_entries c table.mode entries w)) where
       pub end_given : c.round - c.adjust ≤ offset_of w → entries ≡ entries_due (is_at_end (offset_of w)) table.mode
           → Gives Told a b v end (monitored c (is_at_end (offset_of w)) w)
-      end_given over are = subst (Gives Told a b v end) (by_entry (is_at_end (offset_of w)) (λ entry l _. end_there over entry l) entries are) g
+      end_given over are = subst (Gives Told a b v end)
+          (by_entry (is_at_end (offset_of w)) (λ entry l _. end_there over entry l) entries are) g
 
-      pub due_given : entries ≡ entries_due (is_at (offset_of w)) table.mode → Gives Told a b v end (monitored c (is_at (offset_of w)) w)
+      pub due_given : entries ≡ entries_due (is_at (offset_of w)) table.mode
+          → Gives Told a b v end (monitored c (is_at (offset_of w)) w)
       due_given are = subst (Gives Told a b v end) (by_entry (is_at (offset_of w)) due_there entries are) g
 
   -- an outcome that is an end
@@ -113,15 +117,18 @@ module _ {L : Type 0} {Told : L → List Event → L → Type 0} (telling : IsTe
     unfolding round_end
     over_parts = cond-true _ _ _ over
 
-    module _ (a b : L) (v : World) (end : Outcome) (g : Gives Told a b v end (monitored c (is_at_end (offset_of w)) w)) where
+    module _ (a b : L) (v : World) (end : Outcome)
+        (g : Gives Told a b v end (monitored c (is_at_end (offset_of w)) w)) where
       pub ended_stop : (end ≡ None → ⊥) → Gives Told a b v end (round_end c s w)
-      ended_stop ne = subst (Gives Told a b v end) (sym over_parts) (gives_stop a b v end _ (next_round s) (over_from end ne) g)
+      ended_stop ne = subst (Gives Told a b v end) (sym over_parts)
+          (gives_stop a b v end _ (next_round s) (over_from end ne) g)
 
       pub ended_next : end ≡ None → (d : L) (u : World) (last : Outcome) → Gives Told b d u last (next_round s v)
           → Gives Told a d u last (round_end c s w)
       ended_next on d u last h =
           subst (Gives Told a d u last) (sym over_parts)
-          (gives_next telling a b d v u last _ (next_round s) (subst (λ o. Gives Told a b v o (monitored c (is_at_end (offset_of w)) w)) on g) h)
+          (gives_next telling a b d v u last _ (next_round s)
+              (subst (λ o. Gives Told a b v o (monitored c (is_at_end (offset_of w)) w)) on g) h)
 
   -- checks after which the run goes on leave the world as it was
   pub checked_same : (c : ConfigParts) (is_due : Point → Bool) (w v : World) (a b : L)

@@ -17,7 +17,8 @@ use Rattle.tt_run.specs.Told.{Logged, Keeps, ByFailed, Tells, activations_in, is
 counted_none : (a : ℕ) → a ≡ counted a 0
 counted_none a = omega arith
 
-activations_both : (some others : List Event) → activations_in (some ++ others) ≡ activations_in some + activations_in others
+activations_both : (some others : List Event)
+    → activations_in (some ++ others) ≡ activations_in some + activations_in others
 activations_both some others =
     ap length (filter-append is_activation some others)
     ∙ length-append (filter is_activation some) (filter is_activation others)
@@ -27,7 +28,8 @@ module _ {S : Type 0} (r : Ghosts S) where
   none_by names true s = refl
   none_by names false s = record { kept = refl; never_falls = omega arith }
 
-  keeps_cut : (names : List NameEntry) (s m t : S) (xs ys : List Event) → Keeps r names s xs m → CutWithin r names m ys t
+  keeps_cut : (names : List NameEntry) (s m t : S) (xs ys : List Event) → Keeps r names s xs m
+      → CutWithin r names m ys t
       → CutWithin r names s (xs ++ ys) t
   keeps_cut names s m t xs ys p q = record {
     done = xs ++ q.done;
@@ -71,7 +73,8 @@ module _ {S : Type 0} (r : Ghosts S) where
     names_are = q.names_are ∙ p.names_are;
     told = both_by a.names a.failed b.failed d.failed a.recorder b.recorder d.recorder some others p.told
         (subst (λ ns. ByFailed r ns b.failed b.recorder others d.failed d.recorder) p.names_are q.told);
-    events_are = q.events_are ∙ ap (λ k. counted k (length others)) p.events_are ∙ counted_more a.events (length some) (length others)
+    events_are = q.events_are ∙ ap (λ k. counted k (length others)) p.events_are
+        ∙ counted_more a.events (length some) (length others)
         ∙ ap (counted a.events) (sym (length-append some others));
     activations_are = q.activations_are ∙ ap (λ k. counted k (activations_in others)) p.activations_are
         ∙ counted_more a.activations (activations_in some) (activations_in others)
@@ -84,7 +87,8 @@ module _ {S : Type 0} (r : Ghosts S) where
 -- ---- events of which some were told
 
 -- of all these events the ones before those that are left were told
-pub record SoFar {L : Type 0} (Told : L → List Event → L → Type 0) (before : L) (all : List Event) (now : L) (left : List Event)
+pub record SoFar {L : Type 0} (Told : L → List Event → L → Type 0) (before : L) (all : List Event) (now : L)
+    (left : List Event)
     : Type 0 where
   pub done : List Event
   pub split : all ≡ done ++ left

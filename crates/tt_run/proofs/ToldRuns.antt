@@ -38,12 +38,14 @@ module _ {S : Type 0} (r : Ghosts S) (b : Benched) (start : S) (after : Logged S
   Ended_so last = MatchOption last (FailsWithin r (fresh start b.config.names) events after)
       (λ (l : Last). EndsAll r (fresh start b.config.names) events after l)
 
-  ran_failed : (front : List Event) → (rest : List Event) → events ≡ front ++ rest → Tells r (fresh start b.config.names) front after
+  ran_failed : (front : List Event) → (rest : List Event) → events ≡ front ++ rest
+      → Tells r (fresh start b.config.names) front after
       → after.failed ≡ true → CutWithin r b.config.names start events after.recorder
   ran_failed front rest split told failed =
       cut_before rest events split (cut_by r b.config.names after.failed start after.recorder front failed told.told)
 
-  ran_by : (failed : Bool) → after.failed ≡ failed → (last : Last) → EndsAll r (fresh start b.config.names) events after last
+  ran_by : (failed : Bool) → after.failed ≡ failed → (last : Last)
+      → EndsAll r (fresh start b.config.names) events after last
       → (run : Run)
       → run ≡ (if failed then Failed
       else Ended (record { ticks = last.tick; events = after.events; activations = after.activations; end = last.end }))

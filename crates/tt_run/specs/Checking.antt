@@ -22,7 +22,8 @@ monitored_entries c mode entries w =
     let all = checked_entries w.tick mode w.jobs entries in after_checks c all.events all.missed w
 
 -- what a part of the code checked is what the definition gives
-pub record Checks {L : Type 0} (Told : L → List Event → L → Type 0) (before after : L) (missed : Option TaskNo) (all : Checked)
+pub record Checks {L : Type 0} (Told : L → List Event → L → Type 0) (before after : L) (missed : Option TaskNo)
+    (all : Checked)
     : Type 0 where
   pub told : Told before all.events after
   pub missed_is : missed ≡ all.missed

@@ -52,8 +52,7 @@ idle_tick who env s = tick (supply_of env.demands env.values)
     (state_of (owner_left s (Some who)) env.vars env.cursors [])
 
 -- what a tick of an owner in idle time gave, of which this is left: what it did, whether the owner has ended, the
--- round, and what is
--- left of the tasks and routines
+-- round, and what is left of the tasks and routines
 pub record GaveIdle (body : ℕ → List Stmt) (now : ℕ) (who : Owner) (left : State) (r : Round) (s : Subsystem)
     (taken : Taken)
     (round : Round) (after : Subsystem) : Type 0 where

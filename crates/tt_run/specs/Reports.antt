@@ -1,5 +1,5 @@
 -- What a run gives.
-use Rattle.std.specs.Prelude.{◌≡◌, ℕ, ⊤, true, false, List, ◌++◌, length, Option, None, Some, if◌then◌else◌}
+use Rattle.std.specs.Prelude.{◌≡◌, ℕ, ⊤, true, List, ◌++◌, length, Option, None, Some, if◌then◌else◌}
 use Rattle.tt_base.specs.declared.event.Event.{Event}
 use Rattle.tt_base.specs.declared.names.NameEntry.{NameEntry}
 use Rattle.tt_io.specs.Count.{counted}
@@ -31,13 +31,15 @@ pub record IsMade (c : ConfigParts) (s : ScriptParts) (tables : List TableRows) 
   pub state_is : state ≡ first_state c s
 
 -- all events of a schedule were told, and it ends so
-pub record EndsAll {S : Type 0} (r : Ghosts S) (before : Logged S) (events : List Event) (after : Logged S) (last : Last) : Type 0 where
+pub record EndsAll {S : Type 0} (r : Ghosts S) (before : Logged S) (events : List Event) (after : Logged S)
+    (last : Last) : Type 0 where
   pub told : Tells r before events after
   pub status : status_by last.end last.tick ≡ status_of events
   pub tick : last.tick ≡ last_stamp events
 
 -- a front of the events of a schedule was told, within which the log failed
-pub record FailsWithin {S : Type 0} (r : Ghosts S) (before : Logged S) (events : List Event) (after : Logged S) : Type 0 where
+pub record FailsWithin {S : Type 0} (r : Ghosts S) (before : Logged S) (events : List Event)
+    (after : Logged S) : Type 0 where
   pub front : List Event
   pub rest : List Event
   pub split : events ≡ front ++ rest
@@ -51,7 +53,8 @@ pub record Reports (events : List Event) (report : Report) : Type 0 where
   pub events_are : report.events ≡ counted 0 (length events)
   pub activations_are : report.activations ≡ counted 0 (activations_in events)
 
-pub record EndedRun {S : Type 0} (r : Ghosts S) (names : List NameEntry) (before : S) (events : List Event) (after : S) (report : Report)
+pub record EndedRun {S : Type 0} (r : Ghosts S) (names : List NameEntry) (before : S) (events : List Event)
+    (after : S) (report : Report)
     : Type 0 where
   pub noted : Notes r names before events after
   pub reports : Reports events report
@@ -65,11 +68,6 @@ Ran r b before after Failed = CutWithin r b.config.names before (schedule b.conf
 abbrev pub OnEnded : Run → (Report → Type 0) → Type 0
 OnEnded (Ended report) P = P report
 OnEnded Failed P = ⊤
-
--- a fact of a run that failed
-abbrev pub OnFailed : Run → Type 0 → Type 0
-OnFailed (Ended report) P = ⊤
-OnFailed Failed P = P
 
 -- the answer of a run that ended so, if it did, with this log
 abbrev pub answered : {S : Type 0} → Option Last → Logged S → Run

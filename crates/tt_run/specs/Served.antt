@@ -28,8 +28,8 @@ use Rattle.tt_run.specs.declared.ahead.Ahead.{Ahead}
 use Rattle.tt_run.specs.Due.{NoneAccepted}
 use Rattle.tt_run.specs.State.{RunState, IsFor, window_in}
 
--- the parts meet the rules, the round stands where it can stand at this part of an opening, the jobs stand as the rows of
--- the mode, and the monitoring points of those that are unfinished are still to come
+-- the parts meet the rules, the round stands where it can stand at this part of an opening, the jobs stand as the
+-- rows of the mode, and the monitoring points of those that are unfinished are still to come
 pub record IsServed (phase : Phase) (c : ConfigParts) (s : ScriptParts) (w : World) : Type 0 where
   pub rules : IsConfig c
   pub script : IsScript c s
@@ -50,14 +50,16 @@ pub record HasRoom (c : ConfigParts) (table : TableRows) (entry : ℕ) (st : Run
   pub next : entry ≡ length st.world.jobs
   pub few : length st.world.jobs < 4096
   pub exists : (row_of table.mode entry).task.0 < st.beside.first
-  pub body : body_of c (row_of table.mode entry).task ≡ slice_index_or st.beside.codes (row_of table.mode entry).task.0 []
+  pub body : body_of c (row_of table.mode entry).task
+      ≡ slice_index_or st.beside.codes (row_of table.mode entry).task.0 []
   pub room : unfinished_of st.world.jobs < 64
 
 -- places of the lists of a table: those of what stands at an offset
 pub record StandsAt (table : TableRows) (offset : ℕ) (due : Due) : Type 0 where
   pub checks : slice_range (checks_of table) due.checks_from due.checks_to ≡ entries_due (is_at offset) table.mode
   pub checks_within : due.checks_to ≤ length (checks_of table)
-  pub enables : slice_range (enables_of table) due.enables_from due.enables_to ≡ isrs_of (enables_at offset table.mode.enables)
+  pub enables : slice_range (enables_of table) due.enables_from due.enables_to
+      ≡ isrs_of (enables_at offset table.mode.enables)
   pub enables_within : due.enables_to ≤ length (enables_of table)
   pub activation : due.activation ≡ entry_at offset table.mode.activations
   pub activation_within : IfSome due.activation (λ entry. entry < length table.mode.activations)
@@ -107,15 +109,17 @@ round_in st = record {
 abbrev pub AreRowsFree : ConfigParts → World → ℕ → Type 0
 AreRowsFree c w tick = (offset : ℕ) → offset_of w + 1 ≤ offset → w.start + offset < tick → IsFree offset (mode_of c w)
 
--- nothing is due at a tick from the present one on up to below the next one: no expiry point, latch, round's end or arrival. k is 0
--- before the opening of an instant, and 1 after it. At tick 0 the head of the run is due
+-- nothing is due at a tick from the present one on up to below the next one: no expiry point, latch, round's end or
+-- arrival. k is 0 before the opening of an instant, and 1 after it. At tick 0 the head of the run is due
 pub record IsAhead (c : ConfigParts) (k : ℕ) (st : RunState) (next : ℕ) : Type 0 where
   pub head : st.world.tick + k ≡ 0 → next ≡ 0
-  pub free : (offset : ℕ) → offset_of st.world + k ≤ offset → st.world.start + offset < next → IsFree offset (mode_of c st.world)
+  pub free : (offset : ℕ) → offset_of st.world + k ≤ offset → st.world.start + offset < next
+      → IsFree offset (mode_of c st.world)
   pub own : next ≤ next_own (round_in st)
   pub arrivals : ForSome (next_tick (window_in st)) (λ tick. next ≤ tick)
 
--- what the runner sees ahead before an instant: until when nothing is due, and, unless an owner has ended, that nothing can be accepted
+-- what the runner sees ahead before an instant: until when nothing is due, and, unless an owner has ended, that
+-- nothing can be accepted
 pub record Foresees (c : ConfigParts) (st : RunState) (ahead : Ahead) : Type 0 where
   pub next : IsAhead c 0 st ahead.next
   pub none : ahead.ended ≡ false → NoneAccepted c st.world

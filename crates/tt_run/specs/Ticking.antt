@@ -81,7 +81,8 @@ follows c who (did.Called call result) w =
     if is_shutdown call then preceded line (shuts_down c (Some ending.Shutdown) w) else goes_on w line
 
 -- a part of the code of a tick did what its definition gives, and the runner has ended or not
-pub record IsTick {L : Type 0} (Told : L → List Event → L → Type 0) (before after : L) (world : World) (end : Outcome) (ended : Bool)
+pub record IsTick {L : Type 0} (Told : L → List Event → L → Type 0) (before after : L) (world : World) (end : Outcome)
+    (ended : Bool)
     (tick : RunnerTick) : Type 0 where
   pub gives : Gives Told before after world end tick.move
   pub ended_is : ended ≡ tick.ended

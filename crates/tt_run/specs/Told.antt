@@ -7,7 +7,8 @@ use Rattle.tt_io.specs.Count.{counted}
 use Rattle.trace_text.specs.declared.recorder.Recorder.{Ghosts}
 use Rattle.trace_text.specs.Records.{KeptAll, CutWithin}
 
--- the recorder, the names of the events' things, whether a note has failed, and how many events and activations were told
+-- the recorder, the names of the events' things, whether a note has failed, and how many events and activations were
+-- told
 pub record Logged (S : Type 0) : Type 0 where
   pub recorder : S
   pub names : List NameEntry
@@ -37,7 +38,8 @@ ByFailed r names true before events false after = ⊥
 ByFailed r names false before events true after = CutWithin r names before events after
 ByFailed r names false before events false after = Keeps r names before events after
 
--- Events were told: they were noted, or it was cut within them; after that nothing is noted any more. All of them were counted.
+-- Events were told: they were noted, or it was cut within them; after that nothing is noted any more. All of them
+-- were counted.
 pub record Tells {S : Type 0} (r : Ghosts S) (before : Logged S) (events : List Event) (after : Logged S) : Type 0 where
   pub names_are : after.names ≡ before.names
   pub told : ByFailed r before.names before.failed before.recorder events after.failed after.recorder

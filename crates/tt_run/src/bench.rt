@@ -39,8 +39,8 @@ impl Model for Bench {
 impl Bench {
     ghost use Rattle.tt_run.specs.Reports.{Ran};
 
-    /// A configuration on the bench, with a script that was made for it. It makes all codes, tables and counters. Out of memory is its
-    /// one refusal.
+    /// A configuration on the bench, with a script that was made for it. It makes all codes,
+    /// tables and counters. Out of memory is its one refusal.
     pub fn new(alloc: Global, config: Config, script: Script) -> Result<Bench, Memory>
         requires { IsScript config script }
         ensures { IfOk result (λ bench. bench ≡ record { config = config; script = script }) }
@@ -55,9 +55,10 @@ impl Bench {
         })
     }
 
-    /// Runs, tick by tick, up to the first missed deadline, the call of ttShutdownOS or the last round, and tells each event to the
-    /// recorder, which it gives back. It takes no memory. After an event that the recorder did not keep it ends with the instant. Each tick
-    /// counts one step.
+    /// Runs, tick by tick, up to the first missed deadline, the call of ttShutdownOS or the last
+    /// round, and tells each event to the recorder, which it gives back. It takes no memory. After
+    /// an event that the recorder did not keep it ends with the instant. Each tick counts one
+    /// step.
     pub fn run_trace<R: Recorder + Drop, L: Ledger>(
         self,
         recorder: R,

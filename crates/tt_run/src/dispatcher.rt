@@ -63,7 +63,8 @@ impl State {
         });
     }
 
-    /// What is due at the present offset and tick: the checks, the enables, the arrivals, the acceptances and the activation.
+    /// What is due at the present offset and tick: the checks, the enables, the arrivals, the
+    /// acceptances and the activation.
     fn do_due<R: Recorder + Drop>(
         &mut self,
         config: &ConfigParts,
@@ -80,7 +81,8 @@ impl State {
         ensures gives { Gives (Tells R.Recorder) log.old log.new self.new.world result
             (chain (due_parts config.now script.now) self.old.world) }
         ensures fixed { fixed_in self.new.beside ≡ fixed_in self.old.beside }
-        ensures opened { None ≡ result → IsOpened config.now script.now self.old.world.tick self.new }
+        ensures opened { None ≡ result
+            → IsOpened config.now script.now self.old.world.tick self.new }
     {
         if let Some(end) = self.monitor(config, table, due.checks_from, due.checks_to, log) {
             return Some(end);
@@ -107,7 +109,8 @@ impl State {
         ensures gives { Gives (Tells R.Recorder) log.old log.new self.new.world result
             (chain (due_parts config.now script.now) self.old.world) }
         ensures fixed { fixed_in self.new.beside ≡ fixed_in self.old.beside }
-        ensures opened { None ≡ result → IsOpened config.now script.now self.old.world.tick self.new }
+        ensures opened { None ≡ result
+            → IsOpened config.now script.now self.old.world.tick self.new }
     {
         let table = self.table(config, tables);
         let due = table.due(self.offset());
@@ -130,7 +133,8 @@ impl State {
         ensures gives { Gives (Tells R.Recorder) log.old log.new self.new.world result
             (chain (later_parts config.now script.now) self.old.world) }
         ensures fixed { fixed_in self.new.beside ≡ fixed_in self.old.beside }
-        ensures opened { None ≡ result → IsOpened config.now script.now self.old.world.tick self.new }
+        ensures opened { None ≡ result
+            → IsOpened config.now script.now self.old.world.tick self.new }
     {
         self.latch(config, log);
         let table = self.table(config, tables);
@@ -156,7 +160,8 @@ impl State {
         ensures gives { Gives (Tells R.Recorder) log.old log.new self.new.world result
             (opening config.now script.now self.old.world) }
         ensures fixed { fixed_in self.new.beside ≡ fixed_in self.old.beside }
-        ensures opened { None ≡ result → IsOpened config.now script.now self.old.world.tick self.new }
+        ensures opened { None ≡ result
+            → IsOpened config.now script.now self.old.world.tick self.new }
     {
         if self.tick != 0 {
             return self.open_later(config, script, tables, log);
@@ -191,7 +196,8 @@ impl State {
         }
     }
 
-    /// The opening of an instant at which nothing is due: the acceptances, where an owner has ended.
+    /// The opening of an instant at which nothing is due: the acceptances, where an owner has
+    /// ended.
     fn open_idle<R: Recorder + Drop>(
         &mut self,
         config: &ConfigParts,
@@ -228,7 +234,8 @@ impl State {
         ensures gives { Gives (Tells R.Recorder) log.old log.new self.new.world result
             (opening config.now script.now self.old.world) }
         ensures fixed { fixed_in self.new.beside ≡ fixed_in self.old.beside }
-        ensures opened { None ≡ result → IsOpened config.now script.now self.old.world.tick self.new }
+        ensures opened { None ≡ result
+            → IsOpened config.now script.now self.old.world.tick self.new }
         ensures ahead { None ≡ result → IsAhead config.now 1 self.new ahead.new.next }
     {
         if self.tick < ahead.next {
@@ -258,7 +265,8 @@ impl State {
         ensures gives { Gives (Tells R.Recorder) log.old log.new self.new.world result
             (instant config.now script.now self.old.world) }
         ensures fixed { fixed_in self.new.beside ≡ fixed_in self.old.beside }
-        ensures sources { None ≡ result → HasSources config.now script.now (self.old.world.tick + 1) self.new }
+        ensures sources { None ≡ result
+            → HasSources config.now script.now (self.old.world.tick + 1) self.new }
         ensures foresees { None ≡ result → Foresees config.now self.new ahead.new }
     {
         if let Some(end) = self.open_ahead(config, script, tables, ahead, log) {

@@ -28,7 +28,8 @@ fn play_statement<R: Recorder + Drop>(
 )
     requires { is_expression_short (out-Stmt stmt.now) ≡ true }
     ensures env { env.new ≡ record env.old { vars = vars_by env.old.vars (out-Stmt stmt.now) } }
-    ensures told { Tells R.Recorder log.old (outs_by at hook env.old.vars (out-Stmt stmt.now)) log.new }
+    ensures told { Tells R.Recorder log.old
+        (outs_by at hook env.old.vars (out-Stmt stmt.now)) log.new }
 {
     match stmt {
         Stmt::Set(var, expr) => {
@@ -45,7 +46,8 @@ fn play_statement<R: Recorder + Drop>(
 }
 
 /// Plays the body of a hook.
-#[tactic(auto, using(crate::proofs::Playing::vars_more, crate::proofs::Playing::outs_more), unfolding(tt_world::specs::Hooks::vars_after, tt_world::specs::Hooks::outs_of))]
+#[tactic(auto, using(crate::proofs::Playing::vars_more, crate::proofs::Playing::outs_more),
+    unfolding(tt_world::specs::Hooks::vars_after, tt_world::specs::Hooks::outs_of))]
 fn play<R: Recorder + Drop>(at: Tick, hook: Owner, body: &Body, env: &mut Env, log: &mut Log<R>)
     requires { AreExpressionsShort body.now }
     ensures env { env.new ≡ record env.old { vars = vars_after env.old.vars body.now } }

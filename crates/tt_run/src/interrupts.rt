@@ -40,7 +40,8 @@ fn arrival(at: Tick, arrived: Arrived) -> Event
     }
 }
 
-/// Marks those of this many time-triggered sources whose routine is unfinished, where none is marked.
+/// Marks those of this many time-triggered sources whose routine is unfinished, where none is
+/// marked.
 fn mark_isrs(stack: &TtStack, count: usize, busy: &mut Busy)
     requires few { count ≤ 16 }
     requires none { busy.old.isrs ≡ replicate 16 false }
@@ -55,7 +56,8 @@ fn mark_isrs(stack: &TtStack, count: usize, busy: &mut Busy)
     }
 }
 
-/// Marks those of this many sources of the OSEK subsystem whose routine is unfinished, where none is marked.
+/// Marks those of this many sources of the OSEK subsystem whose routine is unfinished, where none
+/// is marked.
 fn mark_oisrs(osek: &Osek, count: usize, busy: &mut Busy)
     requires few { count ≤ 16 }
     requires none { busy.old.oisrs ≡ replicate 16 false }
@@ -83,7 +85,8 @@ impl State {
     /// Enables a time-triggered source.
     #[tactic(auto, unfolding(tt_world::specs::Gates::enable))]
     fn enable<R: Recorder + Drop>(&mut self, isr: IsrNo, log: &mut Log<R>)
-        ensures gives { Gives (Tells R.Recorder) log.old log.new self.new.world None (enable (record { offset = 0; isr = isr }) self.old.world) }
+        ensures gives { Gives (Tells R.Recorder) log.old log.new self.new.world None
+            (enable (record { offset = 0; isr = isr }) self.old.world) }
         ensures beside { self.new.beside ≡ self.old.beside }
     {
         self.gates.enable(isr);
@@ -111,8 +114,11 @@ impl State {
     /// Takes the first arrival of the tick, if there is one.
     fn take_arrival(&mut self) -> Option<Arrived>
         requires { ForSome (next_tick (window_in self.old)) (λ tick. self.old.world.tick ≤ tick) }
-        ensures value { result ≡ option_map (arrived_at (window_in self.old)) (first_due self.old.world.tick (window_in self.old)) }
-        ensures state { self.new ≡ with_sources (taking (first_due self.old.world.tick (window_in self.old)) (window_in self.old)) self.old }
+        ensures value { result ≡ option_map (arrived_at (window_in self.old))
+            (first_due self.old.world.tick (window_in self.old)) }
+        ensures state { self.new ≡ with_sources
+            (taking (first_due self.old.world.tick (window_in self.old)) (window_in self.old))
+            self.old }
     {
         self.gates.arrive(self.tick)
     }
@@ -127,10 +133,12 @@ impl State {
         requires script { IsScript config.now script.now }
         requires sources { AreSourcesOf config.now (window_in self.old) }
         requires left { AreLeftFrom config.now script.now self.old.world.tick (window_in self.old) }
-        ensures gives { Gives (Tells R.Recorder) log.old log.new self.new.world None (arrivals config.now script.now self.old.world) }
+        ensures gives { Gives (Tells R.Recorder) log.old log.new self.new.world None
+            (arrivals config.now script.now self.old.world) }
         ensures fixed { fixed_in self.new.beside ≡ fixed_in self.old.beside }
         ensures sources { AreSourcesOf config.now (window_in self.new) }
-        ensures left { AreLeftFrom config.now script.now (self.old.world.tick + 1) (window_in self.new) }
+        ensures left { AreLeftFrom config.now script.now (self.old.world.tick + 1)
+            (window_in self.new) }
     {
         let at = self.tick;
         'sources: while let Some(arrived) = self.take_arrival() {
@@ -176,7 +184,8 @@ impl State {
         requires fixed { IsFor config.now script.now self.old.beside }
         requires can { CanBegin config.now source self.old.world }
         ensures world { self.new.world ≡ begun config.now source self.old.world }
-        ensures told { Tells R.Recorder log.old (event.Accept self.old.world.tick source ∷ []) log.new }
+        ensures told { Tells R.Recorder log.old
+            (event.Accept self.old.world.tick source ∷ []) log.new }
         ensures beside { self.new.beside ≡ self.old.beside }
     {
         let at = self.tick;
@@ -186,13 +195,16 @@ impl State {
 
     /// Takes the first interrupt that can be accepted, if there is one.
     fn take_held(&mut self, busy: &Busy) -> Option<Owner>
-        ensures value { result ≡ option_map source_owner (first_ready busy.now (window_in self.old)) }
-        ensures state { self.new ≡ with_sources (accepting (first_ready busy.now (window_in self.old)) (window_in self.old)) self.old }
+        ensures value { result ≡ option_map source_owner
+            (first_ready busy.now (window_in self.old)) }
+        ensures state { self.new ≡ with_sources
+            (accepting (first_ready busy.now (window_in self.old)) (window_in self.old)) self.old }
     {
         self.gates.accept_next(busy)
     }
 
-    /// The acceptances, in the order of the sources. An interrupt that is accepted is no longer held, so that its source is not asked again.
+    /// The acceptances, in the order of the sources. An interrupt that is accepted is no longer
+    /// held, so that its source is not asked again.
     pub(crate) fn accept_all<R: Recorder + Drop>(
         &mut self,
         config: &ConfigParts,
@@ -202,7 +214,8 @@ impl State {
         requires rules { IsConfig config.now }
         requires fixed { IsFor config.now script.now self.old.beside }
         requires sources { AreSourcesOf config.now (window_in self.old) }
-        ensures gives { Gives (Tells R.Recorder) log.old log.new self.new.world None (acceptances config.now self.old.world) }
+        ensures gives { Gives (Tells R.Recorder) log.old log.new self.new.world None
+            (acceptances config.now self.old.world) }
         ensures beside { self.new.beside ≡ self.old.beside }
         ensures sources { AreSourcesOf config.now (window_in self.new) }
         ensures none { NoneAccepted config.now self.new.world }

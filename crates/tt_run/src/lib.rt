@@ -1,4 +1,5 @@
-//! A run of a configuration and a script, instant by instant, which keeps frames and tells its events to a recorder.
+//! A run of a configuration and a script, instant by instant, which keeps frames and tells its
+//! events to a recorder.
 #![tactic(auto)]
 
 mod ahead;

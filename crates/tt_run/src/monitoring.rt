@@ -15,9 +15,11 @@ use tt_base::{Event, TaskNo, Tick};
 use tt_stack::TtStack;
 use tt_world::{ConfigParts, RunEnd};
 
-/// Checks at a tick the activations of the entries at these places of the table's list of checks, up to below the second place, up to the
-/// first that is missed, and answers its task. The activation of an entry stands at the place of its number.
-#[tactic(auto, using(crate::proofs::Checking::entries_end), unfolding(crate::specs::Checking::checked_entries))]
+/// Checks at a tick the activations of the entries at these places of the table's list of checks,
+/// up to below the second place, up to the first that is missed, and answers its task. The
+/// activation of an entry stands at the place of its number.
+#[tactic(auto, using(crate::proofs::Checking::entries_end),
+    unfolding(crate::specs::Checking::checked_entries))]
 fn check<R: Recorder + Drop>(
     at: Tick,
     stack: &TtStack,
@@ -28,7 +30,8 @@ fn check<R: Recorder + Drop>(
 ) -> Option<TaskNo>
     requires { to ≤ length (checks_of table.now) }
     ensures { Checks (Tells R.Recorder) log.old log.new result
-        (checked_entries at table.now.mode stack.now.jobs (slice_range (checks_of table.now) from to)) }
+        (checked_entries at table.now.mode stack.now.jobs
+            (slice_range (checks_of table.now) from to)) }
 {
     for place in from..to {
         let entry = table.check_at(place);
@@ -43,8 +46,8 @@ fn check<R: Recorder + Drop>(
 }
 
 impl State {
-    /// Checks the activations of the entries at these places of the table's list of checks, up to below the second place. After a missed
-    /// check the hooks are called, and the run ends.
+    /// Checks the activations of the entries at these places of the table's list of checks, up to
+    /// below the second place. After a missed check the hooks are called, and the run ends.
     pub(crate) fn monitor<R: Recorder + Drop>(
         &mut self,
         config: &ConfigParts,
@@ -56,7 +59,8 @@ impl State {
         requires rules { IsConfig config.now }
         requires within { to ≤ length (checks_of table.now) }
         ensures gives { Gives (Tells R.Recorder) log.old log.new self.new.world result
-            (monitored_entries config.now table.now.mode (slice_range (checks_of table.now) from to) self.old.world) }
+            (monitored_entries config.now table.now.mode
+                (slice_range (checks_of table.now) from to) self.old.world) }
         ensures beside { self.new.beside ≡ self.old.beside }
     {
         let task = check(self.tick, &self.stack, table, from, to, log)?;

@@ -22,9 +22,11 @@ use tt_world::{ConfigParts, RunEnd, ScriptParts};
 
 impl State {
     /// Tells the head of the run.
-    #[tactic(auto, using(crate::proofs::Chains::tells_two), unfolding(tt_world::specs::Rounds::head))]
+    #[tactic(auto, using(crate::proofs::Chains::tells_two),
+        unfolding(tt_world::specs::Rounds::head))]
     pub(crate) fn begin<R: Recorder + Drop>(&self, script: &ScriptParts, log: &mut Log<R>)
-        ensures { Gives (Tells R.Recorder) log.old log.new self.now.world None (head script.now self.now.world) }
+        ensures { Gives (Tells R.Recorder) log.old log.new self.now.world None
+            (head script.now self.now.world) }
     {
         log.tell(Event::OsStart {
             at: self.tick,
@@ -38,12 +40,14 @@ impl State {
     }
 
     /// The latch of the round's length, where the offset is that of the latch.
-    #[tactic(auto, using(crate::proofs::Served::no_change, crate::proofs::Telling::tells_none), unfolding(tt_world::specs::Rounds::latch))]
+    #[tactic(auto, using(crate::proofs::Served::no_change, crate::proofs::Telling::tells_none),
+        unfolding(tt_world::specs::Rounds::latch))]
     pub(crate) fn latch<R: Recorder + Drop>(&mut self, config: &ConfigParts, log: &mut Log<R>)
         requires round { self.old.beside.round ≡ config.now.round }
         requires adjust { self.old.beside.adjust ≡ config.now.adjust }
         requires late { Late 0 config.now self.old.world }
-        ensures gives { Gives (Tells R.Recorder) log.old log.new self.new.world None (latch config.now self.old.world) }
+        ensures gives { Gives (Tells R.Recorder) log.old log.new self.new.world None
+            (latch config.now self.old.world) }
         ensures beside { self.new.beside ≡ self.old.beside }
     {
         if self.offset() != config.round.saturating_sub(config.adjust) {
@@ -94,7 +98,8 @@ impl State {
     ) -> Option<RunEnd>
         requires rounds { self.old.beside.rounds ≡ script.now.rounds }
         requires over { is_length self.old.world.latched (offset_of self.old.world) ≡ true }
-        ensures gives { Gives (Tells R.Recorder) log.old log.new self.new.world result (next_round script.now self.old.world) }
+        ensures gives { Gives (Tells R.Recorder) log.old log.new self.new.world result
+            (next_round script.now self.old.world) }
         ensures beside { self.new.beside ≡ self.old.beside }
     {
         let at = self.tick;
@@ -112,7 +117,8 @@ impl State {
     }
 
     /// The round's end, where the offset is the round's length.
-    #[tactic(auto, using(crate::proofs::Telling::tells_none), unfolding(tt_world::specs::Rounds::round_end))]
+    #[tactic(auto, using(crate::proofs::Telling::tells_none),
+        unfolding(tt_world::specs::Rounds::round_end))]
     pub(crate) fn end_round<R: Recorder + Drop>(
         &mut self,
         config: &ConfigParts,
@@ -123,7 +129,8 @@ impl State {
         requires served { IsServed Latched config.now script.now self.old.world }
         requires table { IsTableOf config.now table.now self.old.world }
         requires fixed { IsFor config.now script.now self.old.beside }
-        ensures gives { Gives (Tells R.Recorder) log.old log.new self.new.world result (round_end config.now script.now self.old.world) }
+        ensures gives { Gives (Tells R.Recorder) log.old log.new self.new.world result
+            (round_end config.now script.now self.old.world) }
         ensures beside { self.new.beside ≡ self.old.beside }
     {
         if !self.is_over() {

@@ -25,7 +25,8 @@ pub(crate) struct Last {
     pub(crate) tick: Tick,
 }
 
-/// A run of parts that meet the rules, from the state before tick 0 on: how it ended, or nothing where the log has failed before.
+/// A run of parts that meet the rules, from the state before tick 0 on: how it ended, or nothing
+/// where the log has failed before.
 pub(crate) fn run<R: Recorder + Drop, L: Ledger>(
     config: &ConfigParts,
     script: &ScriptParts,

@@ -39,10 +39,11 @@ fn in_idle_time(owner: Option<Owner>) -> Runner
 }
 
 impl State {
-    /// Who runs: a time-triggered routine before an activation, an activation before the OSEK subsystem, and there
-    /// a routine before a task; else nobody.
+    /// Who runs: a time-triggered routine before an activation, an activation before the OSEK
+    /// subsystem, and there a routine before a task; else nobody.
     pub(crate) fn runner(&self, config: &ConfigParts) -> Runner
-        ensures { (s : ScriptParts) → IsFor config.now s self.now.beside → result ≡ runner_of config.now self.now.world }
+        ensures { (s : ScriptParts) → IsFor config.now s self.now.beside
+            → result ≡ runner_of config.now self.now.world }
     {
         match self.stack.runner() {
             Some(runner) => runner,

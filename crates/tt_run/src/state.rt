@@ -78,7 +78,8 @@ impl Model for State {
       };
     } };
 
-    ghost invariant = { λ s. IsSound s.stack.codes s.osek × IsSettled (subsystem_of s.stack.codes s.osek) };
+    ghost invariant = { λ s. IsSound s.stack.codes s.osek
+        × IsSettled (subsystem_of s.stack.codes s.osek) };
 }
 
 /// The row of an entry number.

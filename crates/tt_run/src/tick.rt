@@ -133,7 +133,8 @@ fn tick_in_idle_time<L: Ledger>(
     requires may { MayDo now who (idle_tick who env.old (subsystem_of codes.now osek.old)).effects
         round.old (setup_of osek.old) }
     ensures vars { env.new.vars ≡ (idle_tick who env.old (subsystem_of codes.now osek.old)).vars }
-    ensures cursors { env.new.cursors ≡ (idle_tick who env.old (subsystem_of codes.now osek.old)).cursors }
+    ensures cursors { env.new.cursors
+        ≡ (idle_tick who env.old (subsystem_of codes.now osek.old)).cursors }
     ensures demands { env.new.demands ≡ env.old.demands }
     ensures values { env.new.values ≡ env.old.values }
     ensures gave { GaveIdle (task_body codes.now (setup_of osek.old)) now who

@@ -32,7 +32,8 @@ fn answer<R: Recorder + Drop>(last: Option<Last>, log: &Log<R>) -> Run
     })
 }
 
-/// A run of parts that meet the rules, from the state before tick 0 on, told to a recorder, which is given back.
+/// A run of parts that meet the rules, from the state before tick 0 on, told to a recorder, which
+/// is given back.
 pub(crate) fn run_told<R: Recorder + Drop, L: Ledger>(
     config: &ConfigParts,
     script: &ScriptParts,
@@ -44,7 +45,8 @@ pub(crate) fn run_told<R: Recorder + Drop, L: Ledger>(
     requires rules { IsConfig config.now }
     requires made { IsMade config.now script.now tables.now state }
     requires ready { IsTrue (R.ready recorder) }
-    ensures { Ran R.Recorder (record { config = config.now; script = script.now }) recorder result.1 result.0 }
+    ensures { Ran R.Recorder (record { config = config.now; script = script.now }) recorder
+        result.1 result.0 }
 {
     let mut log = Log::new(recorder, &config.names);
     let last = run(config, script, tables, state, &mut log, steps);

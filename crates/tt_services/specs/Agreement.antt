@@ -24,9 +24,10 @@ RunsAs s (runner.Osek task) _ = ⊥
 RunsAs s _ (owner.Osek task) = ⊥
 RunsAs s _ _ = Unit {0}
 
--- The round is the one of a world, and so is the subsystem but for the caller: its tick was taken, of which this is left, and it has not
--- ended yet.
-pub record IsCall (c : ConfigParts) (s : ScriptParts) (w : World) (caller : Runner) (who : Owner) (left : List Stmt) (body : ℕ → List Stmt)
+-- The round is the one of a world, and so is the subsystem but for the caller: its tick was taken, of which this is
+-- left, and it has not ended yet.
+pub record IsCall (c : ConfigParts) (s : ScriptParts) (w : World) (caller : Runner) (who : Owner) (left : List Stmt)
+    (body : ℕ → List Stmt)
     (r : Round) (sub : Subsystem) : Type 0 where
   pub length : r.round ≡ c.round
   pub adjust : r.adjust ≡ c.adjust
@@ -50,6 +51,7 @@ pub record Agrees (caller : Runner) (answer : Answer) (p : Performed) : Type 0 w
   pub oseks : (leaving answer.world caller answer.left).oseks ≡ lefts p.subsystem.tasks
 
 abbrev pub ServicesAgree : Type 0
-ServicesAgree = (c : ConfigParts) (s : ScriptParts) (w : World) (caller : Runner) (who : Owner) (left : List Stmt) (body : ℕ → List Stmt) (r : Round) (sub : Subsystem)
+ServicesAgree = (c : ConfigParts) (s : ScriptParts) (w : World) (caller : Runner) (who : Owner) (left : List Stmt)
+    (body : ℕ → List Stmt) (r : Round) (sub : Subsystem)
     (setup : Setup) (call : Call) → IsCall c s w caller who left body r sub → MayCall w.tick who call r setup
     → Agrees caller (service c s caller call left w) (performed body w.tick who call r sub)

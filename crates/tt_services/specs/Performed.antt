@@ -1,4 +1,5 @@
--- What a service makes of the round and of the OSEK subsystem. The table is that of the services of a run, read in the parts that change.
+-- What a service makes of the round and of the OSEK subsystem. The table is that of the services of a run, read in
+-- the parts that change.
 use Rattle.std.specs.Prelude.{ℕ, ◌<◌, ◌≤◌, ◌==◌, Bool, true, false, List, length}
 use Rattle.tt_base.specs.declared.event.Call.{Call}
 use Rattle.tt_base.specs.declared.event.Call.TheVariants as call
@@ -26,7 +27,8 @@ IsOsek _ = ⊥
 
 -- what a service makes of them at a tick; each task has its whole body by number
 abbrev pub performed : (body : ℕ → List Stmt) → (now : ℕ) → Owner → Call → Round → Subsystem → Performed
-performed body now who (call.Switch mode) r s = record { result = 0; round = wanting mode r; subsystem = s; ends = false }
+performed body now who (call.Switch mode) r s =
+    record { result = 0; round = wanting mode r; subsystem = s; ends = false }
 performed body now who call.Sync r s = record {
   result = sync_result (next_time r);
   round = synced now (next_time r) r;
@@ -46,9 +48,11 @@ performed body now who (call.Chain task) r s = record {
   subsystem = chained (body task.0) (caller_of who) task.0 s;
   ends = chain_result (caller_of who) task.0 s == 0;
 }
-performed body now who call.Terminate r s = record { result = 0; round = r; subsystem = suspended (caller_of who) s; ends = true }
+performed body now who call.Terminate r s =
+    record { result = 0; round = r; subsystem = suspended (caller_of who) s; ends = true }
 
--- The owner may make the call at this tick: its mode or task exists, the round has begun, and an OSEK task alone chains or terminates.
+-- The owner may make the call at this tick: its mode or task exists, the round has begun, and an OSEK task alone
+-- chains or terminates.
 abbrev pub MayCall : (now : ℕ) → Owner → Call → Round → Setup → Type 0
 MayCall now who (call.Switch mode) r setup = mode.0 < r.modes
 MayCall now who call.Sync r setup = r.start ≤ now

@@ -1,4 +1,5 @@
-//! The results and effects of the services of the OSEKtime operating system and of the OSEK subsystem.
+//! The results and effects of the services of the OSEKtime operating system and of the OSEK
+//! subsystem.
 #![tactic(auto)]
 
 mod laws;

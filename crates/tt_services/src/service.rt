@@ -33,14 +33,18 @@ pub fn perform(
     requires may { MayCall now owner call round.old (setup_of osek.old) }
     requires sound { IsSound codes.now osek.old }
     ensures result { result.result
-        ≡ (performed (task_body codes.now (setup_of osek.old)) now owner call round.old (subsystem_of codes.now osek.old)).result }
+        ≡ (performed (task_body codes.now (setup_of osek.old)) now owner call round.old
+            (subsystem_of codes.now osek.old)).result }
     ensures ends { result.caller_ends
-        ≡ (performed (task_body codes.now (setup_of osek.old)) now owner call round.old (subsystem_of codes.now osek.old)).ends }
+        ≡ (performed (task_body codes.now (setup_of osek.old)) now owner call round.old
+            (subsystem_of codes.now osek.old)).ends }
     ensures shutdown { result.shutdown ≡ is_shutdown call }
     ensures round { round.new
-        ≡ (performed (task_body codes.now (setup_of osek.old)) now owner call round.old (subsystem_of codes.now osek.old)).round }
+        ≡ (performed (task_body codes.now (setup_of osek.old)) now owner call round.old
+            (subsystem_of codes.now osek.old)).round }
     ensures state { subsystem_of codes.now osek.new
-        ≡ (performed (task_body codes.now (setup_of osek.old)) now owner call round.old (subsystem_of codes.now osek.old)).subsystem }
+        ≡ (performed (task_body codes.now (setup_of osek.old)) now owner call round.old
+            (subsystem_of codes.now osek.old)).subsystem }
     ensures setup { setup_of osek.new ≡ setup_of osek.old }
     ensures sound { IsSound codes.now osek.new }
 {
@@ -77,11 +81,14 @@ fn chain(osek: &mut Osek, codes: &Codes, owner: Owner, task: OsekNo) -> Answer
     requires caller { IsOsek owner }
     requires exists { task.0 < length (setup_of osek.old).tasks }
     requires sound { IsSound codes.now osek.old }
-    ensures result { result.result ≡ chain_result (caller_of owner) task.0 (subsystem_of codes.now osek.old) }
-    ensures ends { result.caller_ends ≡ (chain_result (caller_of owner) task.0 (subsystem_of codes.now osek.old) == 0) }
+    ensures result { result.result
+        ≡ chain_result (caller_of owner) task.0 (subsystem_of codes.now osek.old) }
+    ensures ends { result.caller_ends
+        ≡ (chain_result (caller_of owner) task.0 (subsystem_of codes.now osek.old) == 0) }
     ensures shutdown { result.shutdown ≡ false }
     ensures state { subsystem_of codes.now osek.new
-        ≡ chained (task_body codes.now (setup_of osek.old) task.0) (caller_of owner) task.0 (subsystem_of codes.now osek.old) }
+        ≡ chained (task_body codes.now (setup_of osek.old) task.0) (caller_of owner) task.0
+            (subsystem_of codes.now osek.old) }
     ensures setup { setup_of osek.new ≡ setup_of osek.old }
     ensures sound { IsSound codes.now osek.new }
 {
@@ -103,7 +110,8 @@ fn terminate(osek: &mut Osek, codes: &Codes, owner: Owner) -> Answer
     requires caller { IsOsek owner }
     requires sound { IsSound codes.now osek.old }
     ensures answer { result ≡ record { result = 0; caller_ends = true; shutdown = false } }
-    ensures state { subsystem_of codes.now osek.new ≡ suspended (caller_of owner) (subsystem_of codes.now osek.old) }
+    ensures state { subsystem_of codes.now osek.new
+        ≡ suspended (caller_of owner) (subsystem_of codes.now osek.old) }
     ensures setup { setup_of osek.new ≡ setup_of osek.old }
     ensures sound { IsSound codes.now osek.new }
 {

@@ -4,7 +4,7 @@ use Rattle.std.specs.Prelude.{All, Any, not, ◌&&◌, ◌||◌, ◌==◌, slice
 use Rattle.std.specs.List.{list_any}
 use Rattle.std.proofs.Math.Seq.{set-append_seam}
 use Rattle.std.proofs.lemmas.Bool.{eqb-false, ne_eqb}
-use Rattle.std.proofs.lemmas.List.{length-append, length-map, set-get_or}
+use Rattle.std.proofs.lemmas.List.{length-append, length-map}
 use Rattle.std.proofs.lemmas.List.Elements.{All-map, All-push, All-weaker, All-contains_itself}
 use Rattle.std.proofs.lemmas.List.Folds.{list_any-from_Any, list_any_none}
 use Rattle.std.proofs.lemmas.List.Quantifiers.{all_pairs_push}
@@ -23,7 +23,7 @@ use Rattle.tt_world.specs.Runners.{is_done, job_at}
 use Rattle.tt_stack.specs.Stacked.{Stacked, count_left, count_unfinished, depth_in, with_isr, with_job}
 use Rattle.tt_stack.specs.Kept.{Left, written, lefts_of, jobs_from, routine_number, routine_lefts, bodies_left, task_lefts, stacked, AreKept, IsOfTask, IsOfRoutine}
 use Rattle.tt_stack.specs.declared.state.TtStack.TheInside.{Inside}
-use Rattle.tt_stack.proofs.Frames.{done_is, isrs_insert, isrs_of, left_at, level_is, level_of, not_among, number_within, routines_given, tasks_given, tasks_push}
+use Rattle.tt_stack.proofs.Frames.{isrs_insert, isrs_of, left_at, level_is, level_of, not_among, number_within, routines_given, tasks_given, tasks_push}
 use Rattle.tt_stack.proofs.Jobs.{count_jobs, job, job_left, jobs_push, length-jobs}
 use Rattle.tt_stack.proofs.Pairs.{All-from_zip, All-zip_first, length-zip}
 use Rattle.tt_stack.proofs.Written.{at, AreGiven, at_none, count_lefts_of, count_room, finished_not_in, length-lefts_of, length-none, none_more, written_more, written_or}
@@ -139,18 +139,6 @@ module _ (inside : Inside)
       let same : 0 + length lefts ≡ length (jobs_from 0 lefts) = omega (arith, length-jobs 0 lefts) in
       jobs_push 0 lefts left ∙ ap (λ n. jobs_from 0 lefts ++ job n left ∷ []) same
 
-  pub counted_kept : AreKept codes first levels s entries (reached + 1)
-  counted_kept = record {
-    enough = k.enough;
-    distinct = k.distinct;
-    tasks = k.tasks;
-    isrs = k.isrs;
-    by_level = k.by_level;
-    as_many = k.as_many;
-    ascend = k.ascend;
-    in_count = more_in_count;
-  }
-
   pub counted : stacked codes first levels s entries (reached + 1) ≡ with_job [] view
   unfolding with_jobs
   counted = ap with_jobs (ap (λ (l : List (List Stmt)). jobs_from 0 l) lefts_more ∙ at_end [])
@@ -190,12 +178,6 @@ module _ (inside : Inside)
 
   with_isrs : List (List Stmt) → Stacked
   with_isrs isrs = record { codes = codes; first = first; levels = levels; jobs = view.jobs; isrs = isrs }
-
-  -- a routine of which nothing is left stays so
-  pub nothing_begun : (n : ℕ) → is_done (at view.isrs n) ≡ true → view ≡ with_isr n [] view
-  unfolding with_isrs
-  nothing_begun n done =
-      ap with_isrs (sym (ap (slice_set view.isrs n) (sym (done_is (at view.isrs n) done)) ∙ set-get_or view.isrs n []))
 
   not_task : (isr : IsrNo) (f : StackFrame) → IsOfTask codes f → f.owner ≡ By.Isr isr → ⊥
   not_task isr f t e = two_owners t.task isr (sym t.owner ∙ e)

@@ -20,10 +20,6 @@ pub not_done : (left : List Stmt) → left ≢ [] → is_done left ≡ false
 not_done [] some = absurd (some refl)
 not_done (x ∷ xs) some = refl
 
-pub done_is : (left : List Stmt) → is_done left ≡ true → left ≡ []
-done_is [] done = refl
-done_is (x ∷ xs) done = cc
-
 -- ---- activations
 
 module _ (codes : List (List Stmt)) where

@@ -29,7 +29,8 @@ job_entry from (x ∷ xs) zero l = omega arith
 job_entry from (x ∷ xs) (suc place) l =
     let next : from + 1 + place ≡ from + suc place = omega arith in job_entry (from + 1) xs place (omega arith) ∙ next
 
-pub job_past : (from : ℕ) (lefts : List (List Stmt)) (place : ℕ) → length lefts ≤ place → (job_at (jobs_from from lefts) place).entry ≡ 0
+pub job_past : (from : ℕ) (lefts : List (List Stmt)) (place : ℕ) → length lefts ≤ place
+    → (job_at (jobs_from from lefts) place).entry ≡ 0
 job_past from [] place l = refl
 job_past from (x ∷ xs) zero l = absurd (omega arith)
 job_past from (x ∷ xs) (suc place) l = job_past (from + 1) xs place (omega arith)

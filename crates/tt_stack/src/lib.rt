@@ -1,5 +1,5 @@
-//! The time-triggered part of a run's state: the activations of the present round and the interrupt service routines, as frames on
-//! a stack.
+//! The time-triggered part of a run's state: the activations of the present round and the
+//! interrupt service routines, as frames on a stack.
 #![tactic(auto)]
 
 mod state;

@@ -16,8 +16,9 @@ use task_machine::{Codes, Env, Frame, Progress, advance};
 use tt_base::{IsrNo, Ledger, Owner, Steps, TaskNo};
 use tt_world::{IsrDef, Runner};
 
-/// The unfinished activations of the present round and the unfinished time-triggered routines, as frames on a stack. It takes no
-/// memory beside its own. Contracts see the activations of the round and what is left of each, and what is left of each routine.
+/// The unfinished activations of the present round and the unfinished time-triggered routines, as
+/// frames on a stack. It takes no memory beside its own. Contracts see the activations of the
+/// round and what is left of each, and what is left of each routine.
 #[derive(Drop)]
 pub struct TtStack {
     codes: Codes,
@@ -44,7 +45,8 @@ impl Model for TtStack {
 
     ghost view = { λ s. stacked s.codes s.first s.levels.items s.stack s.entries.items s.reached };
 
-    ghost invariant = { λ s. AreKept s.codes s.first s.levels.items s.stack s.entries.items s.reached };
+    ghost invariant = { λ s. AreKept s.codes s.first s.levels.items s.stack s.entries.items
+        s.reached };
 }
 
 /// The levels of some routines, by number.
@@ -89,8 +91,8 @@ fn take_off(entries: &mut ArrayVec<usize, 64>, owner: Owner)
 }
 
 impl TtStack {
-    /// Before the first round: no activation, and no routine is unfinished. The program of a task has the number of the task; those
-    /// of the routines follow from the first one on.
+    /// Before the first round: no activation, and no routine is unfinished. The program of a task
+    /// has the number of the task; those of the routines follow from the first one on.
     pub fn new(codes: Codes, isrs: &[IsrDef], first: u16) -> TtStack
         requires few { length isrs.now ≤ 16 }
         requires distinct { are_distinct (map (λ (isr : IsrDef). isr.level) isrs.now) ≡ true }
@@ -120,7 +122,8 @@ impl TtStack {
         &self.codes
     }
 
-    /// The next activation of the round, of a task, begins with its whole body, and takes so many words of stack.
+    /// The next activation of the round, of a task, begins with its whole body, and takes so many
+    /// words of stack.
     pub fn activate(&mut self, task: TaskNo, words: u32)
         requires exists { task.0 < self.old.first }
         requires room { count_unfinished self.old.jobs < 64 }
@@ -149,8 +152,8 @@ impl TtStack {
         self.begin_isr(isr, frame, words);
     }
 
-    /// Who runs: the unfinished routine of the highest level, else the last activation that has statements left. None where nothing
-    /// is unfinished.
+    /// Who runs: the unfinished routine of the highest level, else the last activation that has
+    /// statements left. None where nothing is unfinished.
     pub fn runner(&self) -> Option<Runner>
         ensures { result ≡ runner_in self.now }
     {
@@ -160,7 +163,8 @@ impl TtStack {
         }
     }
 
-    /// The ticks left of the `work` at the front of the one that runs; 0 where another statement is there, or nobody runs.
+    /// The ticks left of the `work` at the front of the one that runs; 0 where another statement
+    /// is there, or nobody runs.
     pub fn work_left(&self) -> u64
         ensures { result ≡ work_in_front (left_in self.now (running self.now)) }
     {
@@ -170,8 +174,8 @@ impl TtStack {
         }
     }
 
-    /// Takes k ticks of the one that runs: one, or at most as many as the `work` at its front has left. Where nothing is left then, it
-    /// has ended. It counts one step and takes no memory.
+    /// Takes k ticks of the one that runs: one, or at most as many as the `work` at its front has
+    /// left. Where nothing is left then, it has ended. It counts one step and takes no memory.
     pub fn advance<L: Ledger>(&mut self, k: u64, env: &mut Env, steps: &mut Steps<L>) -> Progress
         requires runs { IsSome (runner_in self.old) }
         requires some { 1 ≤ k }
@@ -205,7 +209,8 @@ impl TtStack {
         }
     }
 
-    /// Whether nothing is left of the activation at a place of the round. Of one that is not there nothing is left.
+    /// Whether nothing is left of the activation at a place of the round. Of one that is not there
+    /// nothing is left.
     pub fn is_job_done(&self, place: usize) -> bool
         ensures { result ≡ is_done (job_at self.now.jobs place).left }
     {
@@ -219,7 +224,8 @@ impl TtStack {
         !self.stack.holds(Owner::Isr(isr))
     }
 
-    /// The entry number of the activation at a place of the round, which is the place. Of one that is not there it is 0.
+    /// The entry number of the activation at a place of the round, which is the place. Of one that
+    /// is not there it is 0.
     pub fn entry_at(&self, place: usize) -> usize
         ensures { result ≡ (job_at self.now.jobs place).entry }
     {
@@ -233,7 +239,8 @@ impl TtStack {
         self.reached
     }
 
-    /// A round has ended: its activations are gone, also those that are unfinished. The routines stay.
+    /// A round has ended: its activations are gone, also those that are unfinished. The routines
+    /// stay.
     pub fn clear_jobs(&mut self)
         ensures { self.new ≡ record self.old { jobs = [] } }
     {
@@ -258,7 +265,8 @@ impl TtStack {
     fn top(&self) -> Option<Frame>
         ensures runs { IsSome result ↔ IsSome (runner_in self.now) }
         ensures sound { IfSome result (IsSoundFrame self.now.codes) }
-        ensures left { IfSome result (λ frame. left_of self.now.codes frame ≡ left_in self.now (running self.now)) }
+        ensures left { IfSome result
+            (λ frame. left_of self.now.codes frame ≡ left_in self.now (running self.now)) }
         ensures some { IfSome result (λ frame. left_of self.now.codes frame ≢ []) }
     {
         match self.stack.top() {

@@ -1,5 +1,5 @@
 -- Which services the one who runs calls: those that its kind of owner may call.
-use Rattle.std.proofs.Common.{ℕ, ◌≡◌, List, [], ◌∷◌, Bool, true, refl, sym, ◌∙◌, subst}
+use Rattle.std.proofs.Common.{ℕ, ◌≡◌, List, [], ◌∷◌, Bool, true, sym, ◌∙◌}
 use Rattle.std.specs.Prelude.{ℤ, ◌&&◌}
 use Rattle.std.proofs.lemmas.Bool.{and_parts}
 use Rattle.tt_base.specs.declared.event.Call.{Call}
@@ -14,11 +14,6 @@ use Rattle.task_lang.specs.declared.allowed.OwnerKind.TheVariants as owner
 use Rattle.task_lang.specs.Allowed.{is_allowed, may_call}
 use Rattle.task_lang.specs.Limits.{each_of, each_in, inner_pass}
 use Rattle.task_lang.specs.Tick.{Supply, state_of, tick, tick_by}
-use Rattle.tt_world.specs.declared.config.ConfigParts.{ConfigParts}
-use Rattle.tt_world.specs.declared.world.Runner.{Runner}
-use Rattle.tt_world.specs.ConfigRules.{IsRunnable}
-use Rattle.tt_world.specs.Runners.{kind_of}
-use Rattle.tt_world.specs.Services.{is_osek_call}
 
 -- each service that is called may be called by this kind of owner
 abbrev pub EffectsAllowed : OwnerKind → List Effect → Type 0
@@ -49,28 +44,3 @@ module _ (kind : OwnerKind) (supply : Supply) (vars : List ℤ) (cursors : List 
       ∙ (and_parts (each_of test front) _ h).0 in
       tick_allowed (front ∷ rest) (out-Stmt front) rest
       (and_parts (test (map-Stmt Stmt Bool (each_of test) (out-Stmt front))) _ here).0
-
-osek_may_call : (kind : OwnerKind) (k : Call) → may_call kind k ≡ true → is_osek_call k ≡ true → kind ≡ owner.Osek
-osek_may_call owner.Osek k h e = refl
-osek_may_call kind (call.Switch mode) h e = cc
-osek_may_call kind call.Sync h e = cc
-osek_may_call kind call.Shutdown h e = cc
-osek_may_call kind (call.Activate task) h e = cc
-osek_may_call owner.Task (call.Chain task) h e = cc
-osek_may_call owner.Isr (call.Chain task) h e = cc
-osek_may_call owner.Oisr (call.Chain task) h e = cc
-osek_may_call owner.Hook (call.Chain task) h e = cc
-osek_may_call owner.Task call.Terminate h e = cc
-osek_may_call owner.Isr call.Terminate h e = cc
-osek_may_call owner.Oisr call.Terminate h e = cc
-osek_may_call owner.Hook call.Terminate h e = cc
-
--- of those who run only an OSEK task calls what only an OSEK task may call
-pub osek_calls : (c : ConfigParts) (supply : Supply) (vars : List ℤ) (cursors : List ℕ) (r : Runner) (left : List Stmt)
-    (k : Call) → IsRunnable c (kind_of r) left
-    → (tick supply (state_of left vars cursors [])).effects ≡ effect.Service k ∷ [] → is_osek_call k ≡ true
-    → kind_of r ≡ owner.Osek
-osek_calls c supply vars cursors r left k runnable e h =
-    let all : EffectsAllowed (kind_of r) (effect.Service k ∷ []) =
-    subst (EffectsAllowed (kind_of r)) e (effects_allowed (kind_of r) supply vars cursors left runnable.allowed) in
-    osek_may_call (kind_of r) k all.0 h

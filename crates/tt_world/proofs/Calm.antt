@@ -111,9 +111,6 @@ module _ (c : ConfigParts) (s : ScriptParts) where
       ))
       (λ _. all_more IsCalm line (Called u.tick who k answer.result ∷ []) p (λ _. refl, tt))
 
-  after_tells : (line : List Event) (m : Moved) → Tells line m → Tells [] (preceded line m)
-  after_tells line m p = p
-
   pub step_tells : (w : World) → Tells [] (step c s w)
   unfolding step
   step_tells w =

@@ -85,8 +85,7 @@ step_ends c s w =
 -- ---- an instant
 
 -- the events of an instant: none is later than the next tick; where the run goes on none tells of its end, and else
--- they
--- are of this tick and say how it has ended
+-- they are of this tick and say how it has ended
 pub record Tells (T : ℕ) (m : Moved) : Type 0 where
   pub high : Of (λ e. stamp_of e ≤ T + 1) m.events
   pub on : is_over m.end ≡ false → Of Mute m.events

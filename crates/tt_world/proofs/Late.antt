@@ -51,7 +51,8 @@ module _ (c : ConfigParts) (s : ScriptParts) where
   ignores : IgnoresGates (Late 1 c)
   ignores w _ _ _ _ _ p = record { started = p.started; late = p.late }
 
-  activated_late : (found : Option ℕ) (w : World) (es : List Event) → Late 1 c w → Holds (Late 1 c) es (activated c found w)
+  activated_late : (found : Option ℕ) (w : World) (es : List Event) → Late 1 c w
+      → Holds (Late 1 c) es (activated c found w)
   activated_late None w es p = p
   activated_late (Some entry) w es p = record { started = p.started; late = p.late }
 
@@ -84,12 +85,14 @@ module _ (c : ConfigParts) (s : ScriptParts) where
     left = λ w after p _. left_late w (runner_of c w) after p;
     free = λ w _ _ _ _ _ p. record { started = p.started; late = p.late };
     synced = λ w _ p. record { started = p.started; late = p.late };
-    over = λ w _ p. let l = p.started in record { started = omega arith; late = λ length e. let m = p.late length e in omega arith };
+    over = λ w _ p. let l = p.started in
+        record { started = omega arith; late = λ length e. let m = p.late length e in omega arith };
   }
 
   instant_late : (w : World) (es : List Event) → Late 0 c w → Holds (Late 0 c) es (instant c s w)
   instant_late w es p =
-      instant_leads c s LateAt Anything opening_keeps (Alone (Late 0 c)) (step_holds c s (Late 1 c) (Late 1 c) (Late 0 c) step_keeps) w es p
+      instant_leads c s LateAt Anything opening_keeps (Alone (Late 0 c))
+          (step_holds c s (Late 1 c) (Late 1 c) (Late 0 c) step_keeps) w es p
 
   first_late : Late 0 c (world_at c s 0)
   unfolding world_at

@@ -1,5 +1,5 @@
--- The present and the wanted mode exist, and what is left of anybody has short expressions, names what is declared, and is
--- allowed to its owner.
+-- The present and the wanted mode exist, and what is left of anybody has short expressions, names what is declared,
+-- and is allowed to its owner.
 use Rattle.std.proofs.Common.{ℕ, suc, ◌≡◌, ◌≢◌, ◌<◌, ◌≤◌, ◌+◌, ◌-◌, List, [], ◌∷◌, ◌++◌, Bool, true, false, Option, None, Some, refl, ap, sym, ◌∙◌, subst, eqb, arith, length, ◌⊎◌, ⊎_elim, inl, inr, get_or, set, get_or-set_same, get_or-set_other}
 use Rattle.std.specs.Prelude.{◌==◌, ◌&&◌, map, replicate, if◌then◌else◌}
 use Rattle.std.specs.List.{list_any}
@@ -106,7 +106,8 @@ pub none_runnable : (c : ConfigParts) {kind : OwnerKind} → IsRunnable c kind [
 none_runnable c = record { expressions = refl; variables = refl; demands = refl; callees = refl; allowed = refl }
 
 -- a whole body
-pub body_runnable : (c : ConfigParts) (kind : OwnerKind) (body : List Stmt) → IsBody c kind body → IsRunnable c kind body
+pub body_runnable : (c : ConfigParts) (kind : OwnerKind) (body : List Stmt) → IsBody c kind body
+    → IsRunnable c kind body
 body_runnable c kind body h = record {
   expressions = h.expressions;
   variables = h.variables;
@@ -123,7 +124,8 @@ pub record Named (c : ConfigParts) (w : World) : Type 0 where
 pub has_mode : (c : ConfigParts) (w : World) → Named c w → HasMode c w
 has_mode c w n = record { mode = n.mode; wanted = n.wanted }
 
-leaving_named : (c : ConfigParts) (w : World) (r : Runner) (left : List Stmt) → IsRunnable c (kind_of r) left → Named c w
+leaving_named : (c : ConfigParts) (w : World) (r : Runner) (left : List Stmt) → IsRunnable c (kind_of r) left
+    → Named c w
     → Named c (leaving w r left)
 leaving_named c w (runner.Isr i) left t n =
     record { mode = n.mode; wanted = n.wanted; lefts = each_leaving (IsRunnable c) w (runner.Isr i) left t n.lefts }
@@ -140,26 +142,30 @@ module _ (c : ConfigParts) (s : ScriptParts) (rules : IsConfig c) where
   body_named task =
       ⊎_elim (λ (l : task.0 < length c.tasks).
       body_runnable c owner.Task _ (All-get_or (IsTask c) c.tasks task.0 no_task l rules.tasks).routine.is_body)
-      (λ (g : length c.tasks ≤ task.0). subst (λ x. IsRunnable c owner.Task x.body) (sym (get_or_past c.tasks task.0 no_task g)) (none_runnable c))
+      (λ (g : length c.tasks ≤ task.0). subst (λ x. IsRunnable c owner.Task x.body)
+          (sym (get_or_past c.tasks task.0 no_task g)) (none_runnable c))
       (cases_lt task.0 (length c.tasks))
 
   osek_named : (task : OsekNo) → IsRunnable c owner.Osek (osek_body c task)
   osek_named task =
       ⊎_elim (λ (l : task.0 < length c.oseks).
       body_runnable c owner.Osek _ (All-get_or (IsOsek c) c.oseks task.0 no_osek l rules.oseks).routine.is_body)
-      (λ (g : length c.oseks ≤ task.0). subst (λ x. IsRunnable c owner.Osek x.body) (sym (get_or_past c.oseks task.0 no_osek g)) (none_runnable c))
+      (λ (g : length c.oseks ≤ task.0). subst (λ x. IsRunnable c owner.Osek x.body)
+          (sym (get_or_past c.oseks task.0 no_osek g)) (none_runnable c))
       (cases_lt task.0 (length c.oseks))
 
   routine_named : (source : Source) → IsRunnable c (kind_of (source_runner source)) (routine_of c source)
   routine_named (IsrSource i) =
       ⊎_elim (λ (l : i.0 < length c.isrs).
       body_runnable c owner.Isr _ (All-get_or (IsIsr c) c.isrs i.0 no_isr l rules.isrs).routine.is_body)
-      (λ (g : length c.isrs ≤ i.0). subst (λ x. IsRunnable c owner.Isr x.body) (sym (get_or_past c.isrs i.0 no_isr g)) (none_runnable c))
+      (λ (g : length c.isrs ≤ i.0). subst (λ x. IsRunnable c owner.Isr x.body) (sym (get_or_past c.isrs i.0 no_isr g))
+          (none_runnable c))
       (cases_lt i.0 (length c.isrs))
   routine_named (OisrSource i) =
       ⊎_elim (λ (l : i.0 < length c.oisrs).
       body_runnable c owner.Oisr _ (All-get_or (IsOisr c) c.oisrs i.0 no_oisr l rules.oisrs).routine.is_body)
-      (λ (g : length c.oisrs ≤ i.0). subst (λ x. IsRunnable c owner.Oisr x.body) (sym (get_or_past c.oisrs i.0 no_oisr g)) (none_runnable c))
+      (λ (g : length c.oisrs ≤ i.0). subst (λ x. IsRunnable c owner.Oisr x.body)
+          (sym (get_or_past c.oisrs i.0 no_oisr g)) (none_runnable c))
       (cases_lt i.0 (length c.oisrs))
 
   -- ---- services
@@ -201,7 +207,8 @@ module _ (c : ConfigParts) (s : ScriptParts) (rules : IsConfig c) where
         left = subst (λ kind. IsRunnable c kind (osek_body c task)) (sym (caller_kind r task e)) (osek_named task);
       })
       (λ _. cond_both (is_suspended w task) _ _ (NamedAnswer r)
-      (λ _. record { world = leaving_named c w (runner.Osek task) (osek_body c task) (osek_named task) n; left = none_runnable c })
+      (λ _. record { world = leaving_named c w (runner.Osek task) (osek_body c task) (osek_named task) n; left =
+          none_runnable c })
       (λ _. record { world = n; left = t }))
   service_named r call.Terminate left w b n t = record { world = n; left = none_runnable c }
 
@@ -224,7 +231,8 @@ module _ (c : ConfigParts) (s : ScriptParts) (rules : IsConfig c) where
   tick_named left w (Stmt-F.If expr first second) rest h = tt
   tick_named left w (Stmt-F.Repeat n body) rest h = tt
 
-  pub effects_named : {kind : OwnerKind} (w : World) (left : List Stmt) → IsRunnable c kind left → EffectsNamed (state_after c s w left).effects
+  pub effects_named : {kind : OwnerKind} (w : World) (left : List Stmt) → IsRunnable c kind left
+      → EffectsNamed (state_after c s w left).effects
   unfolding tick
   effects_named w [] t = tt
   effects_named w (front ∷ rest) t =
@@ -266,7 +274,8 @@ module _ (c : ConfigParts) (s : ScriptParts) (rules : IsConfig c) where
       }
 
   effected_named : (r : Runner) (effects : List Effect) (who : Owner) (left : List Stmt) (w : World) (es : List Event)
-      → EffectsNamed effects → Named c w → IsRunnable c (kind_of r) left → Holds (Named c) es (effected c s r who effects left w).move
+      → EffectsNamed effects → Named c w → IsRunnable c (kind_of r) left
+      → Holds (Named c) es (effected c s r who effects left w).move
   effected_named r [] who left w es f n t = leaving_named c w r left t n
   effected_named r (effect.Out value ∷ rest) who left w es f n t = leaving_named c w r left t n
   effected_named r (effect.Service k ∷ rest) who left w es f n t =
@@ -283,7 +292,8 @@ module _ (c : ConfigParts) (s : ScriptParts) (rules : IsConfig c) where
       followed_leads (Alone (Named c)) (Alone (Named c)) Anything es
       (preceded (run_line w who) (runner_tick c s r who w).move) _
       (effected_named r state.effects who state.left _ es (effects_named w (left_of w r) (n.lefts r))
-      (record { mode = n.mode; wanted = n.wanted; lefts = n.lefts }) (ticked_named (kind_of r) w (left_of w r) (n.lefts r)))
+      (record { mode = n.mode; wanted = n.wanted; lefts = n.lefts })
+          (ticked_named (kind_of r) w (left_of w r) (n.lefts r)))
       (λ v ds p. record { mode = p.mode; wanted = p.wanted; lefts = p.lefts })
 
   -- ---- the opening
@@ -297,7 +307,8 @@ module _ (c : ConfigParts) (s : ScriptParts) (rules : IsConfig c) where
   none_left : (w : World) → EachLeft (IsRunnable c) w → (number : ℕ) (mode : _)
       → EachLeft (IsRunnable c) (record w { start = w.tick; number = number; mode = mode; latched = None; jobs = [] })
   none_left w e number mode (runner.Job place) =
-      subst (λ (x : Job). IsRunnable c owner.Task x.left) (sym (get_or_past [] place no_job (omega arith))) (none_runnable c)
+      subst (λ (x : Job). IsRunnable c owner.Task x.left) (sym (get_or_past [] place no_job (omega arith)))
+          (none_runnable c)
   none_left w e number mode (runner.Isr i) = e (runner.Isr i)
   none_left w e number mode (runner.Oisr i) = e (runner.Oisr i)
   none_left w e number mode (runner.Osek i) = e (runner.Osek i)
@@ -349,7 +360,8 @@ module _ (c : ConfigParts) (s : ScriptParts) (rules : IsConfig c) where
       let y : Job = record { entry = entry; left = left } in
       ⊎_elim
       (λ (l : place < length (w.jobs ++ y ∷ [])).
-      ⊎_elim (λ (old : IsOldPlace w.jobs y place). subst (λ x. IsRunnable c owner.Task x.left) (sym old.1) (e (runner.Job place)))
+      ⊎_elim (λ (old : IsOldPlace w.jobs y place). subst (λ x. IsRunnable c owner.Task x.left) (sym old.1)
+          (e (runner.Job place)))
       (λ (new : IsNewPlace w.jobs y place). subst (λ x. IsRunnable c owner.Task x.left) (sym new.1) t)
       (place_of_more w.jobs y place l))
       (λ (g : length (w.jobs ++ y ∷ []) ≤ place). subst (λ (x : Job). IsRunnable c owner.Task x.left)
@@ -393,20 +405,23 @@ module _ (c : ConfigParts) (s : ScriptParts) (rules : IsConfig c) where
 
   -- before tick 0
   auto_named : (task : OsekDef) → IsOsek c task → IsRunnable c owner.Osek (if task.auto then task.body else [])
-  auto_named task h = cond_both task.auto task.body [] (IsRunnable c owner.Osek) (λ _. body_runnable c owner.Osek _ h.routine.is_body)
+  auto_named task h = cond_both task.auto task.body [] (IsRunnable c owner.Osek)
+      (λ _. body_runnable c owner.Osek _ h.routine.is_body)
       (λ _. none_runnable c)
 
   oseks_named : (i : ℕ)
       → IsRunnable c owner.Osek (get_or (map (λ (task : OsekDef). if task.auto then task.body else []) c.oseks) i [])
   oseks_named i =
-      subst (IsRunnable c owner.Osek) (sym (get_or-map (λ (task : OsekDef). if task.auto then task.body else []) c.oseks i no_osek))
+      subst (IsRunnable c owner.Osek)
+          (sym (get_or-map (λ (task : OsekDef). if task.auto then task.body else []) c.oseks i no_osek))
       (⊎_elim (λ (l : i < length c.oseks). auto_named _ (All-get_or (IsOsek c) c.oseks i no_osek l rules.oseks))
       (λ (g : length c.oseks ≤ i). subst (λ (x : OsekDef). IsRunnable c owner.Osek (if x.auto then x.body else []))
       (sym (get_or_past c.oseks i no_osek g)) (none_runnable c)) (cases_lt i (length c.oseks)))
 
   none_of : (kind : OwnerKind) (n i : ℕ) → IsRunnable c kind (get_or (replicate {A = List Stmt} n []) i [])
   none_of kind n i =
-      ⊎_elim (λ (l : i < n). subst (IsRunnable c kind) (sym (get_or-replicate {A = List Stmt} n i [] [] l)) (none_runnable c))
+      ⊎_elim (λ (l : i < n). subst (IsRunnable c kind) (sym (get_or-replicate {A = List Stmt} n i [] [] l))
+          (none_runnable c))
       (λ (g : n ≤ i). subst (IsRunnable c kind) (sym
       (get_or_past (replicate {A = List Stmt} n []) i []
       (let e = length-replicate {A = List Stmt} n [] in omega arith))) (none_runnable c)) (cases_lt i n)
@@ -422,7 +437,3 @@ module _ (c : ConfigParts) (s : ScriptParts) (rules : IsConfig c) where
   pub run_named : IsScript c s → (n : ℕ) → GoesOnBefore c s n → Named c (world_at c s n)
   unfolding world_at
   run_named script n g = named_at (record { mode = script.start; wanted = script.start; lefts = first_lefts }) n g
-
-  -- the present and the wanted mode exist at each instant of a run
-  pub mode_at : IsScript c s → (n : ℕ) → GoesOnBefore c s n → HasMode c (world_at c s n)
-  mode_at script n g = has_mode c (world_at c s n) (run_named script n g)

@@ -367,10 +367,6 @@ module _ (c : ConfigParts) (s : ScriptParts) (rules : IsConfig c) (T : ℕ) wher
     low : Of (λ e. stamp_of e < T + 1) ds
     low = each_of (λ e. stamp_of e ≤ T) (λ e. stamp_of e < T + 1) (λ e l. omega arith) ds f.1.stamps
 
-    last_low : (r : Runner) → Of (λ e. stamp_of e ≤ T + 1)
-        (event_if (is_somebody r && ended) (End (T + 1) (owner_of c w r)))
-    last_low r = event_if_all (λ e. stamp_of e ≤ T + 1) _ (End (T + 1) (owner_of c w r)) (omega arith)
-
     -- neither a task nor a time-triggered routine
     over_other : (b : Bool) (who : Owner) → ((x : TaskNo) → same_owner (owner.Task x) who ≡ false)
         → ((x : IsrNo) → same_owner (owner.Isr x) who ≡ false)

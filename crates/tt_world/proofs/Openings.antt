@@ -48,7 +48,8 @@ due_from c s offset mode =
 
 -- ---- parts
 
-continued_same : (over : Bool) (P : World → Type 0) (m : Moved) (f g : World → Moved) → by_end over (P m.world) (Unit {0})
+continued_same : (over : Bool) (P : World → Type 0) (m : Moved) (f g : World → Moved)
+    → by_end over (P m.world) (Unit {0})
     → ((v : World) → P v → f v ≡ g v) → continued over m f ≡ continued over m g
 continued_same false P m f g p e = ap (preceded m.events) (e m.world p)
 continued_same true P m f g p e = refl
@@ -87,45 +88,57 @@ module _ (c : ConfigParts) (s : ScriptParts) where
 
   module _ (w : World) where
     activation_same : (v : World) → Clock w v
-        → chain (activation c ∷ []) v ≡ chain (activated_in c (mode_of c w) (entry_at (offset_of w) (mode_of c w).activations) ∷ []) v
+        → chain (activation c ∷ []) v
+        ≡ chain (activated_in c (mode_of c w) (entry_at (offset_of w) (mode_of c w).activations) ∷ []) v
     unfolding chain activation
     activation_same v p =
         ap (λ m. followed m (chain [])) (activated_is v _)
-        ∙ ap (λ (o : ℕ). followed (activated_in c (mode_of c v) (entry_at o (mode_of c v).activations) v) (chain [])) p.offset
+        ∙ ap (λ (o : ℕ). followed (activated_in c (mode_of c v) (entry_at o (mode_of c v).activations) v) (chain []))
+            p.offset
         ∙ ap (λ (m : ModeDef). followed (activated_in c m (entry_at (offset_of w) m.activations) v) (chain [])) p.mode
 
     accepted_same : (v : World) → Clock w v
         → chain (acceptances c ∷ activation c ∷ []) v
         ≡ chain (acceptances c ∷ activated_in c (mode_of c w) (entry_at (offset_of w) (mode_of c w).activations) ∷ []) v
     unfolding chain
-    accepted_same v p = followed_same (Clock w) (acceptances c v) _ _ (acceptances_hold (Clock w) (ignores w) c v [] p) activation_same
+    accepted_same v p = followed_same (Clock w) (acceptances c v) _ _
+        (acceptances_hold (Clock w) (ignores w) c v [] p) activation_same
 
     arrived_same : (v : World) → Clock w v
         → chain (arrivals c s ∷ acceptances c ∷ activation c ∷ []) v
-        ≡ chain (arrivals c s ∷ acceptances c ∷ activated_in c (mode_of c w) (entry_at (offset_of w) (mode_of c w).activations) ∷ []) v
+        ≡ chain (arrivals c s ∷ acceptances c ∷ activated_in c (mode_of c w)
+            (entry_at (offset_of w) (mode_of c w).activations) ∷ []) v
     unfolding chain
-    arrived_same v p = followed_same (Clock w) (arrivals c s v) _ _ (arrivals_hold (Clock w) (ignores w) c s v [] p) accepted_same
+    arrived_same v p = followed_same (Clock w) (arrivals c s v) _ _
+        (arrivals_hold (Clock w) (ignores w) c s v [] p) accepted_same
 
     enables_are : (v : World) → Clock w v → enables c v ≡ enables_from (offset_of w) (mode_of c w) v
     unfolding enables
     enables_are v p =
-        ap (λ (o : ℕ). enables_from o (mode_of c v) v) p.offset ∙ ap (λ (m : ModeDef). enables_from (offset_of w) m v) p.mode
+        ap (λ (o : ℕ). enables_from o (mode_of c v) v) p.offset
+            ∙ ap (λ (m : ModeDef). enables_from (offset_of w) m v) p.mode
 
     enabled_same : (v : World) → Clock w v
         → chain (enables c ∷ arrivals c s ∷ acceptances c ∷ activation c ∷ []) v
-        ≡ chain (enables_from (offset_of w) (mode_of c w) ∷ arrivals c s ∷ acceptances c ∷ activated_in c (mode_of c w) (entry_at (offset_of w) (mode_of c w).activations) ∷ []) v
+        ≡ chain (enables_from (offset_of w) (mode_of c w) ∷ arrivals c s ∷ acceptances c ∷ activated_in c
+            (mode_of c w) (entry_at (offset_of w) (mode_of c w).activations) ∷ []) v
     unfolding chain
     enabled_same v p =
-        followed_same (Clock w) (enables c v) _ (chain (arrivals c s ∷ acceptances c ∷ activated_in c (mode_of c w) (entry_at (offset_of w) (mode_of c w).activations) ∷ []))
+        followed_same (Clock w) (enables c v) _
+            (chain (arrivals c s ∷ acceptances c ∷ activated_in c (mode_of c w)
+            (entry_at (offset_of w) (mode_of c w).activations) ∷ []))
         (enables_hold (Clock w) (ignores w) c v [] p) arrived_same
-        ∙ ap (λ m. followed m (chain (arrivals c s ∷ acceptances c ∷ activated_in c (mode_of c w) (entry_at (offset_of w) (mode_of c w).activations) ∷ []))) (enables_are v p)
+        ∙ ap (λ m. followed m (chain
+            (arrivals c s ∷ acceptances c ∷ activated_in c (mode_of c w)
+            (entry_at (offset_of w) (mode_of c w).activations) ∷ []))) (enables_are v p)
 
     -- what is due is that of the offset and the mode at which the parts begin
     pub due_same : chain (due c s) w ≡ chain (due_from c s (offset_of w) (mode_of c w)) w
     unfolding chain checks
     due_same =
         followed_same (Clock w) (monitored c (is_at (offset_of w)) w) _ _
-        (monitored_holds (Clock w) c (is_at (offset_of w)) w [] (λ _. record { offset = refl; mode = refl })) enabled_same
+        (monitored_holds (Clock w) c (is_at (offset_of w)) w [] (λ _. record { offset = refl; mode = refl }))
+            enabled_same
 
 -- ---- nothing is due
 
@@ -169,7 +182,8 @@ module _ (c : ConfigParts) (s : ScriptParts) (w : World) (n : NothingDue c s w) 
   unfolding round_end
   no_round_end = cond-false _ _ _ n.round
 
-  last_parts : chain (acceptances c ∷ activated_in c (mode_of c w) (entry_at (offset_of w) (mode_of c w).activations) ∷ []) w ≡ acceptances c w
+  last_parts : chain (acceptances c ∷ activated_in c (mode_of c w) (entry_at (offset_of w) (mode_of c w).activations)
+      ∷ []) w ≡ acceptances c w
   unfolding chain followed
   last_parts =
       ap (λ (found : Option ℕ). chain (acceptances c ∷ activated_in c (mode_of c w) found ∷ []) w) n.activation

@@ -47,8 +47,7 @@ none_found o (a ∷ rest) (suc i) e l h =
     (length rest) e).1 (omega arith) h
 
 -- the activations so far are those of the rows with offsets below the present one: k is 0 before the activation of an
--- instant, and 1
--- after it
+-- instant, and 1 after it
 pub record Placed (c : ConfigParts) (k : ℕ) (w : World) : Type 0 where
   pub started : w.start ≤ w.tick
   pub entries : (place : ℕ) → place < length w.jobs → (job_at w.jobs place).entry ≡ place

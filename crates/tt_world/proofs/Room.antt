@@ -36,7 +36,8 @@ one_longer true a ys x xs e = ap suc e
 one_longer false a ys x xs e = e
 
 -- one more, where a test holds
-one_more : {A : Type 0} (P : List A → Type 0) (b : Bool) (a : A) (ys : List A) → P ys → (b ≡ true → P (a ∷ ys)) → P (cond b (a ∷ ys) ys)
+one_more : {A : Type 0} (P : List A → Type 0) (b : Bool) (a : A) (ys : List A) → P ys → (b ≡ true → P (a ∷ ys))
+    → P (cond b (a ∷ ys) ys)
 one_more P true a ys h more = more refl
 one_more P false a ys h more = h
 
@@ -45,7 +46,8 @@ one_found : (k n : ℕ) (b : Bool) (a : ℕ) (ys : List ℕ) → (list_any (eqb 
 one_found k n false a ys rest first t = rest t
 one_found k n true a ys rest first t = by (eqb k a) refl t rest
   where
-    by : (same : Bool) → eqb k a ≡ same → (same || list_any (eqb k) ys) ≡ true → (list_any (eqb k) ys ≡ true → k < n) → k < n
+    by : (same : Bool) → eqb k a ≡ same → (same || list_any (eqb k) ys) ≡ true → (list_any (eqb k) ys ≡ true → k < n)
+        → k < n
     by true e u rest = subst (λ (j : ℕ). j < n) (sym (eqb-true k a e)) (first refl)
     by false e u rest = rest u
 
@@ -60,7 +62,8 @@ module _ (f : Job → ℕ) where
   length_keys (x ∷ xs) = one_longer (is_undone x) (f x) (keys xs) x (filter is_undone xs) (length_keys xs)
 
   -- another number than that of each of them
-  apart_from : (k : ℕ) (xs : List Job) → ((q : ℕ) → q < length xs → is_undone (job_at xs q) ≡ true → k ≡ f (job_at xs q) → ⊥)
+  apart_from : (k : ℕ) (xs : List Job)
+      → ((q : ℕ) → q < length xs → is_undone (job_at xs q) ≡ true → k ≡ f (job_at xs q) → ⊥)
       → AllByRecursion (λ (y : ℕ). eqb k y ≡ false) (keys xs)
   apart_from k [] h = tt
   apart_from k (x ∷ xs) h =
@@ -81,13 +84,16 @@ module _ (f : Job → ℕ) where
       → (k : ℕ) → list_any (eqb k) (keys xs) ≡ true → k < n
   are_below n [] h k e = absurd (false≢true e)
   are_below n (x ∷ xs) h k e =
-      one_found k n (is_undone x) (f x) (keys xs) (are_below n xs (λ q l. h (suc q) (omega arith)) k) (h 0 (omega arith)) e
+      one_found k n (is_undone x) (f x) (keys xs) (are_below n xs (λ q l. h (suc q) (omega arith)) k)
+          (h 0 (omega arith)) e
 
   few_keys : (n : ℕ) (xs : List Job) → ((p q : ℕ) → p < q → q < length xs → is_undone (job_at xs p) ≡ true
       → is_undone (job_at xs q) ≡ true → f (job_at xs p) ≡ f (job_at xs q) → ⊥)
-      → ((q : ℕ) → q < length xs → is_undone (job_at xs q) ≡ true → f (job_at xs q) < n) → length (filter is_undone xs) ≤ n
+      → ((q : ℕ) → q < length xs → is_undone (job_at xs q) ≡ true → f (job_at xs q) < n)
+      → length (filter is_undone xs) ≤ n
   few_keys n xs apart below =
-      subst (λ (k : ℕ). k ≤ n) (length_keys xs) (length-le_from_distinct_below (keys xs) n (are_distinct xs apart) (are_below n xs below))
+      subst (λ (k : ℕ). k ≤ n) (length_keys xs)
+          (length-le_from_distinct_below (keys xs) n (are_distinct xs apart) (are_below n xs below))
 
 some_left : (left : List Stmt) → 1 ≤ length left → is_done left ≡ false
 some_left [] l = absurd (omega arith)
@@ -105,7 +111,8 @@ module _ (c : ConfigParts) (w : World) (single : AreTasksSingle c w)
   few_unfinished =
       subst (λ (k : ℕ). k ≤ length c.tasks) (length-filter is_undone w.jobs)
       (few_keys (λ (job : Job). (row_of (mode_of c w) job.entry).task.0) (length c.tasks) w.jobs
-      (λ p q l m up uq same. let e = single p q (unfinished_at p (omega arith) up) (unfinished_at q m uq) (ap task_no same) in omega arith)
+      (λ p q l m up uq same. let e =
+          single p q (unfinished_at p (omega arith) up) (unfinished_at q m uq) (ap task_no same) in omega arith)
       (λ q l u. exist q l))
     where
       task_no : ℕ → TaskNo
@@ -114,12 +121,14 @@ module _ (c : ConfigParts) (w : World) (single : AreTasksSingle c w)
 -- ---- before an activation
 
 -- each row has a task that exists
-module _ (c : ConfigParts) (s : ScriptParts) (rules : IsConfig c) (w : World) (ahead : Ahead c 1 w) (placed : Placed c 0 w)
+module _ (c : ConfigParts) (s : ScriptParts) (rules : IsConfig c) (w : World) (ahead : Ahead c 1 w)
+    (placed : Placed c 0 w)
     (entry : ℕ) (found : entry_at (offset_of w) (mode_of c w).activations ≡ Some entry) where
   pub task_exists : (i : ℕ) → i < length (mode_of c w).activations → (row_of (mode_of c w) i).task.0 < length c.tasks
   task_exists i l =
       let row = row_of (mode_of c w) i in
-      let here = list_all_get (is_activation c) (mode_of c w).activations i no_row (mode_rows c w.mode.0 rules).activations l in
+      let here = list_all_get (is_activation c) (mode_of c w).activations i no_row
+          (mode_rows c w.mode.0 rules).activations l in
       ltb-true row.task.0 (length c.tasks) (and_parts (nat_lt row.task.0 (length c.tasks))
       (nat_lt row.offset row.deadline && nat_le row.deadline (c.round - c.adjust)) here).0
 
@@ -142,7 +151,8 @@ module _ (c : ConfigParts) (s : ScriptParts) (rules : IsConfig c) (w : World) (a
   has_body : is_done (body_of c (row_of (mode_of c w) entry).task) ≡ false
   has_body =
       let within = (row_found (offset_of w) entry (mode_of c w) found).0 in
-      let task = All-get_or (IsTask c) c.tasks (row_of (mode_of c w) entry).task.0 no_task (task_exists entry within) rules.tasks in
+      let task = All-get_or (IsTask c) c.tasks (row_of (mode_of c w) entry).task.0 no_task
+          (task_exists entry within) rules.tasks in
       some_left (body_of c (row_of (mode_of c w) entry).task) task.routine.some
 
   -- before an activation there is room for one more

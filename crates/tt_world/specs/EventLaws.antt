@@ -82,16 +82,14 @@ IsOwner c (Some (owner.Isr isr)) tasks isrs =
 IsOwner c (Some who) tasks isrs = (isrs ≡ []) × (tasks ≡ [])
 
 -- a task runs where no time-triggered routine is unfinished and it was activated last; a time-triggered routine where
--- it is the one
--- of the highest level; and anybody else where no task and no time-triggered routine is unfinished
+-- it is the one of the highest level; and anybody else where no task and no time-triggered routine is unfinished
 abbrev pub OwnersRun : ConfigParts → List Event → Type 0
 OwnersRun c events = (u : ℕ) → IsTaken events u → IsOwner c (owner_at u events) (tasks_at u events) (isrs_at u events)
 
 -- ---- checks
 
 -- the checks of the rows of a round that begins at `start` whose point is due at a tick, up to the first that is
--- missed: one is met
--- where the activation has ended
+-- missed: one is met where the activation has ended
 unfoldable pub checked_rows : (seen : List Event) → (at start : ℕ) → ModeDef → (Point → Bool) → List ActivationRow
     → List Event
 checked_rows seen at start mode is_due [] = []

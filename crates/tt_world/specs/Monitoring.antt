@@ -38,9 +38,8 @@ abbrev pub check_if : Bool → Checked → Checked → Checked
 check_if true check others = check
 check_if false check others = others
 
--- the checks of those activations whose point is due, in their order, up to the first that is missed: one is met where
--- nothing
--- is left of the activation
+-- the checks of those activations whose point is due, in their order, up to the first that is missed: one is met
+-- where nothing is left of the activation
 unfoldable pub checked : ℕ → ModeDef → (Point → Bool) → List Job → Checked
 checked at mode is_due [] = record { events = []; missed = None }
 checked at mode is_due (job ∷ rest) =

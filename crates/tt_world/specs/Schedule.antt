@@ -12,9 +12,8 @@ use Rattle.tt_world.specs.Moved.{Moved, followed, is_over}
 use Rattle.tt_world.specs.Opening.{opening}
 use Rattle.tt_world.specs.Step.{step}
 
--- the rules that bound a run: how long a round is and how far it is corrected, how many rounds there are, and that the
--- mode at
--- the start exists
+-- the rules that bound a run: how long a round is and how far it is corrected, how many rounds there are, and that
+-- the mode at the start exists
 pub record IsBounded (c : ConfigParts) (s : ScriptParts) : Type 0 where
   pub round_long : 2 ≤ c.round
   pub round_short : c.round ≤ 10000000
@@ -24,8 +23,8 @@ pub record IsBounded (c : ConfigParts) (s : ScriptParts) : Type 0 where
   pub few_rounds : s.rounds ≤ 100000
 
 -- before tick 0: round 1 of the start mode, which is wanted too; no correction; the variables with their initial
--- values, and no
--- script value or global time used; all sources enabled, and nothing held; and the tasks with the auto mark ready
+-- values, and no script value or global time used; all sources enabled, and nothing held; and the tasks with the auto
+-- mark ready
 abbrev pub first_world : ConfigParts → ScriptParts → World
 first_world c s = record {
   tick = 0;

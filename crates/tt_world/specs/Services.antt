@@ -69,9 +69,3 @@ service c s caller call.Terminate left w = ends_with w []
 abbrev pub is_shutdown : Call → Bool
 is_shutdown call.Shutdown = true
 is_shutdown _ = false
-
--- whether only an OSEK task may call a service
-abbrev pub is_osek_call : Call → Bool
-is_osek_call (call.Chain task) = true
-is_osek_call call.Terminate = true
-is_osek_call _ = false

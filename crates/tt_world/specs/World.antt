@@ -38,8 +38,7 @@ pub record World : Type 0 where
   -- all activations of the present round, in their order
   pub jobs : List Job
   -- of each time-triggered routine: whether its source is enabled, whether an interrupt is held, and what is left of
-  -- it, nothing
-  -- where it is not unfinished
+  -- it, nothing where it is not unfinished
   pub isrs_enabled : List Bool
   pub isrs_held : List Bool
   pub isrs : List (List Stmt)

@@ -7,6 +7,8 @@ use Rattle.osek_idle.proofs.subsystem.first_routines.Given as goal
 abbrev pub invariant-loop-oisr : goal.invariant-loop-oisr
 invariant-loop-oisr l = record {
   count : length l.slots.items ≡ l.oisr-index;
-  priorities : priorities l.slots.items ++ map (λ (oisr : OisrDef). oisr.priority) (drop l.oisr-index l.oisrs) ≡ map (λ (oisr : OisrDef). oisr.priority) l.oisrs;
-  frames : frames l.slots.items ++ map (λ (oisr : OisrDef). None) (drop l.oisr-index l.oisrs) ≡ map (λ (oisr : OisrDef). None) l.oisrs;
+  priorities : priorities l.slots.items ++ map (λ (oisr : OisrDef). oisr.priority) (drop l.oisr-index l.oisrs)
+      ≡ map (λ (oisr : OisrDef). oisr.priority) l.oisrs;
+  frames : frames l.slots.items ++ map (λ (oisr : OisrDef). None) (drop l.oisr-index l.oisrs)
+      ≡ map (λ (oisr : OisrDef). None) l.oisrs;
 }

@@ -8,8 +8,10 @@ use Rattle.osek_idle.proofs.subsystem.first_tasks.Given as goal
 abbrev pub invariant-loop-number : goal.invariant-loop-number
 invariant-loop-number l = record {
   count : length l.slots.items ≡ l.number;
-  priorities : priorities l.slots.items ++ map (λ (task : OsekDef). task.priority) (drop l.number l.tasks) ≡ map (λ (task : OsekDef). task.priority) l.tasks;
+  priorities : priorities l.slots.items ++ map (λ (task : OsekDef). task.priority) (drop l.number l.tasks)
+      ≡ map (λ (task : OsekDef). task.priority) l.tasks;
   sound : AreSound l.codes (frames l.slots.items);
-  state : states l.codes (frames l.slots.items) ++ map (λ (task : OsekDef). if task.auto then Some task.body else None) (drop l.number l.tasks)
+  state : states l.codes (frames l.slots.items)
+      ++ map (λ (task : OsekDef). if task.auto then Some task.body else None) (drop l.number l.tasks)
       ≡ map (λ (task : OsekDef). if task.auto then Some task.body else None) l.tasks;
 }

@@ -12,7 +12,9 @@ loop-place-preserved c =
     c.in_ok-put.ensures ∙ ap (λ (l : List ℕ). c.loop-place.text.items ++ l) c.enable_line.ensures in
     record {
       text =
-          text_more line c.args.text.now.items _ _ (enables_of c.args.table.now) c.args.from c.loop-place.place c.enable_at.result c.loop-place.auto.place c.enable_at.ensures
+          text_more line c.args.text.now.items _ _
+              (enables_of c.args.table.now) c.args.from c.loop-place.place c.enable_at.result c.loop-place.auto.place
+              c.enable_at.ensures
           c.loop-place.invariant.text put;
       within = omega arith;
     }

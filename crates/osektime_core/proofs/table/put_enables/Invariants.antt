@@ -7,6 +7,7 @@ use Rattle.osektime_core.proofs.table.put_enables.Given as goal
 -- the lines of the places so far
 abbrev pub invariant-loop-place : goal.invariant-loop-place
 invariant-loop-place l = record {
-  text : l.text.items ≡ l.fn.text.items ++ enable_lines l.names l.offset (slice_range (enables_of l.table) l.from l.place);
+  text : l.text.items ≡ l.fn.text.items
+      ++ enable_lines l.names l.offset (slice_range (enables_of l.table) l.from l.place);
   within : l.place ≤ max l.from l.to;
 }

@@ -15,7 +15,8 @@ returns-then-not-are_at_most c =
     let values-are = c.as_slice-values.ensures ∙ ap (λ (p : ScriptParts). p.values) c.parts-2.ensures.same in
     let l : n < length demands = subst (λ (xs : List Demand). n < length xs) demands-are c.loop-number-test.true in
     let k : n < length values = (let same = c.requires.values in omega arith) in
-    let kept = kept_here demands values n _ c.as_slice-demands.result.now c.index-values-number.result c.as_slice.result.now
+    let kept = kept_here demands values n _ c.as_slice-demands.result.now c.index-values-number.result
+        c.as_slice.result.now
     c.are_at_most.result demands-are c.loop-number-test.true k
     (c.index-values-number.is ∙ ap (λ (xs : List (List ℕ)). get_or xs n c.index-values-number.result) values-are)
     c.as_slice.ensures c.are_at_most.ensures in
@@ -30,7 +31,8 @@ loop-number-preserved c =
     let values-are = c.as_slice-values.ensures ∙ ap (λ (p : ScriptParts). p.values) c.parts-2.ensures.same in
     let l : n < length demands = subst (λ (xs : List Demand). n < length xs) demands-are c.loop-number-test.true in
     let k : n < length values = (let same = c.requires.values in omega arith) in
-    let kept = kept_here demands values n _ c.as_slice-demands.result.now c.index-values-number.result c.as_slice.result.now
+    let kept = kept_here demands values n _ c.as_slice-demands.result.now c.index-values-number.result
+        c.as_slice.result.now
     c.are_at_most.result demands-are c.loop-number-test.true k
     (c.index-values-number.is ∙ ap (λ (xs : List (List ℕ)). get_or xs n c.index-values-number.result) values-are)
     c.as_slice.ensures c.are_at_most.ensures in

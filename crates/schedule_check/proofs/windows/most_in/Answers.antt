@@ -10,7 +10,8 @@ use Rattle.schedule_check.proofs.windows.most_in.Goals as goal
 
 pub overflow_add-opened : goal.overflow_add-opened
 overflow_add-opened c =
-    let few = few_rows c.args.parts.now c.requires.rules c.args.table.now c.requires.table (weight_of c.args.measure c.args.parts.now) in
+    let few = few_rows c.args.parts.now c.requires.rules c.args.table.now c.requires.table
+        (weight_of c.args.measure c.args.parts.now) in
     let rows = ap (λ (xs : List Activation). length xs) c.activations-row-items.ensures in
     let test = c.loop-row-test.true in
     let bounded = c.loop-row.invariant.bounded in
@@ -39,7 +40,8 @@ checked_between-closed-requires-clause-order c =
     let l : j < length table.mode.activations = omega arith in
     let row = item_is parts c.requires.rules table c.requires.table w j _ c.activations-row-items.result.now
     c.activations-row-items.ensures test in
-    let next = next_is parts c.requires.rules table c.requires.table w j _ c.due-next.result row c.due-next.ensures.exact in
+    let next = next_is parts c.requires.rules table c.requires.table w j _ c.due-next.result row
+        c.due-next.ensures.exact in
     let early = c.loop-row.invariant.early j (omega arith) l in
     omega arith
 
@@ -54,7 +56,8 @@ checked_between-closed-requires-clause-small c =
     let l : j < length table.mode.activations = omega arith in
     let row = item_is parts c.requires.rules table c.requires.table w j _ c.activations-row-items.result.now
     c.activations-row-items.ensures test in
-    let next = next_is parts c.requires.rules table c.requires.table w j _ c.due-next.result row c.due-next.ensures.exact in
+    let next = next_is parts c.requires.rules table c.requires.table w j _ c.due-next.result row
+        c.due-next.ensures.exact in
     let whole = step parts c.requires.rules table c.requires.table w j _ c.loop-row.opened c.weight_of-opened.result
     c.due-next.result.checks_to l row c.loop-row.invariant.opened c.weight_of-opened.ensures.exact next in
     let few = few_rows parts c.requires.rules table c.requires.table w in
@@ -73,7 +76,8 @@ overflow_add-closed c =
     let l : j < length table.mode.activations = omega arith in
     let row = item_is parts c.requires.rules table c.requires.table w j _ c.activations-row-items.result.now
     c.activations-row-items.ensures test in
-    let next = next_is parts c.requires.rules table c.requires.table w j _ c.due-next.result row c.due-next.ensures.exact in
+    let next = next_is parts c.requires.rules table c.requires.table w j _ c.due-next.result row
+        c.due-next.ensures.exact in
     let whole = step parts c.requires.rules table c.requires.table w j _ c.loop-row.opened c.weight_of-opened.result
     c.due-next.result.checks_to l row c.loop-row.invariant.opened c.weight_of-opened.ensures.exact next in
     let few = few_rows parts c.requires.rules table c.requires.table w in
@@ -94,7 +98,8 @@ overflow_sub-opened c =
     let l : j < length table.mode.activations = omega arith in
     let row = item_is parts c.requires.rules table c.requires.table w j _ c.activations-row-items.result.now
     c.activations-row-items.ensures test in
-    let next = next_is parts c.requires.rules table c.requires.table w j _ c.due-next.result row c.due-next.ensures.exact in
+    let next = next_is parts c.requires.rules table c.requires.table w j _ c.due-next.result row
+        c.due-next.ensures.exact in
     let whole = step parts c.requires.rules table c.requires.table w j _ c.loop-row.opened c.weight_of-opened.result
     c.due-next.result.checks_to l row c.loop-row.invariant.opened c.weight_of-opened.ensures.exact next in
     let few = few_rows parts c.requires.rules table c.requires.table w in
@@ -115,7 +120,8 @@ loop-row-preserved c =
     let l : j < length table.mode.activations = omega arith in
     let row = item_is parts c.requires.rules table c.requires.table w j _ c.activations-row-items.result.now
     c.activations-row-items.ensures test in
-    let next = next_is parts c.requires.rules table c.requires.table w j _ c.due-next.result row c.due-next.ensures.exact in
+    let next = next_is parts c.requires.rules table c.requires.table w j _ c.due-next.result row
+        c.due-next.ensures.exact in
     let whole = step parts c.requires.rules table c.requires.table w j _ c.loop-row.opened c.weight_of-opened.result
     c.due-next.result.checks_to l row c.loop-row.invariant.opened c.weight_of-opened.ensures.exact next in
     let few = few_rows parts c.requires.rules table c.requires.table w in
@@ -128,7 +134,8 @@ loop-row-preserved c =
     c.max-most.ensures ∙ larger _ _ in
     let most = c.loop-row.invariant.small in
     record {
-      opened = opens parts c.requires.rules table c.requires.table w j _ c.loop-row.opened c.weight_of-opened.result l row
+      opened = opens parts c.requires.rules table c.requires.table w j _ c.loop-row.opened c.weight_of-opened.result l
+          row
           c.loop-row.invariant.opened c.weight_of-opened.ensures.exact;
       bounded = omega arith;
       closed = omega arith;
@@ -149,4 +156,5 @@ returns-clause-exact c =
     c.loop-row.invariant.most
     ∙ ap (largest (λ j. open_at (weight_of c.args.measure c.args.parts.now) c.args.parts.now c.args.table.now.mode
     (row_of c.args.table.now.mode j).offset)) end
-    ∙ most_here c.args.parts.now c.requires.rules c.args.table.now c.requires.table (weight_of c.args.measure c.args.parts.now)
+    ∙ most_here c.args.parts.now c.requires.rules c.args.table.now c.requires.table
+        (weight_of c.args.measure c.args.parts.now)

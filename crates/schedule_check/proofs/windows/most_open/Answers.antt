@@ -29,7 +29,8 @@ loop-number-preserved c =
       most = now ∙ largest_more (λ mode. most_in w config (mode_at config mode)) n c.loop-number.most c.most_in.result
           c.loop-number.invariant.most
           (c.most_in.ensures.exact
-          ∙ ap (λ (p : ConfigParts). most_in (weight_of c.args.measure p) p c.get.result.now.mode) c.parts-parts.ensures.same
+          ∙ ap (λ (p : ConfigParts). most_in (weight_of c.args.measure p) p c.get.result.now.mode)
+              c.parts-parts.ensures.same
           ∙ ap (λ (t : TableRows). most_in w config t.mode) table);
       small = omega arith;
     }

@@ -9,4 +9,5 @@ invariant_of-result c =
     is_compiled c.in_ok-instrs.instrs.items c.args.body.now is c.requires.nested c.requires.numbers (omega arith)
 
 pub returns : goal.returns
-returns c = is_read c.in_ok-instrs.instrs.items c.args.body.now (c.in_ok-instrs.ensures ∙ ap (body_code 0) c.as_slice.ensures)
+returns c = is_read c.in_ok-instrs.instrs.items c.args.body.now
+    (c.in_ok-instrs.ensures ∙ ap (body_code 0) c.as_slice.ensures)

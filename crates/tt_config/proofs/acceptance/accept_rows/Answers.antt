@@ -17,13 +17,19 @@ pub later_broken-requires-clause-nested : goal.later_broken-requires-clause-nest
 later_broken-requires-clause-nested c = well_nested c.args.rows.now (sym c.in_default.is ∙ c.in_ok-number.ensures)
 
 pub later_broken-requires-clause-few : goal.later_broken-requires-clause-few
-later_broken-requires-clause-few c = few_by_kind c.args.rows.now (sym c.in_default.is ∙ c.in_ok-number.ensures) Kind.Mode
+later_broken-requires-clause-few c =
+    few_by_kind c.args.rows.now (sym c.in_default.is ∙ c.in_ok-number.ensures) Kind.Mode
 
 pub returns-in-Some-2-clause-rule : goal.returns-in-Some-2-clause-rule
-returns-in-Some-2-clause-rule c = all_second c.args.rows.now c.in-Some-2.field-0 (sym c.in_default.is ∙ c.in_ok-number.ensures) (sym c.in-Some-2.is ∙ c.in_ok-number-2.ensures)
+returns-in-Some-2-clause-rule c =
+    all_second c.args.rows.now c.in-Some-2.field-0 (sym c.in_default.is ∙ c.in_ok-number.ensures)
+    (sym c.in-Some-2.is ∙ c.in_ok-number-2.ensures)
 
 pub build_accepted-requires-clause-kept : goal.build_accepted-requires-clause-kept
-build_accepted-requires-clause-kept c = all_none c.args.rows.now (sym c.in_default.is ∙ c.in_ok-number.ensures) (sym c.in_default-2.is ∙ c.in_ok-number-2.ensures)
+build_accepted-requires-clause-kept c =
+    all_none c.args.rows.now (sym c.in_default.is ∙ c.in_ok-number.ensures)
+    (sym c.in_default-2.is ∙ c.in_ok-number-2.ensures)
 
 pub returns-clause-kept : goal.returns-clause-kept
-returns-clause-kept c = all_none c.args.rows.now (sym c.in_default.is ∙ c.in_ok-number.ensures) (sym c.in_default-2.is ∙ c.in_ok-number-2.ensures)
+returns-clause-kept c = all_none c.args.rows.now (sym c.in_default.is ∙ c.in_ok-number.ensures)
+    (sym c.in_default-2.is ∙ c.in_ok-number-2.ensures)

@@ -7,4 +7,5 @@ use Rattle.tt_config.proofs.tables.modes_of.Goals as goal
 
 pub returns : goal.returns
 returns c =
-    c.in_ok-tables.ensures ∙ ap (map mode_of_entries) (c.in_ok-lists.ensures entry_place (search rules)) ∙ tables c.args.modes (parts c.args.entries.now)
+    c.in_ok-tables.ensures ∙ ap (map mode_of_entries) (c.in_ok-lists.ensures entry_place (search rules))
+        ∙ tables c.args.modes (parts c.args.entries.now)

@@ -6,7 +6,8 @@ use Rattle.tt_doc.proofs.lines.plain_len.Given as goal
 abbrev pub invariant-loop-n : goal.invariant-loop-n
 invariant-loop-n l = record {
   inside : l.n ≤ length l.text;
-  passed : position_or_len (λ b. not (is_plain_byte b)) l.text ≡ l.n + position_or_len (λ b. not (is_plain_byte b)) (drop l.n l.text);
+  passed : position_or_len (λ b. not (is_plain_byte b)) l.text
+      ≡ l.n + position_or_len (λ b. not (is_plain_byte b)) (drop l.n l.text);
 }
 
 abbrev pub decreases-loop-n : goal.decreases-loop-n

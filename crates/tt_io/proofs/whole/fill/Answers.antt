@@ -9,7 +9,8 @@ loop-taken-preserved g c =
     let n = c.in-Got.n in
     record {
       within = search rules;
-      bytes = taken_more _ _ _ c.loop-taken.buf c.read.new.buf c.loop-taken.taken n so_far.within (search rules) so_far.bytes c.in-Got.ensures.got;
+      bytes = taken_more _ _ _ c.loop-taken.buf c.read.new.buf c.loop-taken.taken n so_far.within
+          (search rules) so_far.bytes c.in-Got.ensures.got;
       count = c.in-Got.ensures.got_count ∙ ap (λ k. counted k n) so_far.count ∙ counted_more _ c.loop-taken.taken n;
       never_falls = search rules;
     }

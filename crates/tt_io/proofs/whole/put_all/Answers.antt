@@ -4,12 +4,15 @@ use Rattle.std.proofs.KnownBytes.{Appends-kept, Appends-nil, Appends-trans}
 use Rattle.tt_io.proofs.Passing.{part_after}
 use Rattle.tt_io.proofs.whole.put_all.Goals as goal
 
-moves_front : (all done rest : List ℕ) (n : ℕ) → all ≡ done ++ rest → all ≡ (done ++ take n rest) ++ take (length rest - n) (drop n rest)
+moves_front : (all done rest : List ℕ) (n : ℕ) → all ≡ done ++ rest
+    → all ≡ (done ++ take n rest) ++ take (length rest - n) (drop n rest)
 moves_front all done rest n split =
-    split ∙ ap (λ l. done ++ l) (sym (take-append-drop n rest)) ∙ sym (append_assoc done (take n rest) (drop n rest)) ∙ ap (λ l. (done ++ take n rest) ++ l) (sym (take_rest rest n))
+    split ∙ ap (λ l. done ++ l) (sym (take-append-drop n rest)) ∙ sym (append_assoc done (take n rest) (drop n rest))
+        ∙ ap (λ l. (done ++ take n rest) ++ l) (sym (take_rest rest n))
 
 some_is_left : (all done rest : List ℕ) → all ≡ done ++ rest → 0 < length rest → all ≡ [] → ⊥
-some_is_left all done rest split some none = absurd (omega (arith, length-append done rest, ap length split, ap length none))
+some_is_left all done rest split some none =
+    absurd (omega (arith, length-append done rest, ap length split, ap length none))
 
 pub loop-rest-preserved : goal.loop-rest-preserved
 loop-rest-preserved g c =

@@ -12,16 +12,21 @@ loop-kind-init c =
     let d = c.args.declared.now in (
       refl,
       ap (λ o. lesser_of o (least_line (flat_map (lines_past d) kinds)))
-          (c.missing_of-found.ensures (is_of_kind Kind.Mode) (search rules) ∙ ap (λ xs. least_line (breaking d.first Present (filter_at (is_of_kind Kind.Mode) xs))) c.as_slice-names.ensures)
-          ∙ sym (least_line-append (breaking d.first Present (filter_at (is_of_kind Kind.Mode) d.names)) (flat_map (lines_past d) kinds)),
+          (c.missing_of-found.ensures (is_of_kind Kind.Mode) (search rules)
+              ∙ ap (λ xs. least_line (breaking d.first Present (filter_at (is_of_kind Kind.Mode) xs)))
+              c.as_slice-names.ensures)
+          ∙ sym (least_line-append (breaking d.first Present (filter_at (is_of_kind Kind.Mode) d.names))
+              (flat_map (lines_past d) kinds)),
     )
 
 pub loop-kind-preserved : goal.loop-kind-preserved
 loop-kind-preserved c = (
   refl,
-  flat-step (lines_past c.args.declared.now) kinds c.loop-kind.kind-index _ c.loop-kind-test.true c.loop-kind.found c.lesser-found.result _
+  flat-step (lines_past c.args.declared.now) kinds c.loop-kind.kind-index _ c.loop-kind-test.true c.loop-kind.found
+      c.lesser-found.result _
       (c.lesser-found.ensures ∙ ap (lesser_of c.loop-kind.found) c.past_most.ensures) c.loop-kind.invariant.1,
 )
 
 pub returns : goal.returns
-returns c = flat-end (lines_past c.args.declared.now) kinds c.loop-kind.kind-index c.loop-kind-test.false c.loop-kind.found _ c.loop-kind.invariant.1
+returns c = flat-end (lines_past c.args.declared.now) kinds c.loop-kind.kind-index c.loop-kind-test.false
+    c.loop-kind.found _ c.loop-kind.invariant.1

@@ -8,4 +8,5 @@ use Rattle.tt_rules.proofs.names.rule_8.Given as goal
 abbrev pub invariant-loop-kind : goal.invariant-loop-kind
 invariant-loop-kind l =
     (l.kind-items ≡ kinds)
-    × (lesser_of l.found (least_line (flat_map (lines_past l.declared) (drop l.kind-index l.kind-items))) ≡ least_line (lines_8 l.declared))
+    × (lesser_of l.found (least_line (flat_map (lines_past l.declared) (drop l.kind-index l.kind-items)))
+    ≡ least_line (lines_8 l.declared))

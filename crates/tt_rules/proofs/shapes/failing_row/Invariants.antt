@@ -8,4 +8,5 @@ use Rattle.tt_rules.proofs.shapes.failing_row.Given as goal
 abbrev pub invariant-loop-row : goal.invariant-loop-row
 invariant-loop-row g l =
     (passes : Row → Bool) → Answers g.F.Fn l.test passes
-    → lesser_of l.least (least_line (failing passes (rows_at (drop l.row-index l.rows)))) ≡ least_line (failing passes (rows_at l.rows))
+    → lesser_of l.least (least_line (failing passes (rows_at (drop l.row-index l.rows))))
+    ≡ least_line (failing passes (rows_at l.rows))

@@ -6,4 +6,5 @@ use Rattle.tt_rules.proofs.shapes.past_of.Given as goal
 abbrev pub invariant-loop-at : goal.invariant-loop-at
 invariant-loop-at g l =
     (passes : g.row.T.Denot → Bool) → Answers g.F.Fn l.test passes
-    → lesser_of l.least (least_line (drop l.left (lines (filter_at passes (drop l.at-index l.parts))))) ≡ least_line (drop l.most (lines (filter_at passes l.parts)))
+    → lesser_of l.least (least_line (drop l.left (lines (filter_at passes (drop l.at-index l.parts)))))
+    ≡ least_line (drop l.most (lines (filter_at passes l.parts)))

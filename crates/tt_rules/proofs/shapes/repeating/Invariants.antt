@@ -9,5 +9,7 @@ use Rattle.tt_rules.proofs.shapes.repeating.Given as goal
 abbrev pub invariant-loop-at : goal.invariant-loop-at
 invariant-loop-at g l =
     (key : g.row.T.Denot → Option g.row.K.Denot) → Answers g.F.Fn l.key_of key → (above : List g.row.T.Denot)
-    × ((q : g.row.K.Denot) → contains g.K.PartialEq.eq l.seen q ≡ list_any (λ other. is_key g.K.PartialEq.eq q (key other)) above)
-    × (lesser_of l.least (least_line (repeating (same_by g.K.PartialEq.eq key) above (drop l.at-index l.parts))) ≡ least_line (repeating (same_by g.K.PartialEq.eq key) [] l.parts))
+    × ((q : g.row.K.Denot) → contains g.K.PartialEq.eq l.seen q
+    ≡ list_any (λ other. is_key g.K.PartialEq.eq q (key other)) above)
+    × (lesser_of l.least (least_line (repeating (same_by g.K.PartialEq.eq key) above (drop l.at-index l.parts)))
+    ≡ least_line (repeating (same_by g.K.PartialEq.eq key) [] l.parts))

@@ -8,4 +8,5 @@ use Rattle.tt_rules.proofs.structure.rule_3.Given as goal
 abbrev pub invariant-loop-row : goal.invariant-loop-row
 invariant-loop-row l =
     (stack : List Open) × (l.height ≡ length stack) × (l.height ≤ l.row-index)
-    × (lesser_of l.least (least_line (lines_3_from stack (drop l.row-index l.rows))) ≡ least_line (lines_3_from [] l.rows))
+    × (lesser_of l.least (least_line (lines_3_from stack (drop l.row-index l.rows)))
+    ≡ least_line (lines_3_from [] l.rows))

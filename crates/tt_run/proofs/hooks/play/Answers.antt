@@ -21,8 +21,10 @@ loop-stmt-preserved g c =
     let env = c.play_statement.ensures.env in
     record {
       vars = invariant.vars
-          ∙ vars_left (telling g.R.Recorder) c.args.at c.args.hook c.args.body.now i stmt within is c.loop-stmt.env c.play_statement.new.env env;
+          ∙ vars_left (telling g.R.Recorder) c.args.at c.args.hook c.args.body.now i stmt within is c.loop-stmt.env
+              c.play_statement.new.env env;
       others = others_stay c.args.env.now c.loop-stmt.env c.play_statement.new.env _ invariant.others env;
-      told = outs_left (telling g.R.Recorder) c.args.at c.args.hook c.args.body.now i stmt within is c.loop-stmt.env c.play_statement.new.env env
+      told = outs_left (telling g.R.Recorder) c.args.at c.args.hook c.args.body.now i stmt within is c.loop-stmt.env
+          c.play_statement.new.env env
           c.args.log.now c.loop-stmt.log c.play_statement.new.log _ invariant.told c.play_statement.ensures.told;
     }

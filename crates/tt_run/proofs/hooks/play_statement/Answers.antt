@@ -13,7 +13,8 @@ returns-in-Set-clause-env g c =
     let z : to_z w32 (of_z w32 c.value-assigned.result) ≡ c.value-assigned.result = search rules in
     let value = z ∙ c.value-assigned.ensures ∙ ap (λ (vars : List ℤ). value_of vars c.in-Set.expr) c.vars.ensures in
     c.set_var.ensures
-    ∙ ap (with_vars env) (ap (slice_set env.vars c.in-Set.var.0) value ∙ sym (set_by env.vars c.args.stmt.now c.in-Set.var c.in-Set.expr c.in-Set.is))
+    ∙ ap (with_vars env) (ap (slice_set env.vars c.in-Set.var.0) value
+    ∙ sym (set_by env.vars c.args.stmt.now c.in-Set.var c.in-Set.expr c.in-Set.is))
 
 pub returns-in-Out-clause-told : goal.returns-in-Out-clause-told
 returns-in-Out-clause-told g c =

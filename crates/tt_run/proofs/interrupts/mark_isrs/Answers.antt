@@ -14,13 +14,16 @@ loop-number-preserved c =
       | then-not-is_isr_done w ↦
           let next = w.busy-is ∙ w.mark.ensures in
           record {
-            isrs = subst (λ (b : BusySources). MarkedTo (c.loop-number.number + 1) c.args.stack.now.isrs b.isrs) (sym next)
-                (one_marked _ _ _ (let few = c.requires.few in omega arith) (done ∙ w.if-not-is_isr_done.true) c.loop-number.invariant.isrs);
+            isrs = subst (λ (b : BusySources). MarkedTo (c.loop-number.number + 1) c.args.stack.now.isrs b.isrs)
+                (sym next)
+                (one_marked _ _ _ (let few = c.requires.few in omega arith)
+                    (done ∙ w.if-not-is_isr_done.true) c.loop-number.invariant.isrs);
             oisrs = ap (λ (b : BusySources). b.oisrs) next ∙ c.loop-number.invariant.oisrs;
           }
       | else-not-is_isr_done w ↦
           record {
-            isrs = subst (λ (b : BusySources). MarkedTo (c.loop-number.number + 1) c.args.stack.now.isrs b.isrs) (sym w.busy-is)
+            isrs = subst (λ (b : BusySources). MarkedTo (c.loop-number.number + 1) c.args.stack.now.isrs b.isrs)
+                (sym w.busy-is)
                 (not_marked _ _ _ (done ∙ w.if-not-is_isr_done.false) c.loop-number.invariant.isrs);
             oisrs = ap (λ (b : BusySources). b.oisrs) w.busy-is ∙ c.loop-number.invariant.oisrs;
           }

@@ -16,7 +16,8 @@ loop-number-preserved c =
           let next = w.busy-is ∙ w.mark.ensures in
           record {
             oisrs = λ codes settled.
-                subst (λ (b : BusySources). MarkedTo (c.loop-number.number + 1) (lefts (subsystem_of codes c.args.osek.now).routines) b.oisrs) (sym next)
+                subst (λ (b : BusySources). MarkedTo (c.loop-number.number + 1)
+                    (lefts (subsystem_of codes c.args.osek.now).routines) b.oisrs) (sym next)
                 (one_marked _ _ _ (let few = c.requires.few in omega arith)
                 (left_where _ _ settled.routines (sym (c.unfinished.ensures codes) ∙ w.if-unfinished.true))
                 (c.loop-number.invariant.oisrs codes settled));
@@ -25,12 +26,15 @@ loop-number-preserved c =
       | else-unfinished w ↦
           record {
             oisrs = λ codes settled.
-                subst (λ (b : BusySources). MarkedTo (c.loop-number.number + 1) (lefts (subsystem_of codes c.args.osek.now).routines) b.oisrs) (sym w.busy-is)
-                (not_marked _ _ _ (none_where _ _ settled.routines (sym (c.unfinished.ensures codes) ∙ w.if-unfinished.false))
+                subst (λ (b : BusySources). MarkedTo (c.loop-number.number + 1)
+                    (lefts (subsystem_of codes c.args.osek.now).routines) b.oisrs) (sym w.busy-is)
+                (not_marked _ _ _ (none_where _ _ settled.routines
+                    (sym (c.unfinished.ensures codes) ∙ w.if-unfinished.false))
                 (c.loop-number.invariant.oisrs codes settled));
             isrs = ap (λ (b : BusySources). b.isrs) w.busy-is ∙ c.loop-number.invariant.isrs;
           }
     ]
 
 pub returns-clause-oisrs : goal.returns-clause-oisrs
-returns-clause-oisrs c = λ codes settled number l. (c.loop-number.invariant.oisrs codes settled).marked number (omega arith)
+returns-clause-oisrs c = λ codes settled number l. (c.loop-number.invariant.oisrs codes settled).marked number
+    (omega arith)

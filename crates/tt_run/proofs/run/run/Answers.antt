@@ -13,10 +13,12 @@ use Rattle.tt_run.proofs.run.run.Goals as goal
 
 pub instants-init : goal.instants-init
 instants-init g c = record {
-  at = subst (λ (z : RunState). AtTick (Tells g.R.Recorder) c.args.config.now c.args.script.now c.args.log.now z.world c.args.log.now)
+  at = subst (λ (z : RunState). AtTick
+      (Tells g.R.Recorder) c.args.config.now c.args.script.now c.args.log.now z.world c.args.log.now)
       (sym c.requires.state) (at_first (telling g.R.Recorder) c.args.config.now c.args.script.now c.args.log.now);
   fixed = ap (λ (z : RunState). fixed_in z.beside) c.requires.state;
-  sources = subst (λ (z : RunState). HasSources c.args.config.now c.args.script.now z.world.tick z) (sym c.requires.state)
+  sources = subst (λ (z : RunState). HasSources c.args.config.now c.args.script.now z.world.tick z)
+      (sym c.requires.state)
       (first_sources (telling g.R.Recorder) c.args.config.now c.args.script.now c.requires.script);
   foresees = subst (λ (z : RunState). Foresees c.args.config.now z _) (sym c.requires.state)
       (foresees_first (telling g.R.Recorder) c.args.config.now c.args.script.now);
@@ -24,29 +26,39 @@ instants-init g c = record {
 
 pub pass-requires-clause-can : goal.pass-requires-clause-can
 pass-requires-clause-can g c =
-    can_pass (telling g.R.Recorder) c.args.config.now c.args.script.now c.instants.state c.args.log.now c.instants.log c.requires.config
+    can_pass (telling g.R.Recorder) c.args.config.now c.args.script.now c.instants.state c.args.log.now c.instants.log
+        c.requires.config
     c.requires.script c.instants.invariant.at c.instants.invariant.fixed c.instants.invariant.sources
 
 pub returns-in-Some : goal.returns-in-Some
 returns-in-Some g c =
     let bounded = are_bounded c.args.config.now c.args.script.now c.requires.config c.requires.script in
     record {
-      told = all_told (telling g.R.Recorder) c.args.config.now c.args.script.now c.args.log.now c.instants.state.world c.pass.new.self.world
-          c.instants.log c.pass.new.log _ c.instants.invariant.at c.pass.ensures.gives c.in-Some.end c.in-Some.is bounded;
+      told = all_told (telling g.R.Recorder) c.args.config.now c.args.script.now c.args.log.now c.instants.state.world
+          c.pass.new.self.world
+          c.instants.log c.pass.new.log _ c.instants.invariant.at c.pass.ensures.gives c.in-Some.end c.in-Some.is
+              bounded;
       status = ap (status_by c.in-Some.end) c.tick-tick.ensures
-          ∙ status_is (telling g.R.Recorder) c.args.config.now c.args.script.now c.args.log.now c.instants.state.world c.pass.new.self.world
-          c.instants.log c.pass.new.log _ c.instants.invariant.at c.pass.ensures.gives c.in-Some.end c.in-Some.is bounded;
+          ∙ status_is (telling g.R.Recorder) c.args.config.now c.args.script.now c.args.log.now c.instants.state.world
+              c.pass.new.self.world
+          c.instants.log c.pass.new.log _ c.instants.invariant.at c.pass.ensures.gives c.in-Some.end c.in-Some.is
+              bounded;
       tick = c.tick-tick.ensures
-          ∙ stamp_is (telling g.R.Recorder) c.args.config.now c.args.script.now c.args.log.now c.instants.state.world c.pass.new.self.world
-          c.instants.log c.pass.new.log _ c.instants.invariant.at c.pass.ensures.gives c.in-Some.end c.in-Some.is bounded;
+          ∙ stamp_is (telling g.R.Recorder) c.args.config.now c.args.script.now c.args.log.now c.instants.state.world
+              c.pass.new.self.world
+          c.instants.log c.pass.new.log _ c.instants.invariant.at c.pass.ensures.gives c.in-Some.end c.in-Some.is
+              bounded;
     }
 
 pub instants-preserved : goal.instants-preserved
 instants-preserved g c =
-    let next = tick_next (telling g.R.Recorder) c.args.config.now c.args.script.now c.args.log.now c.instants.state.world
-    c.pass.new.self.world c.instants.log c.pass.new.log _ c.instants.invariant.at c.pass.ensures.gives c.in_default.is in
+    let next = tick_next (telling g.R.Recorder) c.args.config.now c.args.script.now c.args.log.now
+        c.instants.state.world
+    c.pass.new.self.world c.instants.log c.pass.new.log _ c.instants.invariant.at c.pass.ensures.gives
+        c.in_default.is in
     record {
-      at = at_next (telling g.R.Recorder) c.args.config.now c.args.script.now c.args.log.now c.instants.state.world c.pass.new.self.world
+      at = at_next (telling g.R.Recorder) c.args.config.now c.args.script.now c.args.log.now c.instants.state.world
+          c.pass.new.self.world
           c.instants.log c.pass.new.log _ c.instants.invariant.at c.pass.ensures.gives c.in_default.is;
       fixed = c.pass.ensures.fixed ∙ c.instants.invariant.fixed;
       sources = subst (λ t. HasSources c.args.config.now c.args.script.now t c.pass.new.self) (sym next)
@@ -57,9 +69,11 @@ instants-preserved g c =
 pub instants-smaller : goal.instants-smaller
 instants-smaller g c =
     nearer (most_ticks c.args.config.now c.args.script.now) c.instants.state.world.tick c.pass.new.self.world.tick
-    (few_ticks c.args.config.now c.args.script.now (are_bounded _ _ c.requires.config c.requires.script) c.instants.state.world.tick
+    (few_ticks c.args.config.now c.args.script.now
+        (are_bounded _ _ c.requires.config c.requires.script) c.instants.state.world.tick
     c.instants.invariant.at.going)
-    (tick_next (telling g.R.Recorder) c.args.config.now c.args.script.now c.args.log.now c.instants.state.world c.pass.new.self.world
+    (tick_next (telling g.R.Recorder) c.args.config.now c.args.script.now c.args.log.now c.instants.state.world
+        c.pass.new.self.world
     c.instants.log c.pass.new.log _ c.instants.invariant.at c.pass.ensures.gives c.in_default.is)
 
 pub returns-then-failed : goal.returns-then-failed
@@ -69,9 +83,11 @@ returns-then-failed g c =
       front = events_before c.args.config.now c.args.script.now (c.instants.state.world.tick + 1);
       rest = schedule_rest c.args.config.now c.args.script.now (c.instants.state.world.tick + 1);
       split = schedule_split c.args.config.now c.args.script.now bounded (c.instants.state.world.tick + 1)
-          (going_next (telling g.R.Recorder) c.args.config.now c.args.script.now c.args.log.now c.instants.state.world c.pass.new.self.world
+          (going_next (telling g.R.Recorder) c.args.config.now c.args.script.now c.args.log.now c.instants.state.world
+              c.pass.new.self.world
           c.instants.log c.pass.new.log _ c.instants.invariant.at c.pass.ensures.gives c.in_default.is);
-      told = told_next (telling g.R.Recorder) c.args.config.now c.args.script.now c.args.log.now c.instants.state.world c.pass.new.self.world
+      told = told_next (telling g.R.Recorder) c.args.config.now c.args.script.now c.args.log.now
+          c.instants.state.world c.pass.new.self.world
           c.instants.log c.pass.new.log _ c.instants.invariant.at c.pass.ensures.gives;
       failed = sym c.failed.ensures.value ∙ c.if-failed.true;
     }

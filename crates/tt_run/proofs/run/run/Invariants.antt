@@ -6,8 +6,8 @@ use Rattle.tt_run.specs.Told.{Tells}
 use Rattle.tt_run.proofs.Running.{AtTick}
 use Rattle.tt_run.proofs.run.run.Given as goal
 
--- the world is that of the schedule at the present tick, the events before it were told, the arrivals to come are those from it on, and it
--- is known until when nothing is due
+-- the world is that of the schedule at the present tick, the events before it were told, the arrivals to come are
+-- those from it on, and it is known until when nothing is due
 abbrev pub invariant-instants : goal.invariant-instants
 invariant-instants g l = record {
   at : AtTick (Tells g.R.Recorder) l.config l.script l.fn.log l.state.world l.log;

@@ -12,9 +12,11 @@ pub returns-clause-due : goal.returns-clause-due
 returns-clause-due c =
     let table = c.args.self.now in
     let own = kept c.self.view_is c.self.invariant in
-    let there = c.item.ensures ∙ ap (λ (points : List ExpiryPoint). slice_get points c.args.place) (c.deref.ensures.value ∙ own.expiry_are) in
+    let there = c.item.ensures ∙ ap (λ (points : List ExpiryPoint). slice_get points c.args.place)
+        (c.deref.ensures.value ∙ own.expiry_are) in
     IfSome_then c.item.result
-    (if_found (λ (point : ExpiryPoint). point.due ≡ due_at point.offset table) (expiry_points table) c.args.place c.item.result there (points_due table))
+    (if_found (λ (point : ExpiryPoint). point.due ≡ due_at point.offset table)
+        (expiry_points table) c.args.place c.item.result there (points_due table))
     (λ point is. is_due table own.rows point.offset point.due is)
 
 pub returns-clause-next : goal.returns-clause-next
@@ -22,4 +24,5 @@ returns-clause-next c offset cursor =
     let table = c.args.self.now in
     let own = kept c.self.view_is c.self.invariant in
     cursor_next table (past table own.rows) c.args.place offset cursor c.item.result
-    (c.item.ensures ∙ ap (λ (points : List ExpiryPoint). slice_get points c.args.place) (c.deref.ensures.value ∙ own.expiry_are))
+    (c.item.ensures ∙ ap (λ (points : List ExpiryPoint). slice_get points c.args.place)
+        (c.deref.ensures.value ∙ own.expiry_are))

@@ -27,52 +27,65 @@ returns-in-chain c = ap keyword_of (sym (text_from_reads c.args.text.now (codes 
 
 pub returns-in-adjust : goal.returns-in-adjust
 unfolding keyword_of
-returns-in-adjust c = ap keyword_of (sym (text_from_reads c.args.text.now (codes "adjust") (omega arith) (search rules)))
+returns-in-adjust c = ap keyword_of
+    (sym (text_from_reads c.args.text.now (codes "adjust") (omega arith) (search rules)))
 
 pub returns-in-arrive : goal.returns-in-arrive
 unfolding keyword_of
-returns-in-arrive c = ap keyword_of (sym (text_from_reads c.args.text.now (codes "arrive") (omega arith) (search rules)))
+returns-in-arrive c = ap keyword_of
+    (sym (text_from_reads c.args.text.now (codes "arrive") (omega arith) (search rules)))
 
 pub returns-in-demand : goal.returns-in-demand
 unfolding keyword_of
-returns-in-demand c = ap keyword_of (sym (text_from_reads c.args.text.now (codes "demand") (omega arith) (search rules)))
+returns-in-demand c = ap keyword_of
+    (sym (text_from_reads c.args.text.now (codes "demand") (omega arith) (search rules)))
 
 pub returns-in-enable : goal.returns-in-enable
 unfolding keyword_of
-returns-in-enable c = ap keyword_of (sym (text_from_reads c.args.text.now (codes "enable") (omega arith) (search rules)))
+returns-in-enable c = ap keyword_of
+    (sym (text_from_reads c.args.text.now (codes "enable") (omega arith) (search rules)))
 
 pub returns-in-rounds : goal.returns-in-rounds
 unfolding keyword_of
-returns-in-rounds c = ap keyword_of (sym (text_from_reads c.args.text.now (codes "rounds") (omega arith) (search rules)))
+returns-in-rounds c = ap keyword_of
+    (sym (text_from_reads c.args.text.now (codes "rounds") (omega arith) (search rules)))
 
 pub returns-in-repeat : goal.returns-in-repeat
 unfolding keyword_of
-returns-in-repeat c = ap keyword_of (sym (text_from_reads c.args.text.now (codes "repeat") (omega arith) (search rules)))
+returns-in-repeat c = ap keyword_of
+    (sym (text_from_reads c.args.text.now (codes "repeat") (omega arith) (search rules)))
 
 pub returns-in-switch : goal.returns-in-switch
 unfolding keyword_of
-returns-in-switch c = ap keyword_of (sym (text_from_reads c.args.text.now (codes "switch") (omega arith) (search rules)))
+returns-in-switch c = ap keyword_of
+    (sym (text_from_reads c.args.text.now (codes "switch") (omega arith) (search rules)))
 
 pub returns-in-osektime : goal.returns-in-osektime
 unfolding keyword_of
-returns-in-osektime c = ap keyword_of (sym (text_from_reads c.args.text.now (codes "osektime") (omega arith) (search rules)))
+returns-in-osektime c = ap keyword_of
+    (sym (text_from_reads c.args.text.now (codes "osektime") (omega arith) (search rules)))
 
 pub returns-in-shutdown : goal.returns-in-shutdown
 unfolding keyword_of
-returns-in-shutdown c = ap keyword_of (sym (text_from_reads c.args.text.now (codes "shutdown") (omega arith) (search rules)))
+returns-in-shutdown c = ap keyword_of
+    (sym (text_from_reads c.args.text.now (codes "shutdown") (omega arith) (search rules)))
 
 pub returns-in-activate : goal.returns-in-activate
 unfolding keyword_of
-returns-in-activate c = ap keyword_of (sym (text_from_reads c.args.text.now (codes "activate") (omega arith) (search rules)))
+returns-in-activate c = ap keyword_of
+    (sym (text_from_reads c.args.text.now (codes "activate") (omega arith) (search rules)))
 
 pub returns-in-stringent : goal.returns-in-stringent
 unfolding keyword_of
-returns-in-stringent c = ap keyword_of (sym (text_from_reads c.args.text.now (codes "stringent") (omega arith) (search rules)))
+returns-in-stringent c = ap keyword_of
+    (sym (text_from_reads c.args.text.now (codes "stringent") (omega arith) (search rules)))
 
 pub returns-in-terminate : goal.returns-in-terminate
 unfolding keyword_of
-returns-in-terminate c = ap keyword_of (sym (text_from_reads c.args.text.now (codes "terminate") (omega arith) (search rules)))
+returns-in-terminate c = ap keyword_of
+    (sym (text_from_reads c.args.text.now (codes "terminate") (omega arith) (search rules)))
 
 pub returns-in-nonstringent : goal.returns-in-nonstringent
 unfolding keyword_of
-returns-in-nonstringent c = ap keyword_of (sym (text_from_reads c.args.text.now (codes "nonstringent") (omega arith) (search rules)))
+returns-in-nonstringent c =
+    ap keyword_of (sym (text_from_reads c.args.text.now (codes "nonstringent") (omega arith) (search rules)))
