@@ -212,7 +212,7 @@ module _ {L : Type 0} {Told : L → List Event → L → Type 0} (telling : IsTe
       unfinished k below held (inl same) =
           absurd
           (true_is_not_false (sym held ∙ ap (λ j. held_at next (source_at c j)) same ∙ ap (held_at next) first.is
-              ∙ free))
+          ∙ free))
       unfinished k below held (inr differ) =
           at.unfinished.flags k below (sym (held_other g x (source_at c k) (other k below differ)) ∙ held)
           ∙ ap (λ left. not (is_done left))

@@ -183,7 +183,7 @@ module _ {L : Type 0} {Told : L → List Event → L → Type 0} where
   -- the sources before the first with an arrival have none
   pub first_after : (c : ConfigParts) (s : ScriptParts) (a b : L) (u w : World) (g : Window) (x : Source)
       (at : Arriving Told c s a b u w g) (first : IsFirst (is_due w.tick g) (sources c) no_source x)
-          → at.place ≤ first.place
+      → at.place ≤ first.place
   first_after c s a b u w g x at first = by_order (cases_lt first.place at.place)
     where
       by_order : (first.place < at.place) ⊎ (at.place ≤ first.place) → at.place ≤ first.place
@@ -240,7 +240,7 @@ module _ {L : Type 0} {Told : L → List Event → L → Type 0} (telling : IsTe
         gives_more telling (arrival s) (sources c) first.place x a b d u w (with_window w next) first.within
         (get_or_default (sources c) first.place x no_source first.within ∙ first.is)
         (passed_to c s a b u w g first.place rules at after_place
-            (let within = first.within in omega arith) first.before)
+        (let within = first.within in omega arith) first.before)
         (gives_this b d (with_window w next) (arrival_event w.tick (arrived_at g x) ∷ []) (arrival s x w)
         (an_arrival s w g x some at.seen) told);
     seen = refl;

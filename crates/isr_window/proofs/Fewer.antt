@@ -30,7 +30,7 @@ fewer_ticks now lists i due =
     let all = sum_by-set length lists i (drop 1 (get_or lists i [])) [] l in
     let one = one_less (get_or lists i []) due in omega arith)
     (λ (g : length lists ≤ i). absurd (true≢false (sym due ∙ ap (is_next now) (get_or_past lists i [] g))))
-        (cases_lt i (length lists))
+    (cases_lt i (length lists))
   where
     one_less : (ticks : List ℕ) → is_next now ticks ≡ true → length (drop 1 ticks) < length ticks
     one_less [] e = cc

@@ -77,7 +77,7 @@ none_found test (y ∷ ys) d e k below = by_test (test y) refl e (none_found tes
 
 -- ---- different places have different sources
 
--- the place of a source where so many come before those of the OSEK subsystem
+-- the place of a source where n come before those of the OSEK subsystem
 abbrev pub place_of : ℕ → Source → ℕ
 place_of isrs (IsrSource isr) = isr.0
 place_of isrs (OisrSource oisr) = isrs + oisr.0

@@ -87,8 +87,7 @@ impl Queues {
     }
 
     /// Takes the next tick of a source.
-    #[tactic(auto, using(crate::proofs::Taken::length_untaken, crate::proofs::Taken::untaken_more,
-        crate::proofs::Taken::untaken_all))]
+    #[tactic(auto, using(crate::proofs::Taken::length_untaken, crate::proofs::Taken::untaken_more, crate::proofs::Taken::untaken_all))]
     pub(crate) fn take(&mut self, number: usize)
         requires { number < length self.old }
         ensures { self.new

@@ -12,7 +12,7 @@ use tt_io::{
 
 const TEXT: &[u8] = b"0 os start m\n0 round 1 m\n";
 
-/// Whether the text is taken, by chunks of so many bytes, where the read of this number fails.
+/// Whether the text is taken, by chunks of this size, where the read of this number fails.
 fn takes_text(alloc: Global, chunk: usize, failing: u64, limit: usize) -> Result<bool, TakeFault> {
     let Ok(bytes) = TEXT.to_vec(alloc) else {
         return Err(TakeFault::Memory);

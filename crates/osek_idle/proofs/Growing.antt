@@ -44,5 +44,5 @@ grows codes more osek sound = (
   ap (λ xs. record { tasks = xs; routines = states (codes ++ more) (frames osek.routines.items) })
       (all_same codes more (frames osek.tasks.items) sound.tasks)
       ∙ ap (λ xs. record { tasks = states codes (frames osek.tasks.items); routines = xs })
-          (all_same codes more (frames osek.routines.items) sound.routines),
+      (all_same codes more (frames osek.routines.items) sound.routines),
 )

@@ -65,9 +65,9 @@ pub numbers_same : (codes : List (List Stmt)) (fs : List (Option Frame))
     → ready_numbers (states codes fs) ≡ ready_numbers fs
 numbers_same codes fs =
     filter_agree (λ (n : ℕ). is_ready (states codes fs) n) (λ (n : ℕ). is_ready fs n) (ready_same codes fs)
-        (range_with_len 0 (length (states codes fs)))
+    (range_with_len 0 (length (states codes fs)))
     ∙ ap (λ (n : ℕ). filter (λ (k : ℕ). is_ready fs k) (range_with_len 0 n))
-        (length-map fs (option_map (left_of codes)))
+    (length-map fs (option_map (left_of codes)))
 
 -- the one who is picked, from the frames
 pub picked_is : (codes : List (List Stmt)) (osek : Osek)
@@ -76,8 +76,8 @@ pub picked_is : (codes : List (List Stmt)) (osek : Osek)
     (highest (priorities osek.tasks.items) (ready_numbers (frames osek.tasks.items)))
 picked_is codes osek =
     ap (λ k. routine_first (highest (priorities osek.routines.items) k)
-        (highest (priorities osek.tasks.items) (ready_numbers (states codes (frames osek.tasks.items)))))
+    (highest (priorities osek.tasks.items) (ready_numbers (states codes (frames osek.tasks.items)))))
     (numbers_same codes (frames osek.routines.items))
     ∙ ap (λ k. routine_first (highest (priorities osek.routines.items) (ready_numbers (frames osek.routines.items)))
-        (highest (priorities osek.tasks.items) k))
+    (highest (priorities osek.tasks.items) k))
     (numbers_same codes (frames osek.tasks.items))

@@ -39,7 +39,7 @@ pub ready_at : (states : List (Option (List Stmt))) (n : ℕ) → AreSettled sta
     → is_ready states n ≡ not (is_done (slice_index_or (lefts states) n []))
 ready_at states n settled =
     one_done (slice_index_or states n None) (settled_at states n settled)
-        ∙ ap (λ l. not (is_done l)) (sym (left_at states n))
+    ∙ ap (λ l. not (is_done l)) (sym (left_at states n))
 
 numbers_are : (states : List (Option (List Stmt))) → AreSettled states
     → ready_numbers states ≡ unfinished (lefts states)
@@ -48,11 +48,11 @@ numbers_are states settled =
     (λ n. ready_at states n settled)
     (range_with_len 0 (length states))
     ∙ ap (λ (k : ℕ). filter (λ (n : ℕ). not (is_done (slice_index_or (lefts states) n []))) (range_with_len 0 k))
-        (sym (length-map states left_in))
+    (sym (length-map states left_in))
 
 runners : (routine task : Option ℕ) → runner_in (routine_first routine task)
     ≡ first_runner (option_map (λ (number : ℕ). Oisr (record { 0 = number })) routine ∷ option_map
-        (λ (number : ℕ). Osek (record { 0 = number })) task ∷ [])
+    (λ (number : ℕ). Osek (record { 0 = number })) task ∷ [])
 runners (Some routine) task = refl
 runners None (Some task) = refl
 runners None None = refl
@@ -60,7 +60,7 @@ runners None None = refl
 pub picks_are : PicksAreTheRunners
 picks_are c w setup s of =
     let routines : highest setup.routines (ready_numbers s.routines)
-        ≡ highest (oisr_priorities c) (unfinished w.oisrs) =
+    ≡ highest (oisr_priorities c) (unfinished w.oisrs) =
     ap (λ p. highest p (ready_numbers s.routines)) of.routine_priorities
     ∙ ap (highest (oisr_priorities c)) (numbers_are s.routines of.settled.routines ∙ ap unfinished (sym of.routines)) in
     let tasks : highest setup.tasks (ready_numbers s.tasks) ≡ highest (osek_priorities c) (unfinished w.oseks) =

@@ -27,12 +27,19 @@ AreSound codes fs = All (λ (f : Option Frame). IfSome f (IsSoundFrame codes)) f
 
 -- the subsystem that it stands for, with these codes
 abbrev pub subsystem_of : List (List Stmt) → Osek → Subsystem
-subsystem_of codes osek = record { tasks = states codes (frames osek.tasks.items); routines =
-    states codes (frames osek.routines.items) }
+subsystem_of codes osek = record {
+  tasks = states codes (frames osek.tasks.items);
+  routines =
+      states codes (frames osek.routines.items);
+}
 
 abbrev pub setup_of : Osek → Setup
-setup_of osek = record { first = osek.first; tasks = priorities osek.tasks.items; routines =
-    priorities osek.routines.items }
+setup_of osek = record {
+  first = osek.first;
+  tasks = priorities osek.tasks.items;
+  routines =
+      priorities osek.routines.items;
+}
 
 -- The codes of the tasks and then of the routines are there from the first one on, and the frames are of these codes.
 pub record IsSound (codes : List (List Stmt)) (osek : Osek) : Type 0 where

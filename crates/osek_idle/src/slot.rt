@@ -55,8 +55,7 @@ fn write_frame(slots: &mut [Slot], number: u16, frame: Option<Frame>)
 
 /// The number of the one of the highest priority among those that have a frame, the least of
 /// equals.
-#[tactic(auto, using(crate::proofs::Highest::none_yet, crate::proofs::Highest::all_seen,
-    crate::proofs::Highest::one_more, crate::proofs::Highest::none_more))]
+#[tactic(auto, using(crate::proofs::Highest::none_yet, crate::proofs::Highest::all_seen, crate::proofs::Highest::one_more, crate::proofs::Highest::none_more))]
 pub(crate) fn highest(slots: &[Slot]) -> Option<u16>
     requires { length slots.now ≤ 32 }
     ensures { result ≡ highest (priorities slots.now) (ready_numbers (frames slots.now)) }
@@ -113,7 +112,7 @@ pub(crate) fn advance_slot<L: Ledger>(
     ensures sound { AreSound codes.now (frames slots.new.items) }
     ensures others { states codes.now (frames slots.new.items)
         ≡ slice_set (states codes.now (frames slots.old.items)) number
-            (Some (slot_left codes.now slots.new.items number)) }
+        (Some (slot_left codes.now slots.new.items number)) }
     ensures ticks { state_of (slot_left codes.now slots.new.items number) env.new.vars
         env.new.cursors (option_to_list result.effect)
         ≡ ticks (supply_of env.old.demands env.old.values) k

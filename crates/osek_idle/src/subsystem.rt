@@ -61,7 +61,7 @@ impl Osek {
             (is_ready (subsystem_of codes.now self.old).tasks task.0) }
         ensures state { subsystem_of codes.now self.new
             ≡ activated (task_body codes.now (setup_of self.old) task.0) task.0
-                (subsystem_of codes.now self.old) }
+            (subsystem_of codes.now self.old) }
     {
         if self.is_ready(task) {
             return LIMIT;
@@ -81,7 +81,7 @@ impl Osek {
         ensures result { result ≡ chain_result caller.0 task.0 (subsystem_of codes.now self.old) }
         ensures state { subsystem_of codes.now self.new
             ≡ chained (task_body codes.now (setup_of self.old) task.0) caller.0 task.0
-                (subsystem_of codes.now self.old) }
+            (subsystem_of codes.now self.old) }
     {
         if caller.0 == task.0 {
             self.make_ready(codes, task);
@@ -116,7 +116,7 @@ impl Osek {
         ensures sound { IsSound codes.now self.new }
         ensures state { subsystem_of codes.now self.new
             ≡ begun (routine_body codes.now (setup_of self.old) oisr.0) oisr.0
-                (subsystem_of codes.now self.old) }
+            (subsystem_of codes.now self.old) }
     {
         let first = codes.number_after(self.first, self.tasks.len() as u16);
         let program = codes.number_after(first, oisr.0);
@@ -156,7 +156,7 @@ impl Osek {
     pub fn work_left(&self) -> u64
         ensures { (codes : List (List Stmt)) → IsSound codes self.now
             → result ≡ work_in_front (owner_left (subsystem_of codes self.now)
-                (picked (setup_of self.now) (subsystem_of codes self.now))) }
+            (picked (setup_of self.now) (subsystem_of codes self.now))) }
     {
         match self.picks() {
             Some(owner) => self.owner_work_left(owner),
@@ -187,14 +187,14 @@ impl Osek {
         ensures others { let who = picked (setup_of self.old) (subsystem_of codes.now self.old) in
             subsystem_of codes.now self.new
             ≡ owner_leaving who (owner_left (subsystem_of codes.now self.new) who)
-                (subsystem_of codes.now self.old) }
+            (subsystem_of codes.now self.old) }
 
         // The list, the variables, the cursors and the effect are those of k ticks of the list.
         ensures ticks { let who = picked (setup_of self.old) (subsystem_of codes.now self.old) in
             state_of (owner_left (subsystem_of codes.now self.new) who) env.new.vars env.new.cursors (option_to_list result.effect)
             ≡ ticks (supply_of env.old.demands env.old.values) k
             (state_of (owner_left (subsystem_of codes.now self.old) who) env.old.vars
-                env.old.cursors []) }
+            env.old.cursors []) }
         ensures demands { env.new.demands ≡ env.old.demands }
         ensures values { env.new.values ≡ env.old.values }
         ensures ended { let who = picked (setup_of self.old) (subsystem_of codes.now self.old) in
@@ -229,7 +229,7 @@ impl Osek {
     fn top_routine(&self) -> Option<u16>
         ensures { result
             ≡ highest (priorities self.now.routines.items)
-                (ready_numbers (frames self.now.routines.items)) }
+            (ready_numbers (frames self.now.routines.items)) }
     {
         highest(self.routines.as_slice())
     }
@@ -272,13 +272,13 @@ impl Osek {
         ensures sound { IsSound codes.now self.new }
         ensures others { subsystem_of codes.now self.new
             ≡ owner_leaving (Some owner)
-                (owner_left (subsystem_of codes.now self.new) (Some owner))
-                (subsystem_of codes.now self.old) }
+            (owner_left (subsystem_of codes.now self.new) (Some owner))
+            (subsystem_of codes.now self.old) }
         ensures ticks { state_of (owner_left (subsystem_of codes.now self.new) (Some owner))
             env.new.vars env.new.cursors (option_to_list result.effect)
             ≡ ticks (supply_of env.old.demands env.old.values) k
             (state_of (owner_left (subsystem_of codes.now self.old) (Some owner)) env.old.vars
-                env.old.cursors []) }
+            env.old.cursors []) }
         ensures demands { env.new.demands ≡ env.old.demands }
         ensures values { env.new.values ≡ env.old.values }
         ensures ended { IsTrue result.ended
@@ -321,7 +321,7 @@ impl Osek {
         ensures sound { IsSound codes.now self.new }
         ensures state { subsystem_of codes.now self.new
             ≡ readied (task_body codes.now (setup_of self.old) task.0) task.0
-                (subsystem_of codes.now self.old) }
+            (subsystem_of codes.now self.old) }
     {
         let program = codes.number_after(self.first, task.0);
         set_frame(&mut self.tasks, task.0, Some(Frame::start(codes, program)));
@@ -355,7 +355,7 @@ fn first_tasks(tasks: &[OsekDef], codes: &Codes, first: u16) -> Slots
     slots
 }
 
-/// A task before the first tick. Its code is the one so many after the first.
+/// A task before the first tick. Its code is the one at this place after the first.
 fn first_task(task: &OsekDef, codes: &Codes, first: u16, number: u16) -> Slot
     requires there { first + number < length codes.now }
     requires body { body_of codes.now (first + number) ≡ task.now.body }

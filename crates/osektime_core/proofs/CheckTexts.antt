@@ -37,13 +37,13 @@ line_put before mode offset task deadline words a b d e f g h i j p q r s t u v 
     let last = codes "deadline" ∷ deadline ∷ [] in
     let rest : joined (task ∷ (words ++ last)) ≡ task ++ (spaced words ++ spaced last) =
     joined-spaced task (words ++ last)
-        ∙ ap (λ y. task ++ y) (flat_map-append (λ (word : List ℕ). 32 ∷ word) words last) in
+    ∙ ap (λ y. task ++ y) (flat_map-append (λ (word : List ℕ). 32 ∷ word) words last) in
     let all : j ≡ ((((((((before ++ mode) ++ 32 ∷ []) ++ offset) ++ 32 ∷ []) ++ task) ++ spaced words)
     ++ codes " deadline ") ++ deadline) ++ 10 ∷ [] = cc in
     let flat : ((((((((before ++ mode) ++ 32 ∷ []) ++ offset) ++ 32 ∷ []) ++ task) ++ spaced words)
     ++ codes " deadline ") ++ deadline) ++ 10 ∷ []
     ≡ before ++ ((mode ++ 32 ∷ (offset ++ 32 ∷ (task ++ (spaced words ++ spaced last)))) ++ 10 ∷ []) =
-        simp append_assoc in
+    simp append_assoc in
     all ∙ flat ∙ ap (λ y. before ++ ((mode ++ 32 ∷ (offset ++ 32 ∷ y)) ++ 10 ∷ [])) (sym rest)
 
 -- the line of an activation of a table

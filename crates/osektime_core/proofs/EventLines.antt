@@ -1,4 +1,4 @@
--- The lines of events, up to one of them and behind it.
+-- The lines of events, up to one of them and after it.
 use Rattle.std.proofs.Common.{◌≡◌, ℕ, ◌+◌, ◌<◌, List, [], ◌∷◌, ◌++◌, Option, take, drop, length, get_or, refl, ap, sym, ◌∙◌, add-one, append-nil, take-append-drop}
 use Rattle.std.specs.List.{flat_map}
 use Rattle.std.proofs.lemmas.Grind.{flat_map-append}

@@ -38,7 +38,7 @@ texts_skipped text from (suc more) empty =
     ∙ append-nil (texts_below text (from + more))
     ∙ texts_skipped text from more (λ between le l. empty between le (omega arith))
 
--- the text of a number, where those behind it are empty up to another number
+-- the text of a number, where those after it are empty up to another number
 texts_up_to : (text : ℕ → List ℕ) (n other : ℕ) → n < other
     → ((between : ℕ) → n < between → between < other → text between ≡ [])
     → texts_below text other ≡ texts_below text n ++ text n

@@ -36,7 +36,7 @@ pub fn serve<I: Source, O: Sink, L: Ledger>(
         → ¬ Rose (O.faults output.old) (O.faults output.new)
         → result ≢ Status.Memory
         → IsAnswered words.now (I.left input.old) result (O.written output.old)
-            (O.written output.new) }
+        (O.written output.new) }
 
     // Where one rose, an answer to a document is still that one, whole, and nothing of the
     // document is left.
@@ -60,8 +60,8 @@ pub fn serve<I: Source, O: Sink, L: Ledger>(
     ensures write_fault { result ≡ Status.WriteFault
         → Rose (O.faults output.old) (O.faults output.new)
         × IfSome (I.left input.old)
-            (λ bytes. AppendsPart (O.written output.old) (O.written output.new)
-            (answer_of words.now bytes).text) }
+        (λ bytes. AppendsPart (O.written output.old) (O.written output.new)
+        (answer_of words.now bytes).text) }
 
     // The deadlines of a document that meets the rules, whose check says yes and whose script
     // keeps its declared bounds are met.

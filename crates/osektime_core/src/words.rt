@@ -48,7 +48,7 @@ impl Words {
         }
     }
 
-    /// Appends a word. On want of memory the list is unchanged.
+    /// Appends a word. On `Memory` the list is unchanged.
     pub fn push(&mut self, word: &[u8]) -> Result<(), Memory>
         ensures ok { OnOk result (self.new ≡ self.old ++ word.now ∷ []) }
         ensures err { OnErr result (self.new ≡ self.old) }

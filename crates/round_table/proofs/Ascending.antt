@@ -25,7 +25,7 @@ module _ {X : Type 0} (key : X → ℕ) (xs : List X) (up : IsNonDecreasingBy ke
   below_rows zero = filter_none (λ x. nat_lt (key x) 0) xs (λ k d l. le-ltb _ 0 (omega arith))
   below_rows (suc offset) =
       sym (filter_agree (λ x. nat_lt (key x) offset || (key x == offset)) (λ x. nat_lt (key x) (suc offset))
-          (λ x. more (key x)) xs)
+      (λ x. more (key x)) xs)
       ∙ filter_split (λ x. nat_lt (key x) offset) (λ x. key x == offset) xs
       (λ i j d le l at before.
       let rise = up i j d le l in let same = eqb-true _ offset at in let less = ltb-true _ offset before in omega arith)
@@ -47,7 +47,7 @@ module _ {X : Type 0} (key : X → ℕ) (xs : List X) (up : IsNonDecreasingBy ke
     pub laid_out : (limit : ℕ) → All (λ x. key x < limit) xs → map f xs ≡ below at limit
     laid_out limit h =
         ap (map f) (sym (filter_all (λ x. nat_lt (key x) limit) xs (λ k d l. lt-ltb _ limit (h k d l)))
-            ∙ below_rows limit)
+        ∙ below_rows limit)
         ∙ map_below limit
 
     -- the rows before an offset are as many as the offsets below it have
@@ -68,7 +68,7 @@ module _ {X : Type 0} (key : X → ℕ) (xs : List X) (up : IsNonDecreasingBy ke
     front = λ k d l. lt-ltb _ later (let less = ltb-true _ offset (cut.front k d l) in omega arith);
     back = λ k d m l.
         let here = subst (λ (o : Option X). IfSome (option_map key o) (λ n. later ≤ n))
-            (slice_get-get_or xs place d (omega arith)) next in
+        (slice_get-get_or xs place d (omega arith)) next in
         let rise = up place k d m l in
         le-ltb _ later (omega arith);
   }
@@ -88,7 +88,7 @@ module _ {X : Type 0} (key : X → ℕ) (xs : List X) (up : IsNonDecreasingBy ke
         let before : place < to =
         ⊎_elim (λ (l : place < to). l)
         (λ (g : to ≤ place). let past = ltb-false _ (suc next) (more.back place found.0 g found.1) in
-            absurd (omega arith)) (cases_lt place to) in
+        absurd (omega arith)) (cases_lt place to) in
         (omega arith, before)
 
     past : (length xs ≤ place) × (slice_get xs place ≡ None) → (offset ≤ next) × (place < to)
@@ -152,7 +152,7 @@ first_at key xs d offset from to cut more = ⊎_elim here none (cases_lt from to
       (position_none (λ x. key x == offset) xs d
       (λ k e l.
       ⊎_elim (λ (before : k < from). ne_eqb _ offset
-          (λ same. let less = ltb-true _ offset (cut.front k e before) in omega arith))
+      (λ same. let less = ltb-true _ offset (cut.front k e before) in omega arith))
       (λ (after : from ≤ k). ne_eqb _ offset
-          (λ same. let ge = ltb-false _ (suc offset) (more.back k e (omega arith) l) in omega arith))
+      (λ same. let ge = ltb-false _ (suc offset) (more.back k e (omega arith) l) in omega arith))
       (cases_lt k from)))

@@ -59,7 +59,7 @@ module _ (mode : ModeDef) (n : ℕ) (within : n < length mode.activations) (p : 
 module _ (mode : ModeDef) (offset : ℕ) where
   among : (entries : List ℕ)
       → entries_in (filter (λ (check : Check). check.offset == offset)
-          (flat_map (λ entry. check_if entry (point_of mode (row_of mode entry))) entries))
+      (flat_map (λ entry. check_if entry (point_of mode (row_of mode entry))) entries))
       ≡ filter (λ entry. is_at offset (point_of mode (row_of mode entry))) entries
   among [] = refl
   among (entry ∷ entries) = at (point_of mode (row_of mode entry)) (among entries) where

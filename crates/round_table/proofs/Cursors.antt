@@ -61,14 +61,16 @@ module _ (table : TableRows) where
       cond_both (is_free n table.mode) [] (point_at n ∷ [])
       (λ ps. All (Before (suc n)) (expiry_below table n ++ ps) × AllPairs Earlier (expiry_below table n ++ ps))
       (λ _. subst (λ ps. All (Before (suc n)) ps × AllPairs Earlier ps) (sym (append-nil (expiry_below table n)))
-          (all, before.1))
-      (λ _. (All-push (Before (suc n)) (expiry_below table n) (point_at n) all (omega arith),
-          all_pairs_push Earlier (expiry_below table n) (point_at n) before.1 before.0))
+      (all, before.1))
+      (λ _. (
+        All-push (Before (suc n)) (expiry_below table n) (point_at n) all (omega arith),
+        all_pairs_push Earlier (expiry_below table n) (point_at n) before.1 before.0,
+      ))
 
   pub points_rise : IsNonDecreasingBy (λ (p : ExpiryPoint). p.offset) (expiry_points table)
   points_rise =
       rises (λ (p : ExpiryPoint). p.offset) (λ p later. p.offset < later.offset) (λ p later less. omega arith)
-          (expiry_points table) (points_ascend (suc table.limit)).1
+      (expiry_points table) (points_ascend (suc table.limit)).1
 
   pub points_within : All (λ (p : ExpiryPoint). p.offset < suc table.limit) (expiry_points table)
   points_within = (points_ascend (suc table.limit)).0
@@ -79,7 +81,7 @@ module _ (table : TableRows) where
       let IsOwn : ExpiryPoint → Type 0 = λ p. p.due ≡ due_at p.offset table in
       all_below (expiry_at table) IsOwn
       (λ n. cond_both (is_free n table.mode) [] (point_at n ∷ []) (All IsOwn) (λ _. All-nil IsOwn)
-          (λ _. All-cons IsOwn (point_at n) [] refl (All-nil IsOwn)))
+      (λ _. All-cons IsOwn (point_at n) [] refl (All-nil IsOwn)))
       (suc table.limit)
 
   module _ (offset : ℕ) where
@@ -98,7 +100,7 @@ module _ (table : TableRows) where
     some_before (suc n) le =
         ⊎_elim
         (λ (l : n < offset). let same : suc n ≡ offset = omega arith in all_before (suc n) (omega arith)
-            ∙ ap (expiry_below table) same)
+        ∙ ap (expiry_below table) same)
         (λ (g : offset ≤ n).
         let none = cond_both (is_free n table.mode) [] (point_at n ∷ []) (λ ps. filter before ps ≡ []) (λ _. refl)
         (λ _. cond-false (nat_lt n offset) _ _ (le-ltb n offset g)) in
@@ -122,10 +124,10 @@ module _ (table : TableRows) where
     past_end offset le =
         let all : expiry_below table offset ≡ expiry_points table =
         below_still (expiry_at table) end offset le
-            (λ j ej jo. none_at j (free_test j table.mode (past j (omega arith)))) in
+        (λ j ej jo. none_at j (free_test j table.mode (past j (omega arith)))) in
         subst (IsNextPoint table (length (expiry_below table offset)) offset)
         (sym (slice_get_past (expiry_points table) (length (expiry_below table offset))
-            (let long = ap length all in omega arith)))
+        (let long = ap length all in omega arith)))
         (record {
           ahead = tt;
           due = tt;
@@ -133,7 +135,7 @@ module _ (table : TableRows) where
           free = λ between l b. past between (omega arith);
           still = λ later l b.
               sym (ap length (below_still (expiry_at table) offset later l
-                  (λ j oj jl. none_at j (free_test j table.mode (past j (omega arith))))));
+              (λ j oj jl. none_at j (free_test j table.mode (past j (omega arith))))));
         })
 
     here : (offset : ℕ) → offset < end → is_free offset table.mode ≡ false → Next offset
@@ -164,12 +166,12 @@ module _ (table : TableRows) where
       free = λ between l b.
           ⊎_elim (λ (lt : offset < between). next.free between (omega arith) b)
           (λ (ge : between ≤ offset). let same : offset ≡ between = omega arith in
-              subst (λ o. IsFree o table.mode) same free)
+          subst (λ o. IsFree o table.mode) same free)
           (cases_lt offset between);
       still = λ later l b.
           ⊎_elim (λ (lt : offset < later). next.still later (omega arith) b)
           (λ (ge : later ≤ offset). let same : offset ≡ later = omega arith in cursor
-              ∙ ap (λ o. length (expiry_below table o)) same)
+          ∙ ap (λ o. length (expiry_below table o)) same)
           (cases_lt offset later);
     }
 
@@ -180,10 +182,10 @@ module _ (table : TableRows) where
         let still : expiry_below table (suc offset) ≡ expiry_below table offset =
         below_still (expiry_at table) offset (suc offset) (omega arith)
         (λ j oj jo. let same : offset ≡ j = omega arith in
-            none_at j (free_test j table.mode (subst (λ o. IsFree o table.mode) same free))) in
+        none_at j (free_test j table.mode (subst (λ o. IsFree o table.mode) same free))) in
         later_too offset _ _ free refl
         (subst (λ (place : ℕ). IsNextPoint table place (suc offset) (slice_get (expiry_points table) place))
-            (ap length still) next)
+        (ap length still) next)
 
     next_from : (offset more : ℕ) → offset + more ≡ end → Next offset
     next_from offset zero is = past_end offset (omega arith)
@@ -201,7 +203,7 @@ module _ (table : TableRows) where
         (λ (g : end ≤ offset).
         all_before offset end g
         ∙ sym (below_still (expiry_at table) end offset g
-            (λ j ej jo. none_at j (free_test j table.mode (past j (omega arith))))))
+        (λ j ej jo. none_at j (free_test j table.mode (past j (omega arith))))))
         (cases_lt offset end))
 
     pub cursor_next : (place offset : ℕ) → IsCursor table place offset → (found : Option ExpiryPoint)
@@ -210,7 +212,7 @@ module _ (table : TableRows) where
     unfolding Next
     cursor_next place offset cursor found is =
         let next = ⊎_elim (λ (l : offset < end). next_from offset (end - offset) (omega arith))
-            (λ (g : end ≤ offset). past_end offset g) (cases_lt offset end) in
+        (λ (g : end ≤ offset). past_end offset g) (cases_lt offset end) in
         subst (IsNextPoint table place offset) (sym is)
         (subst (λ (p : ℕ). IsNextPoint table p offset (slice_get (expiry_points table) p)) (sym cursor) next)
 

@@ -12,7 +12,7 @@ module _ {X : Type 0} (test : X → Bool) where
   filter_all [] h = refl
   filter_all (x ∷ xs) h =
       cond-true (test x) _ _ (h 0 x (omega arith))
-          ∙ ap (λ ys. x ∷ ys) (filter_all xs (All-tail (λ y. test y ≡ true) x xs h))
+      ∙ ap (λ ys. x ∷ ys) (filter_all xs (All-tail (λ y. test y ≡ true) x xs h))
 
   pub filter_none : (xs : List X) → All (λ x. test x ≡ false) xs → filter test xs ≡ []
   filter_none [] h = refl
@@ -26,10 +26,10 @@ module _ {X : Type 0} (test : X → Bool) where
       ⊎_elim
       (λ (e : test x ≡ true).
       let some : x ∷ filter test xs ≡ [] = sym (cond-true (test x) (x ∷ filter test xs) (filter test xs) e) ∙ none in
-          absurd cc)
+      absurd cc)
       (λ (e : test x ≡ false).
       All-cons (λ y. test y ≡ false) x xs e
-          (filter_empty xs (sym (cond-false (test x) (x ∷ filter test xs) (filter test xs) e) ∙ none)))
+      (filter_empty xs (sym (cond-false (test x) (x ∷ filter test xs) (filter test xs) e) ∙ none)))
       (cases_Bool (test x))
 
   pub cut_from : (xs : List X) (place : ℕ) → place ≤ length xs
@@ -41,10 +41,14 @@ module _ {X : Type 0} (test : X → Bool) where
   pub cut_length : (xs : List X) (place : ℕ) → IsCut test xs place → place ≡ length (filter test xs)
   cut_length [] place h = let w = h.within in omega arith
   cut_length (x ∷ xs) zero h =
-      cut_length xs zero (record { within = omega arith; front = λ k d l. absurd (omega arith); back =
-          λ k d m l. h.back (suc k) d (omega arith) (omega arith) })
+      cut_length xs zero (record {
+        within = omega arith;
+        front = λ k d l. absurd (omega arith);
+        back =
+            λ k d m l. h.back (suc k) d (omega arith) (omega arith);
+      })
       ∙ sym (ap length (cond-false (test x) (x ∷ filter test xs) (filter test xs)
-          (h.back 0 x (omega arith) (omega arith))))
+      (h.back 0 x (omega arith) (omega arith))))
   cut_length (x ∷ xs) (suc place) h =
       ap suc
       (cut_length xs place
@@ -64,18 +68,18 @@ module _ {X : Type 0} (p q : X → Bool) where
   filter_split [] apart = refl
   filter_split (x ∷ xs) apart =
       at (p x) (q x) refl refl (filter_split xs (λ i j d le l. apart (suc i) (suc j) d (omega arith) (omega arith)))
-          where
-        at : (a b : Bool) → p x ≡ a → q x ≡ b → filter (λ y. p y || q y) xs ≡ filter p xs ++ filter q xs
-            → cond (a || b) (x ∷ filter (λ y. p y || q y) xs) (filter (λ y. p y || q y) xs)
-            ≡ cond a (x ∷ filter p xs) (filter p xs) ++ cond b (x ∷ filter q xs) (filter q xs)
-        at true true first second rest = absurd (apart 0 0 x (omega arith) (omega arith) second first)
-        at true false first second rest = ap (λ ys. x ∷ ys) rest
-        at false true first second rest =
-            let none : filter p xs ≡ [] =
-            filter_none p xs (λ k d l. false_from_ne_true (p (get_or xs k d))
-                (λ passes. apart 0 (suc k) d (omega arith) (omega arith) second passes)) in
-            ap (λ ys. x ∷ ys) (rest ∙ ap (λ ys. ys ++ filter q xs) none) ∙ sym (ap (λ ys. ys ++ x ∷ filter q xs) none)
-        at false false first second rest = rest
+    where
+      at : (a b : Bool) → p x ≡ a → q x ≡ b → filter (λ y. p y || q y) xs ≡ filter p xs ++ filter q xs
+          → cond (a || b) (x ∷ filter (λ y. p y || q y) xs) (filter (λ y. p y || q y) xs)
+          ≡ cond a (x ∷ filter p xs) (filter p xs) ++ cond b (x ∷ filter q xs) (filter q xs)
+      at true true first second rest = absurd (apart 0 0 x (omega arith) (omega arith) second first)
+      at true false first second rest = ap (λ ys. x ∷ ys) rest
+      at false true first second rest =
+          let none : filter p xs ≡ [] =
+          filter_none p xs (λ k d l. false_from_ne_true (p (get_or xs k d))
+          (λ passes. apart 0 (suc k) d (omega arith) (omega arith) second passes)) in
+          ap (λ ys. x ∷ ys) (rest ∙ ap (λ ys. ys ++ filter q xs) none) ∙ sym (ap (λ ys. ys ++ x ∷ filter q xs) none)
+      at false false first second rest = rest
 
 -- two tests that agree at the elements of a list keep the same of them
 pub filter_alike : {X : Type 0} (p q : X → Bool) (xs : List X) → All (λ x. p x ≡ q x) xs → filter p xs ≡ filter q xs

@@ -40,7 +40,7 @@ module _ {X : Type 0} (at : ℕ → List X) where
       ⊎_elim
       (λ (l : n < k). let same : suc n ≡ k = omega arith in ([], ap (below at) same ∙ sym (append-nil (below at k))))
       (λ (l : k ≤ n). let b = below_begins k n l in
-          (b.0 ++ at n, ap (λ xs. xs ++ at n) b.1 ∙ append_assoc (below at k) b.0 (at n)))
+      (b.0 ++ at n, ap (λ xs. xs ++ at n) b.1 ∙ append_assoc (below at k) b.0 (at n)))
       (cases_lt n k)
 
   pub below_rises : (k n : ℕ) → k ≤ n → length (below at k) ≤ length (below at n)
@@ -77,7 +77,7 @@ module _ {X : Type 0} (at : ℕ → List X) where
       (λ (l : n < k). let same : suc n ≡ k = omega arith in ap (below at) same)
       (λ (l : k ≤ n).
       ap (λ xs. below at n ++ xs) (none n l (omega arith)) ∙ append-nil (below at n)
-          ∙ below_still k n l (λ j kj jn. none j kj (omega arith)))
+      ∙ below_still k n l (λ j kj jn. none j kj (omega arith)))
       (cases_lt n k)
 
   pub below_nothing : (n : ℕ) → at n ≡ [] → length (below at (suc n)) ≡ length (below at n)

@@ -17,7 +17,7 @@ module _ (from : ℕ) where
   least_past [] h = refl
   least_past (x ∷ xs) h =
       cond-false (nat_le from x) _ _ (lt-leb from x (All-head (λ y. y < from) x xs h))
-          ∙ least_past xs (All-tail (λ y. y < from) x xs h)
+      ∙ least_past xs (All-tail (λ y. y < from) x xs h)
 
   module _ (m : ℕ) where
     -- none of the offsets at or after it is less
@@ -41,7 +41,7 @@ module _ (from : ℕ) where
     least_there [] k l is le h = absurd (omega arith)
     least_there (x ∷ xs) zero l is le h =
         cond-true (nat_le from x) (Some (lesser_or x (least_from from xs))) (least_from from xs)
-            (le-leb from x (omega arith))
+        (le-leb from x (omega arith))
         ∙ ap (λ n. Some (lesser_or n (least_from from xs))) is
         ∙ ap Some (bound_kept xs (All-tail (λ y. from ≤ y → m ≤ y) x xs h))
     least_there (x ∷ xs) (suc k) l is le h =
@@ -71,13 +71,13 @@ least_at from xs ys place moved up cut = ⊎_elim here past (slice_get_cases ys 
       λ k d l le.
       ⊎_elim (λ (before : k < place). absurd (let less = ltb-true _ from (cut.front k d before) in omega arith))
       (λ (after : place ≤ k). let rise = up place k m after l in let one = get_or_default ys k d m l in omega arith)
-          (cases_lt k place) in
+      (cases_lt k place) in
       let there = Contains-permutation ys xs m back (place, found.1, same) in
       found.2 ∙ sym (least_there from m xs there.0 there.1 there.2 (omega arith)
-          (All-permutation (λ x. from ≤ x → m ≤ x) ys xs back bound))
+      (All-permutation (λ x. from ≤ x → m ≤ x) ys xs back bound))
 
   past : (length ys ≤ place) × (slice_get ys place ≡ None) → slice_get ys place ≡ least_from from xs
   past none =
       none.1
       ∙ sym (least_past from xs (All-permutation (λ x. x < from) ys xs back
-          (λ k d l. let g = none.0 in ltb-true _ from (cut.front k d (omega arith)))))
+      (λ k d l. let g = none.0 in ltb-true _ from (cut.front k d (omega arith)))))

@@ -28,13 +28,13 @@ module _ {X : Type 0} (P : X → Type 0) where
   all_parts [] ys h = (All-nil P, h)
   all_parts (x ∷ xs) ys h =
       let rest = all_parts xs ys (All-tail P x (xs ++ ys) h) in
-          (All-cons P x xs (All-head P x (xs ++ ys) h) rest.0, rest.1)
+      (All-cons P x xs (All-head P x (xs ++ ys) h) rest.0, rest.1)
 
   flat_all : {Y : Type 0} (f : Y → List X) (ys : List Y) → All (λ y. All P (f y)) ys → All P (flat_map f ys)
   flat_all f [] h = All-nil P
   flat_all f (y ∷ ys) h =
       All-append P (f y) (flat_map f ys) (All-head (λ z. All P (f z)) y ys h)
-          (flat_all f ys (All-tail (λ z. All P (f z)) y ys h))
+      (flat_all f ys (All-tail (λ z. All P (f z)) y ys h))
 
   all_flat : {Y : Type 0} (f : Y → List X) (ys : List Y) (i : ℕ) (d : Y) → i < length ys → All P (flat_map f ys)
       → All P (f (get_or ys i d))
@@ -57,7 +57,7 @@ module _ (P : ℕ → Type 0) where
   least_all from (x ∷ xs) h =
       let rest = least_all from xs (All-tail P x xs h) in
       cond_both (nat_le from x) _ _ (λ (o : Option ℕ). IfSome o P)
-          (λ _. lesser x (least_from from xs) (All-head P x xs h) rest) (λ _. rest)
+      (λ _. lesser x (least_from from xs) (All-head P x xs h) rest) (λ _. rest)
 
 -- where there is none, all come before
 pub least_none : (from : ℕ) (xs : List ℕ) → least_from from xs ≡ None → All (λ x. x < from) xs
@@ -70,7 +70,7 @@ least_none from (x ∷ xs) e =
     (λ (h : nat_le from x ≡ false).
     All-cons (λ y. y < from) x xs (leb-false from x h)
     (least_none from xs (sym (cond-false (nat_le from x) (Some (lesser_or x (least_from from xs)))
-        (least_from from xs) h) ∙ e)))
+    (least_from from xs) h) ∙ e)))
     (cases_Bool (nat_le from x))
 
 -- ---- entries
@@ -80,7 +80,7 @@ pub all_entries : (mode : ModeDef) (P : ℕ → Type 0) → ((entry : ℕ) → e
 all_entries mode P h k d l =
     let within : k < length mode.activations = omega (arith, length-range_with_len 0 (length mode.activations)) in
     let same : k ≡ get_or (entries_of mode) k d =
-        omega (arith, get_or-range_with_len 0 (length mode.activations) k d within) in
+    omega (arith, get_or-range_with_len 0 (length mode.activations) k d within) in
     subst P same (h k within)
 
 -- ---- points
@@ -120,13 +120,13 @@ module _ (limit : ℕ) (mode : ModeDef) (within : IsWithin limit mode) where
   offsets =
       All-append (λ o. o ≤ limit) (map (λ (row : Activation). row.offset) mode.activations) _
       (All-map (λ o. o ≤ limit) (λ (row : Activation). row.offset) mode.activations
-          (λ k d l. let less = activations k d l in omega arith))
+      (λ k d l. let less = activations k d l in omega arith))
       (All-append (λ o. o ≤ limit) (map (λ (row : Enable). row.offset) mode.enables)
-          (stringent_deadlines mode.activations)
+      (stringent_deadlines mode.activations)
       (All-map (λ o. o ≤ limit) (λ (row : Enable). row.offset) mode.enables
-          (λ k d l. let less = enables_within k d l in omega arith))
+      (λ k d l. let less = enables_within k d l in omega arith))
       (flat_all (λ o. o ≤ limit) (λ (row : Activation). deadline_if row.stringent row) mode.activations
-          (λ k d l. one (get_or mode.activations k d) (deadlines k d l)))) where
+      (λ k d l. one (get_or mode.activations k d) (deadlines k d l)))) where
         one : (row : Activation) → row.deadline ≤ limit → All (λ o. o ≤ limit) (deadline_if row.stringent row)
         one row le = by row.stringent where
           by : (stringent : Bool) → All (λ o. o ≤ limit) (deadline_if stringent row)
@@ -144,7 +144,7 @@ module _ (limit : ℕ) (mode : ModeDef) (within : IsWithin limit mode) where
     checks =
         filter_none (λ entry. is_at offset (point_of mode (row_of mode entry))) (entries_of mode)
         (all_entries mode (λ entry. is_at offset (point_of mode (row_of mode entry)) ≡ false)
-            (λ entry in'. other (point_of mode (row_of mode entry)) (point_within entry in')));
+        (λ entry in'. other (point_of mode (row_of mode entry)) (point_within entry in')));
     enables =
         filter_none (λ (row : Enable). row.offset == offset) mode.enables
         (λ k d in'. ne_eqb _ offset (λ same. let less = enables_within k d in' in omega arith));
@@ -172,26 +172,27 @@ module _ (limit : ℕ) (mode : ModeDef) (within : IsWithin limit mode) where
       → is_round_end (point_of mode (row_of mode other)) ≡ true → ⊥
   one_end entry other l m here end =
       not_at (point_of mode row) (point_all (λ x. x < limit) mode before row own) here where
-    row : Activation
-    row = row_of mode entry
+        row : Activation
+        row = row_of mode entry
 
-    before : All (λ x. x < limit) (offsets_in mode)
-    before =
-        let last = deadlines other no_row m in
-        All-weaker (λ x. x < (row_of mode other).deadline) (λ x. x < limit) (λ x less. omega arith) (offsets_in mode)
-        (ended (row_of mode other).stringent (row_of mode other).deadline end)
+        before : All (λ x. x < limit) (offsets_in mode)
+        before =
+            let last = deadlines other no_row m in
+            All-weaker (λ x. x < (row_of mode other).deadline) (λ x. x < limit) (λ x less. omega arith)
+            (offsets_in mode)
+            (ended (row_of mode other).stringent (row_of mode other).deadline end)
 
-    own : row.stringent ≡ true → row.deadline < limit
-    own is =
-        let enables_on = (all_parts (λ x. x < limit)
+        own : row.stringent ≡ true → row.deadline < limit
+        own is =
+            let enables_on = (all_parts (λ x. x < limit)
             (map (λ (r : Activation). r.offset) mode.activations) _ before).1 in
-        let stringent = (all_parts (λ x. x < limit) (map (λ (r : Enable). r.offset) mode.enables)
+            let stringent = (all_parts (λ x. x < limit) (map (λ (r : Enable). r.offset) mode.enables)
             (stringent_deadlines mode.activations) enables_on).1 in
-        All-head (λ x. x < limit) row.deadline []
-        (subst (λ b. All (λ x. x < limit) (deadline_if b row)) is
-        (all_flat (λ x. x < limit) (λ (r : Activation). deadline_if r.stringent r) mode.activations entry no_row l
+            All-head (λ x. x < limit) row.deadline []
+            (subst (λ b. All (λ x. x < limit) (deadline_if b row)) is
+            (all_flat (λ x. x < limit) (λ (r : Activation). deadline_if r.stringent r) mode.activations entry no_row l
             stringent))
 
-    not_at : (p : Point) → IfOffset (λ x. x < limit) p → is_at limit p ≡ true → ⊥
-    not_at (point.At place) less e = let same = eqb-true place limit e in omega arith
-    not_at point.RoundEnd less e = cc
+        not_at : (p : Point) → IfOffset (λ x. x < limit) p → is_at limit p ≡ true → ⊥
+        not_at (point.At place) less e = let same = eqb-true place limit e in omega arith
+        not_at point.RoundEnd less e = cc

@@ -59,8 +59,12 @@ due_same p q r s t = rw (p, q, r, s, t) refl
 pub places_first : (rows : ModeRows) → ArePlaces rows 0 (record { activations = 0; enables = 0; checks = 0 })
 places_first rows = record { activations = first _ _; enables = first _ _; checks = first _ _ } where
   first : {X : Type 0} (key : X → ℕ) (xs : List X) → IsCut (λ x. nat_lt (key x) 0) xs 0
-  first key xs = record { within = omega arith; front = λ k d l. absurd (omega arith); back =
-      λ k d m l. le-ltb _ 0 (omega arith) }
+  first key xs = record {
+    within = omega arith;
+    front = λ k d l. absurd (omega arith);
+    back =
+        λ k d m l. le-ltb _ 0 (omega arith);
+  }
 
 module _ (rows : ModeRows) (order : AreInOrder rows) where
   abbrev checks_at : ℕ → List ℕ
@@ -104,15 +108,15 @@ module _ (rows : ModeRows) (order : AreInOrder rows) where
               ∙ ap entries_in
               (filter_none (λ (check : Check). check.offset == k) rows.checks
               (absent of_check rows.checks order.checks.ascending offset
-                  (suc k) places.checks cuts.checks more.checks k le (omega arith)));
+              (suc k) places.checks cuts.checks more.checks k le (omega arith)));
           enables =
               filter_none (λ (row : Enable). row.offset == k) rows.mode.enables
               (absent of_enable rows.mode.enables order.enables offset
-                  (suc k) places.enables cuts.enables more.enables k le (omega arith));
+              (suc k) places.enables cuts.enables more.enables k le (omega arith));
           activation =
               position_none (λ (row : Activation). row.offset == k) rows.mode.activations no_row
               (absent of_activation rows.mode.activations order.activations offset
-                  (suc k) places.activations cuts.activations more.activations k le (omega arith));
+              (suc k) places.activations cuts.activations more.activations k le (omega arith));
         }
 
     -- ---- the next offset, and the places after it
@@ -125,17 +129,17 @@ module _ (rows : ModeRows) (order : AreInOrder rows) where
           ⊎_elim
           (λ is.
           let m = moves of_activation rows.mode.activations order.activations offset places.activations next
-              after.activations cuts.activations is ends.activations in
+          after.activations cuts.activations is ends.activations in
           (m.0, inl m.1))
           (λ others.
           ⊎_elim
           (λ is.
           let m = moves of_enable rows.mode.enables order.enables offset places.enables next after.enables
-              cuts.enables is ends.enables in
+          cuts.enables is ends.enables in
           (m.0, inr (inl m.1)))
           (λ is.
           let m = moves of_check rows.checks order.checks.ascending offset places.checks next after.checks cuts.checks
-              is ends.checks in
+          is ends.checks in
           (m.0, inr (inr m.1)))
           (earlier_one _ _ next others))
           (earlier_one _ _ next next_is)
@@ -144,22 +148,22 @@ module _ (rows : ModeRows) (order : AreInOrder rows) where
       pub fewer : (length rows.mode.activations + length rows.mode.enables + length rows.checks) -
           (after.activations + after.enables + after.checks)
           < (length rows.mode.activations + length rows.mode.enables + length rows.checks) -
-              (places.activations + places.enables + places.checks)
+          (places.activations + places.enables + places.checks)
       fewer =
           let later = moved.0 in
           let a = cut_order of_activation rows.mode.activations no_row offset (suc next) _ _
-              (omega arith) cuts.activations ends.activations in
+          (omega arith) cuts.activations ends.activations in
           let e = cut_order of_enable rows.mode.enables (record { offset = 0; isr = record { 0 = 0 } }) offset
-              (suc next) _ _ (omega arith) cuts.enables ends.enables in
+          (suc next) _ _ (omega arith) cuts.enables ends.enables in
           let c = cut_order of_check rows.checks (record { offset = 0; entry = 0 }) offset (suc next) _ _
-              (omega arith) cuts.checks ends.checks in
+          (omega arith) cuts.checks ends.checks in
           let a_in = ends.activations.within in
           let e_in = ends.enables.within in
           let c_in = ends.checks.within in
           ⊎_elim (λ (l : places.activations < after.activations). omega arith)
           (λ (others : (places.enables < after.enables) ⊎ (places.checks < after.checks)).
           ⊎_elim (λ (l : places.enables < after.enables). omega arith)
-              (λ (l : places.checks < after.checks). omega arith) others)
+          (λ (l : places.checks < after.checks). omega arith) others)
           moved.1
 
       there : ArePlaces rows next places
@@ -170,7 +174,7 @@ module _ (rows : ModeRows) (order : AreInOrder rows) where
           due_same (checks_place next places.checks there.checks) (checks_place (suc next) after.checks ends.checks)
           (enables_place next places.enables there.enables) (enables_place (suc next) after.enables ends.enables)
           (first_at of_activation rows.mode.activations no_row next places.activations after.activations
-              there.activations ends.activations)
+          there.activations ends.activations)
 
       -- something stands there
       not_free : is_free next rows.mode ≡ false
@@ -181,7 +185,7 @@ module _ (rows : ModeRows) (order : AreInOrder rows) where
             (λ (l : places.activations < after.activations).
             let one = sym (cond-true _ (Some places.activations) None (lt-ltb _ _ l))
             ∙ first_at of_activation rows.mode.activations no_row next places.activations after.activations
-                there.activations ends.activations
+            there.activations ends.activations
             ∙ free.activation in
             absurd (let impossible : Some places.activations ≡ None = one in cc))
             (λ (others : (places.enables < after.enables) ⊎ (places.checks < after.checks)).
@@ -209,8 +213,8 @@ module _ (rows : ModeRows) (order : AreInOrder rows) where
           let table : TableRows = record { mode = rows.mode; limit = limit } in
           let between = below_still (expiry_at table) offset next moved.0
           (λ j oj jn. none_at table j
-              (free_test j rows.mode (free_before j oj
-              (subst (λ (o : Option ℕ). IfSome o (λ n. j < n)) (sym next_is) jn)))) in
+          (free_test j rows.mode (free_before j oj
+          (subst (λ (o : Option ℕ). IfSome o (λ n. j < n)) (sym next_is) jn)))) in
           ap (λ ps. ps ++ record { offset = next; due = due_between places after } ∷ []) (is ∙ sym between)
           ∙ ap (λ due. expiry_below table next ++ record { offset = next; due = due } ∷ []) (due_is limit)
           ∙ ap (λ ps. expiry_below table next ++ ps) (sym (cond-false (is_free next rows.mode) _ _ not_free))
@@ -226,8 +230,8 @@ module _ (rows : ModeRows) (order : AreInOrder rows) where
         sym
         (below_still (expiry_at table) offset (suc limit) (omega arith)
         (λ j oj jl. none_at table j
-            (free_test j rows.mode (free_before j oj (subst (λ (o : Option ℕ). IfSome o (λ n. j < n)) none tt))))))
+        (free_test j rows.mode (free_before j oj (subst (λ (o : Option ℕ). IfSome o (λ n. j < n)) none tt))))))
         (λ (g : suc limit ≤ offset).
         below_still (expiry_at table) (suc limit) offset g
-            (λ j lj jo. none_at table j (free_test j rows.mode (past j (omega arith)))))
+        (λ j lj jo. none_at table j (free_test j rows.mode (past j (omega arith)))))
         (cases_lt offset (suc limit))

@@ -63,7 +63,7 @@ module _ (table : TableRows) (within : IsWithin table.limit table.mode) where
   enables_laid : enables_of table ≡ below enabled_at end ++ []
   enables_laid =
       laid_out (λ (row : Enable). row.offset) table.mode.enables (enables_rise table.limit table.mode within)
-          (λ (row : Enable). row.isr) enabled_at (λ k. refl) end
+      (λ (row : Enable). row.isr) enabled_at (λ k. refl) end
       (λ k d l. let less = enables_within table.limit table.mode within k d l in omega arith)
       ∙ sym (append-nil (below enabled_at end))
 
@@ -75,7 +75,7 @@ module _ (table : TableRows) (within : IsWithin table.limit table.mode) where
         (suc offset);
     enables =
         ap (λ xs. slice_range xs (length (enables_below table.mode offset))
-            (length (enables_below table.mode (suc offset)))) enables_laid
+        (length (enables_below table.mode (suc offset)))) enables_laid
         ∙ below_part enabled_at end [] (λ k g. ap isrs_of (past k g).enables) offset;
     enables_within =
         let all = ap length enables_laid in
@@ -96,10 +96,10 @@ module _ (table : TableRows) (within : IsWithin table.limit table.mode) where
   entries_within =
       let of_mode = all_entries table.mode (λ entry. entry < length table.mode.activations) (λ entry l. l) in
       let due = λ (is_due : Point → Bool). All-filter
-          (λ entry. is_due (point_of table.mode (row_of table.mode entry)))
-          (λ entry. entry < length table.mode.activations) (entries_of table.mode) of_mode in
+      (λ entry. is_due (point_of table.mode (row_of table.mode entry)))
+      (λ entry. entry < length table.mode.activations) (entries_of table.mode) of_mode in
       All-append (λ entry. entry < length table.mode.activations) (checks_below table.mode end)
-          (entries_due is_round_end table.mode)
+      (entries_due is_round_end table.mode)
       (all_below checks_at (λ entry. entry < length table.mode.activations) (λ k. due (is_at k)) end) (due is_round_end)
 
   module _ (checks : List Check) (are : AreChecks table.mode checks) where
@@ -110,15 +110,15 @@ module _ (table : TableRows) (within : IsWithin table.limit table.mode) where
         (λ (g : end ≤ offset).
         let none : filter (λ (check : Check). check.offset == offset) checks ≡ [] =
         nil_from_length _ (sym (length-map (filter (λ (check : Check). check.offset == offset) checks)
-            (λ (check : Check). check.entry)) ∙ ap length (are.entries offset ∙ (past offset g).checks)) in
+        (λ (check : Check). check.entry)) ∙ ap length (are.entries offset ∙ (past offset g).checks)) in
         absurd (true≢false (sym (eq-eqb offset offset refl)
-            ∙ filter_empty (λ (check : Check). check.offset == offset) checks none k d l)))
+        ∙ filter_empty (λ (check : Check). check.offset == offset) checks none k d l)))
         (cases_lt offset end)
 
     entries_laid : entries_in checks ≡ checks_below table.mode end
     entries_laid =
         laid_out (λ (check : Check). check.offset) checks are.ascending
-            (λ (check : Check). check.entry) checks_at are.entries end offsets_within
+        (λ (check : Check). check.entry) checks_at are.entries end offsets_within
 
     pub checks_are : (entries ends : List ℕ) → entries ≡ entries_in checks ++ ends
         → ends ≡ entries_due is_round_end table.mode → entries ≡ checks_of table
@@ -136,11 +136,11 @@ module _ (table : TableRows) (within : IsWithin table.limit table.mode) where
       → entries_due p table.mode ≡ entries_due q table.mode
   same_due p q same =
       filter_alike (λ entry. p (point_of table.mode (row_of table.mode entry)))
-          (λ entry. q (point_of table.mode (row_of table.mode entry))) (entries_of table.mode)
+      (λ entry. q (point_of table.mode (row_of table.mode entry))) (entries_of table.mode)
       (all_entries table.mode (λ entry. p (point_of table.mode (row_of table.mode entry))
-          ≡ q (point_of table.mode (row_of table.mode entry)))
+      ≡ q (point_of table.mode (row_of table.mode entry)))
       (λ entry l. same (point_of table.mode (row_of table.mode entry))
-          (point_within table.limit table.mode within entry l)))
+      (point_within table.limit table.mode within entry l)))
 
   abbrev ends : List ℕ
   ends = entries_due is_round_end table.mode
@@ -175,15 +175,15 @@ module _ (table : TableRows) (within : IsWithin table.limit table.mode) where
       ⊎_elim
       (λ (later : table.limit < long).
       ap (λ (xs : List ℕ). slice_range (checks_of table) (length xs) (length (checks_of table)))
-          (below_past checks_at end ends (λ k g. (past k g).checks) long later)
+      (below_past checks_at end ends (λ k g. (past k g).checks) long later)
       ∙ slice_range-end (checks_below table.mode end) ends
       ∙ same_due is_round_end (is_at_end long) (past_limit long later))
       (λ (no_later : long ≤ table.limit).
       let same : table.limit ≡ long = omega arith in
       subst (λ n. slice_range (checks_of table) (length (checks_below table.mode n)) (length (checks_of table))
-          ≡ entries_due (is_at_end n) table.mode) same
+      ≡ entries_due (is_at_end n) table.mode) same
       (ap (λ xs. slice_range xs (length (checks_below table.mode table.limit)) (length xs))
-          (append_assoc (checks_below table.mode table.limit) (checks_at table.limit) ends)
+      (append_assoc (checks_below table.mode table.limit) (checks_at table.limit) ends)
       ∙ slice_range-end (checks_below table.mode table.limit) (checks_at table.limit ++ ends)
       ∙ both))
       (cases_lt table.limit long)
@@ -197,7 +197,7 @@ module _ (table : TableRows) (within : IsWithin table.limit table.mode) where
       let here = free offset (omega arith) lt in
       let checks = ap length (below_still checks_at offset later (omega arith) (λ k ok kl. (free k ok kl).checks)) in
       let enables = ap length (below_still enabled_at offset later (omega arith)
-          (λ k ok kl. ap isrs_of (free k ok kl).enables)) in
+      (λ k ok kl. ap isrs_of (free k ok kl).enables)) in
       due_same checks (checks ∙ sym (below_nothing checks_at offset here.checks))
       enables (enables ∙ sym (below_nothing enabled_at offset (ap isrs_of here.enables))) (sym here.activation)
 
@@ -221,7 +221,7 @@ module _ (table : TableRows) (within : IsWithin table.limit table.mode) where
         let long = length-map table.mode.enables (λ (row : Enable). row.isr) in
         let both = length-append (below enabled_at end) [] in
         let rest = ap length (below_past enabled_at end [] (λ k g. ap isrs_of (past k g).enables) later
-            (omega arith)) in
+        (omega arith)) in
         let c_is : checks ≡ length (checks_below table.mode later) = omega arith in
         let e_is : enables ≡ length (enables_below table.mode later) = omega arith in
         ap (λ n. none_due n enables) c_is ∙ ap (none_due (length (checks_below table.mode later))) e_is
@@ -251,8 +251,8 @@ module _ (table : TableRows) (within : IsWithin table.limit table.mode) where
   free_between offset between lt before =
       (next_point offset).free between lt
       (by (slice_get (expiry_points table) (length (expiry_below table (suc offset)))) before) where
-    by : (found : Option ExpiryPoint)
-        → IfSome (option_map (λ (p : ExpiryPoint). p.offset) found) (λ next. between < next)
-        → IfSome found (λ p. between < p.offset)
-    by None h = tt
-    by (Some p) h = h
+        by : (found : Option ExpiryPoint)
+            → IfSome (option_map (λ (p : ExpiryPoint). p.offset) found) (λ next. between < next)
+            → IfSome found (λ p. between < p.offset)
+        by None h = tt
+        by (Some p) h = h

@@ -25,7 +25,7 @@ module _ {X : Type 0} (key : X → ℕ) (R : X → X → Type 0) where
   rises weaker xs pairs i j d le l =
       ⊎_elim (λ (lt : i < j). weaker (get_or xs i d) (get_or xs j d) (pairs i j d lt l))
       (λ (ge : j ≤ i). let same : i ≡ j = omega arith in let keys = ap (λ n. key (get_or xs n d)) same in omega arith)
-          (cases_lt i j)
+      (cases_lt i j)
 
   pub increases : (d : X) (xs : List X) → ((x y : X) → R x y → key x < key y) → AllPairs R xs
       → IsStrictlyIncreasing (map key xs)
@@ -51,10 +51,10 @@ activation_pairs least (row ∷ rows) h =
     let rest = activation_pairs (row.offset + 1) rows parts.1 in (
       All-cons (λ (r : Activation). least ≤ r.offset) row rows here
           (All-weaker (λ (r : Activation). row.offset + 1 ≤ r.offset) (λ (r : Activation). least ≤ r.offset)
-              (λ r le. omega arith) rows rest.0),
+          (λ r le. omega arith) rows rest.0),
       AllPairs-cons IsEarlier row rows
           (All-weaker (λ (r : Activation). row.offset + 1 ≤ r.offset) (IsEarlier row)
-              (λ r le. omega arith) rows rest.0) rest.1,
+          (λ r le. omega arith) rows rest.0) rest.1,
     )
 
 -- ---- enables
@@ -67,7 +67,7 @@ enable_pairs [] h = λ i j d lt l. absurd (omega arith)
 enable_pairs (row ∷ rows) h =
     let parts = and_parts (list_all (comes_before row) rows) (enables_ascend rows) h in
     AllPairs-cons IsBefore row rows (λ k d l. list_all_get (comes_before row) rows k d parts.0 l)
-        (enable_pairs rows parts.1)
+    (enable_pairs rows parts.1)
 
 -- by offset, and then by number
 pub before_cases : (row later : Enable) → IsBefore row later
@@ -85,7 +85,7 @@ pub activations_rise : (limit : ℕ) (mode : ModeDef) → IsWithin limit mode
     → IsNonDecreasingBy (λ (row : Activation). row.offset) mode.activations
 activations_rise limit mode within =
     rises (λ (row : Activation). row.offset) IsEarlier (λ row later less. omega arith) mode.activations
-        (activation_pairs 0 mode.activations within.ascending).1
+    (activation_pairs 0 mode.activations within.ascending).1
 
 pub enables_rise : (limit : ℕ) (mode : ModeDef) → IsWithin limit mode
     → IsNonDecreasingBy (λ (row : Enable). row.offset) mode.enables
@@ -94,7 +94,7 @@ enables_rise limit mode within =
     (λ row later h.
     ⊎_elim (λ (less : row.offset < later.offset). omega arith)
     (λ (tied : (row.offset ≡ later.offset) × (row.isr.0 < later.isr.0)). let same = tied.0 in omega arith)
-        (before_cases row later h))
+    (before_cases row later h))
     mode.enables (enable_pairs mode.enables within.enables_ascending)
 
 -- ---- the modes of a configuration
@@ -111,7 +111,7 @@ module _ (c : ConfigParts) where
       → (row.offset < row.deadline) × (row.deadline ≤ c.round - c.adjust)
   deadline_parts row h =
       let later = (and_parts (nat_lt row.task.0 (length c.tasks))
-          (nat_lt row.offset row.deadline && nat_le row.deadline (c.round - c.adjust)) h).1 in
+      (nat_lt row.offset row.deadline && nat_le row.deadline (c.round - c.adjust)) h).1 in
       let both = and_parts (nat_lt row.offset row.deadline) (nat_le row.deadline (c.round - c.adjust)) later in
       (ltb-true row.offset row.deadline both.0, leb-true row.deadline (c.round - c.adjust) both.1)
 
@@ -134,13 +134,19 @@ module _ (c : ConfigParts) where
   pub config_within : (n : ℕ) → IsConfig c → IsWithin (c.round - c.adjust) (mode_at c n)
   config_within n rules =
       ⊎_elim (λ (l : n < length c.modes). mode_within (mode_at c n)
-          (All-get_or (IsMode c) c.modes n no_mode l rules.modes))
+      (All-get_or (IsMode c) c.modes n no_mode l rules.modes))
       (λ (g : length c.modes ≤ n). subst (IsWithin (c.round - c.adjust))
-          (sym (get_or_past c.modes n no_mode g)) no_rows)
+      (sym (get_or_past c.modes n no_mode g)) no_rows)
       (cases_lt n (length c.modes)) where
         no_rows : IsWithin (c.round - c.adjust) no_mode
-        no_rows = record { ascending = refl; enables_ascending = refl; below = refl; enables_below = refl; deadlines =
-            refl }
+        no_rows = record {
+          ascending = refl;
+          enables_ascending = refl;
+          below = refl;
+          enables_below = refl;
+          deadlines =
+              refl;
+        }
 
   pub found_within : (n : ℕ) (mode : ModeDef) → IsConfig c → n < length c.modes → mode ≡ get_or c.modes n mode
       → IsWithin (c.round - c.adjust) mode

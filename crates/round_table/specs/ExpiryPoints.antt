@@ -50,7 +50,7 @@ expiry_points table = expiry_below table (suc table.limit)
 abbrev pub next_after : ℕ → TableRows → Option ℕ
 next_after offset table =
     option_map (λ (p : ExpiryPoint). p.offset)
-        (slice_get (expiry_points table) (length (expiry_below table (suc offset))))
+    (slice_get (expiry_points table) (length (expiry_below table (suc offset))))
 
 -- ---- cursors
 

@@ -28,7 +28,7 @@ abbrev pub PointsComeAfterActivations : Type 0
 PointsComeAfterActivations =
     OfModes
     (λ c mode. (entry : ℕ) → entry < length mode.activations
-        → IsAfter c None (offset_at mode entry) (point_at mode entry))
+    → IsAfter c None (offset_at mode entry) (point_at mode entry))
 
 -- no mode has both a point at the offset L - A and one at the round's end
 abbrev pub PointsHaveOneEnd : Type 0
@@ -46,4 +46,4 @@ ChecksAreByOffset =
 abbrev pub EnablesAreByNumber : Type 0
 EnablesAreByNumber =
     OfModes (λ c mode. (offset : ℕ)
-        → IsStrictlyIncreasing (map (λ (row : Enable). row.isr.0) (enables_at offset mode.enables)))
+    → IsStrictlyIncreasing (map (λ (row : Enable). row.isr.0) (enables_at offset mode.enables)))

@@ -117,8 +117,7 @@ impl Checks {
     /// Appends the monitoring point of an entry number.
     fn put(&mut self, entry: usize, point: Point) -> Result<(), Memory>
         ensures points { OnOk result (self.new.points.items ≡ self.old.points.items ++ point ∷ []) }
-        ensures due { OnOk result (self.new.due.items ≡ self.old.due.items ++ check_if entry point)
-            }
+        ensures due { OnOk result (self.new.due.items ≡ self.old.due.items ++ check_if entry point) }
         ensures ends { OnOk result (self.new.ends.items
             ≡ self.old.ends.items ++ cond (is_round_end point) (entry ∷ []) []) }
     {

@@ -45,13 +45,17 @@ impl Model for Table {
 
     ghost Value = { TableRows };
 
-    ghost view = { λ t. record { mode =
-        record { activations = t.activations.items; enables = t.enables.items }; limit = t.limit }
-        };
+    ghost view = { λ t. record {
+      mode =
+          record { activations = t.activations.items; enables = t.enables.items };
+      limit = t.limit;
+    } };
 
     ghost invariant = { λ t. IsTable
-        (record { mode = record { activations = t.activations.items; enables = t.enables.items };
-        limit = t.limit }) t.points.items t.checks.items t.end t.expiry.items };
+        (record {
+          mode = record { activations = t.activations.items; enables = t.enables.items };
+          limit = t.limit;
+        }) t.points.items t.checks.items t.end t.expiry.items };
 }
 
 fn copied<T: Copy>(alloc: Global, items: &[T]) -> Result<Vec<T>, Memory>

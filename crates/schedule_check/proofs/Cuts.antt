@@ -41,7 +41,7 @@ within_split from to offset x order =
     ⊎_elim
     (λ (l : offset < from).
     let a = cond-false (is_within from to offset) x 0
-        (and_left (nat_le from offset) (nat_lt offset to) (lt-leb from offset l)) in
+    (and_left (nat_le from offset) (nat_lt offset to) (lt-leb from offset l)) in
     let b = cond-true (nat_lt offset from) x 0 (lt-ltb offset from l) in
     let c = cond-true (nat_lt offset to) x 0 (lt-ltb offset to (omega arith)) in
     omega arith)
@@ -68,7 +68,7 @@ module _ {X : Type 0} (key : X → ℕ) (b : X → ℕ) (d : X) (from to : ℕ) 
       → sum_by (λ x. cond (is_within from to (key x)) (b x) 0) xs + sum_by b (take first xs) ≡ sum_by b (take end xs)
   between_cuts xs first end below above =
       ap (λ s. sum_by (λ x. cond (is_within from to (key x)) (b x) 0) xs + s)
-          (cut_sum b (λ x. nat_lt (key x) from) xs first below)
+      (cut_sum b (λ x. nat_lt (key x) from) xs first below)
       ∙ sum_both (λ x. cond (is_within from to (key x)) (b x) 0) (λ x. cond (nat_lt (key x) from) (b x) 0) d xs
       ∙ sum_same_at (λ x. cond (is_within from to (key x)) (b x) 0 + cond (nat_lt (key x) from) (b x) 0)
       (λ x. cond (nat_lt (key x) to) (b x) 0) d xs

@@ -257,7 +257,7 @@ module _ (c : ConfigParts) (s : ScriptParts) (rules : IsConfig c) (bounds : Keep
         (cases_eq isr j.0))
         (λ _. still_leads B Anything es w p)
 
-    -- so many arrivals up to and with this tick
+    -- how many arrivals there are up to and with this tick
     arrivals_acc : (b : ℕ) → a ≤ b → (comes_at now ≡ true → a + 1 ≤ b)
         → Leads (Acc t a now) (Acc t b now) Anything (arrivals c s)
     unfolding arrivals B

@@ -47,7 +47,7 @@ module _ (c : ConfigParts) (s : ScriptParts) where
           (and_parts values arrivals kept).0 demand l)
           (λ (g : length s.values ≤ demand).
           ap (list_all (λ value. nat_le value (most_of (slice_get c.demands demand))))
-              (get_or_past s.values demand [] g))
+          (get_or_past s.values demand [] g))
           (cases_lt demand (length s.values));
       distances = below_passes (keeps_arrivals c s) (length c.isrs) (and_parts values arrivals kept).1;
     },

@@ -14,7 +14,7 @@ module _ (test : ℕ → Bool) where
       (λ (e : from ≡ k). cond-true (test from) _ _ (ap test e ∙ passes) ∙ ap Some e)
       (λ (ne : from ≡ k → ⊥).
       let later : from < k = ⊎_elim (λ (e : from ≡ k). absurd (ne e)) (λ (ne' : from ≡ k → ⊥). omega arith)
-          (cases_eq from k) in
+      (cases_eq from k) in
       cond-false (test from) _ _ (fails from (omega arith) later)
       ∙ least_is (from + 1) n k (omega arith) (omega arith) passes (λ j a b. fails j (omega arith) b))
       (cases_eq from k)
@@ -35,7 +35,7 @@ module _ (test : ℕ → Bool) where
       ⊎_elim
       (λ (t : test from ≡ true).
       let same : from ≡ k = (let some = sym (cond-true (test from) (Some from) (least test (from + 1) n) t) ∙ e in
-          cc) in
+      cc) in
       (omega arith, omega arith, ap test (sym same) ∙ t))
       (λ (f : test from ≡ false).
       let r = least_passes (from + 1) n k (sym (cond-false (test from) (Some from) (least test (from + 1) n) f) ∙ e) in

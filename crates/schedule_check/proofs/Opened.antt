@@ -45,7 +45,7 @@ below_more n x (point.At place) =
     omega arith)
     (λ (ne : place ≡ n → ⊥).
     let later : n < place = ⊎_elim (λ (h : n < place). h) (λ (h : place ≤ n). absurd (ne (omega arith)))
-        (cases_lt n place) in
+    (cases_lt n place) in
     let b = cond-false (place == n) x 0 (ne_eqb place n ne) in
     let s = cond-false (nat_lt place (suc n)) x 0 (le-ltb place (suc n) (omega arith)) in
     omega arith)
@@ -60,13 +60,13 @@ module _ (w : Activation → ℕ) (mode : ModeDef) where
   -- what the entries count whose monitoring point is an offset below this one
   closed : (n : ℕ) → sum_by (counted w mode) (checks_below mode n)
       ≡ sum_by (λ entry. cond (is_below n (point_of mode (row_of mode entry))) (counted w mode entry) 0)
-          (entries_of mode)
+      (entries_of mode)
   unfolding below
   closed zero = sym (sum_same_at
       (λ (entry : ℕ). cond (is_below 0 (point_of mode (row_of mode entry))) (counted w mode entry) 0)
-          (λ (entry : ℕ). 0) 0 (entries_of mode)
+      (λ (entry : ℕ). 0) 0 (entries_of mode)
       (λ i l. nothing_below (counted w mode (get_or (entries_of mode) i 0))
-          (point_of mode (row_of mode (get_or (entries_of mode) i 0))))
+      (point_of mode (row_of mode (get_or (entries_of mode) i 0))))
       ∙ none (entries_of mode))
     where
       none : (xs : List ℕ) → sum_by (λ (x : ℕ). 0) xs ≡ 0
@@ -82,7 +82,7 @@ module _ (w : Activation → ℕ) (mode : ModeDef) where
       (λ entry. cond (is_at n (Point-of entry)) (counted w mode entry) 0) 0 (entries_of mode)
       ∙ sum_same_at
       (λ (entry : ℕ). cond (is_below n (Point-of entry)) (counted w mode entry) 0 + cond (is_at n (Point-of entry))
-          (counted w mode entry) 0)
+      (counted w mode entry) 0)
       (λ (entry : ℕ). cond (is_below (suc n) (Point-of entry)) (counted w mode entry) 0) 0 (entries_of mode)
       (λ i l. below_more n (counted w mode (get_or (entries_of mode) i 0)) (Point-of (get_or (entries_of mode) i 0)))
 
@@ -102,7 +102,7 @@ module _ (w : Activation → ℕ) (mode : ModeDef) where
     -- what has opened by the offset of an activation
     begun_front : (j : ℕ) → j < length mode.activations → (k : ℕ) → k ≤ suc j
         → sum_by (λ (row : Activation). cond (nat_le row.offset (row_of mode j).offset) (w row) 0)
-            (take k mode.activations)
+        (take k mode.activations)
         ≡ sum_by w (take k mode.activations)
     begun_front j l zero h = refl
     begun_front j l (suc k) h =
@@ -157,7 +157,7 @@ module _ (w : Activation → ℕ) (mode : ModeDef) where
         → cond (is_below (suc o) p) x 0 + cond (nat_le at o && nat_lt o (window_end c p)) x 0 ≡ cond (nat_le at o) x 0
     split_row o x at point.RoundEnd inside from later h =
         zero-add (cond (nat_le at o && nat_lt o (c.round + c.adjust)) x 0)
-            ∙ cond_both (nat_le at o) x 0 (λ (v : ℕ). cond (nat_le at o && nat_lt o (c.round + c.adjust)) x 0 ≡ v)
+        ∙ cond_both (nat_le at o) x 0 (λ (v : ℕ). cond (nat_le at o && nat_lt o (c.round + c.adjust)) x 0 ≡ v)
         (λ e. cond-true (nat_le at o && nat_lt o (c.round + c.adjust)) x 0
         (and_from (nat_le at o) (nat_lt o (c.round + c.adjust)) e (lt-ltb o (c.round + c.adjust) inside)))
         (λ e. cond-false (nat_le at o && nat_lt o (c.round + c.adjust)) x 0 (and_left (nat_le at o) _ e))
@@ -190,7 +190,7 @@ module _ (w : Activation → ℕ) (mode : ModeDef) where
       pub open_split : (j : ℕ) → j < length mode.activations
           → sum_by w (take (suc j) mode.activations)
           ≡ sum_by (counted w mode) (checks_below mode (suc (row_of mode j).offset)) + open_at w c mode
-              (row_of mode j).offset
+          (row_of mode j).offset
       open_split j l =
           let o = (row_of mode j).offset in
           let f : Activation → ℕ = λ row. cond (is_below (suc o) (point_of mode row)) (w row) 0 in
@@ -218,7 +218,7 @@ module _ (w : Activation → ℕ) (mode : ModeDef) where
           (λ (ge : n ≤ k). let same : n ≡ k = omega arith in subst (λ i. o < (row_of mode i).offset) same past)
           (cases_lt k n)))
           (λ (some : (j : ℕ) × (j < n) × ((row_of mode j).offset ≤ o)
-              × ((k : ℕ) → j < k → k < n → o < (row_of mode k).offset)).
+          × ((k : ℕ) → j < k → k < n → o < (row_of mode k).offset)).
           let less = some.1 in
           inr (
             some.0,
@@ -239,7 +239,7 @@ module _ (w : Activation → ℕ) (mode : ModeDef) where
           ⊎_elim
           (λ (none : (k : ℕ) → k < length mode.activations → o < (row_of mode k).offset).
           let zero_le = sum_le_at (λ (row : Activation). cond (is_open c mode o row) (w row) 0)
-              (λ (row : Activation). 0)
+          (λ (row : Activation). 0)
           no_row mode.activations
           (λ i l. let shut = cond-false (is_open c mode o (row_of mode i)) (w (row_of mode i)) 0
           (and_left (nat_le (row_of mode i).offset o) _ (lt-leb _ _ (none i l))) in omega arith) in
@@ -254,7 +254,7 @@ module _ (w : Activation → ℕ) (mode : ModeDef) where
           (λ before. ⊎_elim (λ (lt : j < i). absurd (let later = some.3 i lt l in omega arith))
           (λ (ge : i ≤ j). ⊎_elim (λ (less : i < j). let rise = rows_ascend c mode i j rules less some.1 in omega arith)
           (λ (ge' : j ≤ i). let same : i ≡ j = omega arith in let e = ap (λ n. (row_of mode n).offset) same in
-              omega arith)
+          omega arith)
           (cases_lt i j)) (cases_lt j i))) in
           let here = each j some.1 in
           omega arith)
@@ -275,7 +275,7 @@ module _ (w : Activation → ℕ) (mode : ModeDef) where
               let covers = cond-true (is_open c mode first row) (w row) 0
               (and_from (nat_le row.offset first) (nat_lt first (window_end c (point_of mode row)))
               (le-leb row.offset first (early begins))
-                  (lt-ltb first (window_end c (point_of mode row)) (omega arith))) in
+              (lt-ltb first (window_end c (point_of mode row)) (omega arith))) in
               omega arith)
               (λ e. omega arith)
 
@@ -285,7 +285,7 @@ module _ (w : Activation → ℕ) (mode : ModeDef) where
       most_is =
           let at_rows = largest (λ j. open_at w c mode (row_of mode j).offset) (length mode.activations) in
           let below = largest_le (λ j. open_at w c mode (row_of mode j).offset) (length mode.activations)
-              (largest (open_at w c mode) (c.round + c.adjust))
+          (largest (open_at w c mode) (c.round + c.adjust))
           (λ j l. largest_at (open_at w c mode) (c.round + c.adjust) (row_of mode j).offset (inside j l)) in
           let above = largest_le (open_at w c mode) (c.round + c.adjust) at_rows
           (λ o l. open_le o at_rows

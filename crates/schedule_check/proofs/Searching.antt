@@ -29,7 +29,7 @@ module _ (c : ConfigParts) (mode : ModeDef) (row : Activation) where
   unfolding response
   found end d none later early is fits =
       sym (least_is (demand_fits c mode row) (row.offset + 1) (row.deadline - row.offset) end (omega arith)
-          (omega arith)
+      (omega arith)
       (le-leb (demand c mode row.offset end) (end - row.offset) (omega arith))
       (λ j a b. none j (omega arith) b))
 

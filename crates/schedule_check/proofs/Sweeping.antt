@@ -108,7 +108,7 @@ module _ (c : ConfigParts) (rules : IsConfig c) (table : TableRows) (of : IsTabl
       ∙ (let z : j + 1 ≡ suc j = omega arith in ap (λ n. sum_by w (take n table.mode.activations)) z)
       ∙ split j l
       ∙ ap (λ (n : ℕ). sum_by (counted w table.mode) (take n (checks_of table)) + open_at w c table.mode
-          (row_of table.mode j).offset)
+      (row_of table.mode j).offset)
       (sym there)
 
 -- ---- the checks up to a place
@@ -131,7 +131,7 @@ module _ (w : Activation → ℕ) (table : TableRows) where
       ≤ sum_by (counted w table.mode) (take to (checks_of table))
   checked_less place to l =
       let front : take place (take to (checks_of table)) ≡ take place (checks_of table) =
-          take-take place to (checks_of table) l in
+      take-take place to (checks_of table) l in
       let less = sum_by-take-le (counted w table.mode) (take to (checks_of table)) place in
       let same = ap (sum_by (counted w table.mode)) front in
       omega arith

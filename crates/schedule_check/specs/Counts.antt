@@ -35,7 +35,7 @@ pub record AreBegun (c : ConfigParts) (rows : List Activation) (begun : Begun) :
 abbrev pub enables_in_front : List Enable → (isr place : ℕ) → ℕ
 enables_in_front rows isr place = count_by (λ (row : Enable). row.isr.0 == isr) (take place rows)
 
--- so many enables of each routine stand from one place up to below another
+-- how many enables of each routine stand from one place up to below another
 pub record AreEnabled (rows : List Enable) (enabled : Enabled) : Type 0 where
   pub within : enabled.end ≤ length rows
   pub all : length enabled.counts ≡ 16

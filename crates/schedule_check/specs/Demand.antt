@@ -29,7 +29,7 @@ abbrev pub enables_in : ModeDef → (isr from to : ℕ) → ℕ
 enables_in mode isr from to = count_by
     (λ (row : Enable). (row.isr.0 == isr) && is_within from to row.offset) mode.enables
 
--- at so many enables and in that many ticks a routine begins at most so often, besides what is carried over
+-- how often a routine begins at most at n enables and in some ticks, besides what is carried over
 abbrev pub most_begins : Option ℕ → (enables ticks : ℕ) → ℕ
 most_begins None enables ticks = enables
 most_begins (Some distance) enables ticks = min enables ((ticks + (distance - 1)) / distance)

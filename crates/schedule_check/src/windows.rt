@@ -52,7 +52,7 @@ fn checked_between(
     ensures { sum_by (counted (weight_of measure parts.now) table.now.mode)
         (take from (checks_of table.now)) + result
         ≡ sum_by (counted (weight_of measure parts.now) table.now.mode)
-            (take to (checks_of table.now)) }
+        (take to (checks_of table.now)) }
 {
     let mut sum = 0;
     for place in from..to {

@@ -11,7 +11,7 @@ use Rattle.task_lang.specs.Limits.{IsNestedInLimit, IsCountInLimit, AreNumbersIn
 use Rattle.task_lang.specs.Worst.{most_of, worst_step, worst_of, worst_in}
 use Rattle.task_lang.proofs.Numbers.{and_left, and_right, from_nat_le, most_small}
 
--- the greatest worst case of a statement with so many blocks open in it, for each statement counted
+-- the greatest worst case of a statement with n blocks open in it, for each statement counted
 abbrev cap : ℕ → ℕ
 cap zero = 10000001
 cap (suc depth) = 65536 * cap depth
@@ -64,11 +64,11 @@ module _ (demands : List Demand) (mosts : AreMostsInRange demands) where
   body_below (p ∷ body) depth nested numbers =
       let rest = map (λ (p : Below). p.0) body in
       let here : worst_of demands p.0 ≤ count_of p.0 * cap depth =
-          p.1 depth (omega arith) (and_left (each_of is_number_in_range p.0) _ numbers) in
+      p.1 depth (omega arith) (and_left (each_of is_number_in_range p.0) _ numbers) in
       let there : worst_in demands rest ≤ count_in rest * cap depth =
-          body_below body depth (omega arith) (and_right (each_of is_number_in_range p.0) _ numbers) in
+      body_below body depth (omega arith) (and_right (each_of is_number_in_range p.0) _ numbers) in
       add_bound (worst_of demands p.0) (count_of p.0) (cap depth) (map (worst_of demands) rest)
-          (map count_of rest) here there
+      (map count_of rest) here there
 
   abbrev plain : Stmt-F Below → Stmt-F Stmt
   plain = map-Stmt Below Stmt (λ p. p.0)
@@ -79,11 +79,11 @@ module _ (demands : List Demand) (mosts : AreMostsInRange demands) where
   level : (y : Stmt-F Below) (depth : ℕ) → nesting_step (map-Stmt Stmt ℕ nesting_of (plain y)) ≤ depth
       → numbers_step (map-Stmt Stmt Bool (each_of is_number_in_range) (plain y)) ≡ true
       → worst_step demands (map-Stmt Stmt ℕ (worst_of demands) (plain y))
-          ≤ count_step (map-Stmt Stmt ℕ count_of (plain y)) * cap depth
+      ≤ count_step (map-Stmt Stmt ℕ count_of (plain y)) * cap depth
   level (Stmt-F.Work ticks) depth nested numbers =
       let few : ticks ≤ 10000000 =
-          from_nat_le ticks 10000000 (and_right (nat_le 1 ticks) _
-          (and_left (nat_le 1 ticks && nat_le ticks 10000000) _ numbers)) in
+      from_nat_le ticks 10000000 (and_right (nat_le 1 ticks) _
+      (and_left (nat_le 1 ticks && nat_le ticks 10000000) _ numbers)) in
       one_below ticks depth (omega arith)
   level (Stmt-F.Take demand) depth nested numbers =
       one_below (1 + most_of (slice_get demands demand.0)) depth (omega (arith, most_small demands demand.0 mosts))
@@ -107,16 +107,16 @@ module _ (demands : List Demand) (mosts : AreMostsInRange demands) where
   stmt_below = ind-Stmt IsBelow (λ x y is depth nested numbers.
       let nested' : nesting_step (map-Stmt Stmt ℕ nesting_of (plain y)) ≤ depth =
       subst (λ k. k ≤ depth) (fold-roll-Stmt ℕ nesting_step x
-          ∙ sym (ap (λ z. nesting_step (map-Stmt Stmt ℕ nesting_of z)) is)) nested in
+      ∙ sym (ap (λ z. nesting_step (map-Stmt Stmt ℕ nesting_of z)) is)) nested in
       let numbers' : numbers_step (map-Stmt Stmt Bool (each_of is_number_in_range) (plain y)) ≡ true =
       ap (λ z. numbers_step (map-Stmt Stmt Bool (each_of is_number_in_range) z)) is
-          ∙ sym (fold-roll-Stmt Bool numbers_step x) ∙ numbers in
+      ∙ sym (fold-roll-Stmt Bool numbers_step x) ∙ numbers in
       let worst = ap (λ z. worst_step demands (map-Stmt Stmt ℕ (worst_of demands) z)) is
-          ∙ sym (fold-roll-Stmt ℕ (worst_step demands) x) in
+      ∙ sym (fold-roll-Stmt ℕ (worst_step demands) x) in
       let count = ap (λ z. count_step (map-Stmt Stmt ℕ count_of z)) is ∙ sym (fold-roll-Stmt ℕ count_step x) in
       subst (λ k. k ≤ count_of (roll-Stmt x) * cap depth) worst
       (subst (λ k. worst_step demands (map-Stmt Stmt ℕ (worst_of demands) (plain y)) ≤ k * cap depth) count
-          (level y depth nested' numbers')))
+      (level y depth nested' numbers')))
 
   all_below : (body : List Stmt) (depth : ℕ) → nesting_in body ≤ depth → AreNumbersInRange body
       → worst_in demands body ≤ count_in body * cap depth
@@ -125,7 +125,7 @@ module _ (demands : List Demand) (mosts : AreMostsInRange demands) where
       let here = stmt_below stmt depth (omega arith) (and_left (each_of is_number_in_range stmt) _ numbers) in
       let there = all_below body depth (omega arith) (and_right (each_of is_number_in_range stmt) _ numbers) in
       add_bound (worst_of demands stmt) (count_of stmt) (cap depth) (map (worst_of demands) body)
-          (map count_of body) here there
+      (map count_of body) here there
 
   pub worst_fits : (body : List Stmt) → IsNestedInLimit body → IsCountInLimit body → AreNumbersInRange body
       → worst_in demands body < 2 ^ 128

@@ -46,5 +46,5 @@ pub repeat_body : (demands : List Demand) (turns : ℕ) (body : List Stmt) (top 
 repeat_body demands turns body top passed fits =
     let parts = repeat_tests turns body passed in
     let worst : worst_of demands (s.Repeat turns body) ≡ turns * (1 + worst_in demands body) =
-        fold-Repeat ℕ (worst_step demands) turns body in
+    fold-Repeat ℕ (worst_step demands) turns body in
     (parts.1, inner_less turns (worst_in demands body) top parts.0 (rw (← worst) fits))

@@ -38,7 +38,7 @@ read_small most usual (value ∷ values) (suc used) small kept =
 pub keeps_most : (supply : Supply) → AreUsualsInRange supply.demands → AreValuesKept supply → KeepsMost supply
 keeps_most supply usuals kept demand used =
     read_small (most_of (slice_get supply.demands demand)) (usual_of (slice_get supply.demands demand))
-        (values_of supply demand) used
+    (values_of supply demand) used
     (usual_small supply.demands demand usuals) (kept demand)
 
 -- ---- the worst case of a list
@@ -64,7 +64,7 @@ module _ (demands : List Demand) where
   worst-repeat_then zero body rest = omega arith
   worst-repeat_then (suc n) body rest =
       worst-cons (s.Repeat (suc n) body) rest
-          ∙ ap (λ k. k + worst_in demands rest) (fold-Repeat ℕ (worst_step demands) (suc n) body)
+      ∙ ap (λ k. k + worst_in demands rest) (fold-Repeat ℕ (worst_step demands) (suc n) body)
 
   worst-branch : (value : ℤ) (first second : List Stmt)
       → worst_in demands (branch value first second) ≤ max (worst_in demands first) (worst_in demands second)
@@ -84,7 +84,7 @@ IsFrontInRange front = is_number_in_range front ≡ true
 lowers_by : (supply : Supply) (state : State) (front : Stmt-F Stmt) (rest : List Stmt) → KeepsMost supply
     → IsFrontInRange front
     → worst_in supply.demands (tick_by supply state front rest).left + 1
-        ≤ worst_step supply.demands (map-Stmt Stmt ℕ (worst_of supply.demands) front) + worst_in supply.demands rest
+    ≤ worst_step supply.demands (map-Stmt Stmt ℕ (worst_of supply.demands) front) + worst_in supply.demands rest
 lowers_by supply state (Stmt-F.Work ticks) rest keeps range =
     let some : 1 ≤ ticks = from_nat_le 1 ticks (and_left (nat_le 1 ticks) _ range) in
     omega (arith, worst-work_then supply.demands (ticks - 1) rest)
@@ -95,16 +95,21 @@ lowers_by supply state (Stmt-F.Set var expr) rest keeps range = omega arith
 lowers_by supply state (Stmt-F.If expr first second) rest keeps range =
     let body = branch (value_of state.vars expr) first second in
     let lowers : worst_in supply.demands (body ++ rest) + 1
-        ≤ 1 + max (worst_in supply.demands first) (worst_in supply.demands second) + worst_in supply.demands rest =
-    omega (arith, worst-append supply.demands body rest,
-        worst-branch supply.demands (value_of state.vars expr) first second) in
+    ≤ 1 + max (worst_in supply.demands first) (worst_in supply.demands second) + worst_in supply.demands rest =
+    omega (
+      arith,
+      worst-append supply.demands body rest,
+      worst-branch supply.demands (value_of state.vars expr) first second,
+    ) in
     lowers
 lowers_by supply state (Stmt-F.Repeat turns body) rest keeps range =
     let some : 1 ≤ turns = from_nat_le 1 turns (and_left (nat_le 1 turns) _ range) in
     let lowers : worst_in supply.demands (body ++ repeat_then (turns - 1) body rest) + 1
-        ≤ turns * (1 + worst_in supply.demands body) + worst_in supply.demands rest =
-    rw (worst-append supply.demands body (repeat_then (turns - 1) body rest),
-        worst-repeat_then supply.demands (turns - 1) body rest)
+    ≤ turns * (1 + worst_in supply.demands body) + worst_in supply.demands rest =
+    rw (
+      worst-append supply.demands body (repeat_then (turns - 1) body rest),
+      worst-repeat_then supply.demands (turns - 1) body rest,
+    )
     (one_turn turns (worst_in supply.demands body) (worst_in supply.demands rest) some) in
     lowers
 lowers_by supply state (Stmt-F.Out expr) rest keeps range = omega arith
@@ -124,7 +129,7 @@ front_range (Stmt-F.Service call) inside = refl
 -- what a test of each statement says of a statement that is opened
 opened : (test : Stmt-F Bool → Bool) (stmt : Stmt) → each_of test stmt ≡ true
     → test (map-Stmt Stmt Bool (each_of test) (out-Stmt stmt))
-        && inner_pass (map-Stmt Stmt Bool (each_of test) (out-Stmt stmt)) ≡ true
+    && inner_pass (map-Stmt Stmt Bool (each_of test) (out-Stmt stmt)) ≡ true
 opened test stmt passed = sym (fold_out-Stmt Bool (λ y. test y && inner_pass y) stmt) ∙ passed
 
 lowers_list : (supply : Supply) (state : State) (list : List Stmt) → KeepsMost supply → AreNumbersInRange list
@@ -135,9 +140,9 @@ lowers_list supply state (front ∷ rest) keeps numbers some =
     let inside = each_of is_number_in_range in
     let passed = opened is_number_in_range front (and_left (inside front) _ numbers) in
     let range : IsFrontInRange (out-Stmt front) = sym (front_range (out-Stmt front) inside)
-        ∙ and_left (is_number_in_range (map-Stmt Stmt Bool inside (out-Stmt front))) _ passed in
+    ∙ and_left (is_number_in_range (map-Stmt Stmt Bool inside (out-Stmt front))) _ passed in
     rw (worst-cons supply.demands front rest, fold_out-Stmt ℕ (worst_step supply.demands) front)
-        (lowers_by supply state (out-Stmt front) rest keeps range)
+    (lowers_by supply state (out-Stmt front) rest keeps range)
 
 pub lowers_worst : TickLowersWorst
 unfolding tick
@@ -155,15 +160,15 @@ module _ (test : Stmt-F Bool → Bool) where
   each-append [] rest one other = other
   each-append (stmt ∷ body) rest one other =
       and_both (each_of test stmt) _ (and_left (each_of test stmt) _ one)
-          (each-append body rest (and_right (each_of test stmt) _ one) other)
+      (each-append body rest (and_right (each_of test stmt) _ one) other)
 
   each-work_then : (n : ℕ) (rest : List Stmt) → ((m : ℕ) → n ≡ suc m → test (Stmt-F.Work (suc m)) ≡ true)
       → each_in test rest ≡ true → each_in test (work_then n rest) ≡ true
   each-work_then zero rest here there = there
   each-work_then (suc n) rest here there =
       and_both (each_of test (s.Work (suc n))) _
-          (fold-Work Bool (λ y. test y && inner_pass y) (suc n)
-          ∙ and_both (test (Stmt-F.Work (suc n))) true (here n refl) refl) there
+      (fold-Work Bool (λ y. test y && inner_pass y) (suc n)
+      ∙ and_both (test (Stmt-F.Work (suc n))) true (here n refl) refl) there
 
   each-repeat_then : (n : ℕ) (body rest : List Stmt)
       → ((m : ℕ) → n ≡ suc m → test (Stmt-F.Repeat (suc m) (map (each_of test) body)) ≡ true)
@@ -172,7 +177,7 @@ module _ (test : Stmt-F Bool → Bool) where
   each-repeat_then (suc n) body rest here inside there =
       and_both (each_of test (s.Repeat (suc n) body)) _
       (fold-Repeat Bool (λ y. test y && inner_pass y) (suc n) body
-          ∙ and_both (test (Stmt-F.Repeat (suc n) (map (each_of test) body))) _ (here n refl) inside) there
+      ∙ and_both (test (Stmt-F.Repeat (suc n) (map (each_of test) body))) _ (here n refl) inside) there
 
   each-branch : (value : ℤ) (first second : List Stmt) → each_in test first ≡ true → each_in test second ≡ true
       → each_in test (branch value first second) ≡ true
@@ -186,7 +191,7 @@ module _ (test : Stmt-F Bool → Bool) where
       → each_in test (tick_by supply state front rest).left ≡ true
   keeps_by supply state (Stmt-F.Work ticks) rest lasts here inside there =
       each-work_then (ticks - 1) rest
-          (λ m is. lasts.work m (subst (λ n. test (Stmt-F.Work n) ≡ true) (omega arith) here)) there
+      (λ m is. lasts.work m (subst (λ n. test (Stmt-F.Work n) ≡ true) (omega arith) here)) there
   keeps_by supply state (Stmt-F.Take demand) rest lasts here inside there =
       let used = slice_index state.cursors demand.0 in
       each-work_then (given supply demand.0 used) rest (λ m is. lasts.take demand used m is here) there
@@ -198,8 +203,8 @@ module _ (test : Stmt-F Bool → Bool) where
   keeps_by supply state (Stmt-F.Repeat turns body) rest lasts here inside there =
       each-append body (repeat_then (turns - 1) body rest) inside
       (each-repeat_then (turns - 1) body rest
-          (λ m is. lasts.repeat m (map (each_of test) body)
-          (subst (λ n. test (Stmt-F.Repeat n (map (each_of test) body)) ≡ true) (omega arith) here)) inside there)
+      (λ m is. lasts.repeat m (map (each_of test) body)
+      (subst (λ n. test (Stmt-F.Repeat n (map (each_of test) body)) ≡ true) (omega arith) here)) inside there)
   keeps_by supply state (Stmt-F.Out expr) rest lasts here inside there = there
   keeps_by supply state (Stmt-F.Service call) rest lasts here inside there = there
 
@@ -210,7 +215,7 @@ module _ (test : Stmt-F Bool → Bool) where
       let here = opened test front (and_left (each_of test front) _ passed) in
       let inside = map-Stmt Stmt Bool (each_of test) (out-Stmt front) in
       keeps_by supply state (out-Stmt front) rest lasts (and_left (test inside) _ here)
-          (and_right (test inside) _ here) (and_right (each_of test front) _ passed)
+      (and_right (test inside) _ here) (and_right (each_of test front) _ passed)
 
 pub keeps_each : TickKeepsEach
 unfolding tick
@@ -250,7 +255,7 @@ ends_by supply zero state (front ∷ rest) is keeps mosts numbers few =
     absurd (omega (arith, lowers_worst supply state keeps numbers (front_is_some front rest state.left is)))
 ends_by supply (suc n) state (front ∷ rest) is keeps mosts numbers few =
     ends_by supply n (tick supply state) (tick supply state).left refl keeps mosts
-        (keeps_numbers supply state keeps mosts numbers)
+    (keeps_numbers supply state keeps mosts numbers)
     (omega (arith, lowers_worst supply state keeps numbers (front_is_some front rest state.left is)))
 
 pub ends : TicksEnd

@@ -77,7 +77,7 @@ terms_step (Expr-F.Bin op left right) = 1 + (left + right)
 abbrev pub terms_of : Expr → ℕ
 terms_of = fold-Expr ℕ terms_step
 
--- whether each variable is one of so many
+-- whether each variable is one of the first n
 abbrev pub reads_step : ℕ → Expr-F Bool → Bool
 reads_step count (Expr-F.Const number) = true
 reads_step count (Expr-F.Var var) = nat_lt var.0 count
@@ -101,19 +101,19 @@ is_expression_short (Stmt-F.If expr first second) = nat_le (terms_of expr) 100
 is_expression_short (Stmt-F.Out expr) = nat_le (terms_of expr) 100
 is_expression_short _ = true
 
--- its variables are some of so many
+-- its variables are some of the first n
 abbrev pub has_variables : {A : Type 0} → ℕ → Stmt-F A → Bool
 has_variables count (Stmt-F.Set var expr) = nat_lt var.0 count && reads_only count expr
 has_variables count (Stmt-F.If expr first second) = reads_only count expr
 has_variables count (Stmt-F.Out expr) = reads_only count expr
 has_variables count _ = true
 
--- its demand is one of so many
+-- its demand is one of the first n
 abbrev pub has_demand : {A : Type 0} → ℕ → Stmt-F A → Bool
 has_demand count (Stmt-F.Take demand) = nat_lt demand.0 count
 has_demand count _ = true
 
--- its mode or OSEK task is one of so many
+-- its mode or OSEK task is one of the first n
 abbrev pub names_below : (modes oseks : ℕ) → Call → Bool
 names_below modes oseks (call.Switch mode) = nat_lt mode.0 modes
 names_below modes oseks (call.Activate task) = nat_lt task.0 oseks
@@ -142,15 +142,15 @@ AreNumbersInRange body = IsTrue (each_in is_number_in_range body)
 abbrev pub AreExpressionsShort : List Stmt → Type 0
 AreExpressionsShort body = IsTrue (each_in is_expression_short body)
 
--- Each variable that is named is one of so many.
+-- Each variable that is named is one of the first n.
 abbrev pub HasVariables : ℕ → List Stmt → Type 0
 HasVariables count body = IsTrue (each_in (has_variables count) body)
 
--- Each demand that is named is one of so many.
+-- Each demand that is named is one of the first n.
 abbrev pub HasDemands : ℕ → List Stmt → Type 0
 HasDemands count body = IsTrue (each_in (has_demand count) body)
 
--- Each mode and each OSEK task that a service names is one of so many.
+-- Each mode and each OSEK task that a service names is one of the first n.
 abbrev pub HasCallees : (modes oseks : ℕ) → List Stmt → Type 0
 HasCallees modes oseks body = IsTrue (each_in (has_callee modes oseks) body)
 

@@ -42,7 +42,7 @@ module _ (A : Type 0) (step : Stmt-F A → A) where
 
   pub fold-If : (expr : Expr) (first second : List Stmt) →
       fold-Stmt A step (s.If expr first second)
-          ≡ step (Stmt-F.If expr (map (fold-Stmt A step) first) (map (fold-Stmt A step) second))
+      ≡ step (Stmt-F.If expr (map (fold-Stmt A step) first) (map (fold-Stmt A step) second))
   fold-If expr first second = ap (fold-Stmt A step) (sym (s.rolls-If expr first second))
       ∙ fold-roll-Stmt A step (Stmt-F.If expr first second)
 
@@ -58,5 +58,15 @@ module _ (A : Type 0) (step : Stmt-F A → A) where
   fold-Service call = ap (fold-Stmt A step) (sym (s.rolls-Service call)) ∙ fold-roll-Stmt A step (Stmt-F.Service call)
 
 -- the equations above
-pub ruleset folds = (fold-Const, fold-Var, fold-Bin, fold-Work, fold-Take, fold-Set, fold-If, fold-Repeat, fold-Out,
-    fold-Service)
+pub ruleset folds = (
+  fold-Const,
+  fold-Var,
+  fold-Bin,
+  fold-Work,
+  fold-Take,
+  fold-Set,
+  fold-If,
+  fold-Repeat,
+  fold-Out,
+  fold-Service,
+)

@@ -26,12 +26,12 @@ supply_of demands values = record { demands = demands; values = values }
 abbrev pub state_of : List Stmt → List ℤ → List ℕ → List Effect → State
 state_of left vars cursors effects = record { left = left; vars = vars; cursors = cursors; effects = effects }
 
--- so many ticks of work in front of the rest, and nothing where there are none
+-- n ticks of work in front of the rest, and nothing where n is 0
 abbrev pub work_then : ℕ → List Stmt → List Stmt
 work_then zero rest = rest
 work_then (suc n) rest = s.Work (suc n) ∷ rest
 
--- so many turns in front of the rest, and nothing where there are none
+-- n turns in front of the rest, and nothing where n is 0
 abbrev pub repeat_then : ℕ → List Stmt → List Stmt → List Stmt
 repeat_then zero body rest = rest
 repeat_then (suc n) body rest = s.Repeat (suc n) body ∷ rest
@@ -49,7 +49,7 @@ usual_of None = 0
 abbrev pub values_of : Supply → ℕ → List ℕ
 values_of supply demand = slice_index_or supply.values demand []
 
--- what a demand is given when so many of its values were used: the next value, or the usual one once they have ended
+-- what a demand is given when n of its values were used: the next value, or the usual one once they have ended
 abbrev pub given : Supply → (demand used : ℕ) → ℕ
 given supply demand used = slice_index_or (values_of supply demand) used (usual_of (slice_get supply.demands demand))
 
@@ -90,7 +90,7 @@ tick_list supply state (front ∷ rest) = tick_by supply state (out-Stmt front) 
 unfoldable pub tick : Supply → State → State
 tick supply state = tick_list supply state state.left
 
--- so many ticks
+-- k ticks
 unfoldable pub ticks : Supply → ℕ → State → State
 ticks supply zero state = state
 ticks supply (suc n) state = ticks supply n (tick supply state)

@@ -15,7 +15,7 @@ KeepsMost supply = (demand used : ℕ) → given supply demand used ≤ most_of 
 abbrev pub AreValuesKept : Supply → Type 0
 AreValuesKept supply =
     (demand : ℕ) → IsTrue (list_all (λ value. nat_le value (most_of (slice_get supply.demands demand)))
-        (values_of supply demand))
+    (values_of supply demand))
 
 -- A tick lowers the worst case by at least one.
 abbrev pub TickLowersWorst : Type 0

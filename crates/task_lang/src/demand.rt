@@ -54,7 +54,7 @@ impl Cursors {
         self.used.as_slice()
     }
 
-    /// Uses one value more of a demand, where it has so many, and answers how many were used
+    /// Uses one value more of a demand, where it has one, and answers how many were used
     /// before. A demand that is not there has none.
     pub(crate) fn use_one(&mut self, demand: DemandNo, values: usize) -> usize
         ensures before { result ≡ slice_index self.old demand.0 }

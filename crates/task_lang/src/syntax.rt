@@ -37,7 +37,7 @@ pub enum Expr {
 /// A statement. Contracts see inner bodies as lists of statements.
 #[derive(Debug, Drop)]
 pub enum Stmt {
-    /// `work`: so many ticks of computing.
+    /// `work`: ticks of computing.
     Work(u64),
     /// `take`: one tick, then as many ticks of computing as the script gives for the demand.
     Take(DemandNo),
@@ -45,7 +45,7 @@ pub enum Stmt {
     Set(VarNo, Expr),
     /// `if`: the first body where the expression is not 0, else the second.
     If(Expr, Body, Body),
-    /// `repeat`: the body so many times.
+    /// `repeat`: the body, this number of times.
     Repeat(u64, Body),
     /// `out`: puts out the value of an expression.
     Out(Expr),

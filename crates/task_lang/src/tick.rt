@@ -228,7 +228,7 @@ fn put_branch(
     Ok(())
 }
 
-/// Puts one turn of a `repeat` in front, and behind it the turns that are left. `Memory`: the
+/// Puts one turn of a `repeat` in front, and after it the turns that are left. `Memory`: the
 /// `repeat` is there again.
 fn put_turn(stack: &mut Vec<Stmt>, alloc: Global, turns: u64, body: Body) -> Result<(), Memory>
     requires { vec_len stack.old < vec_capacity stack.old }

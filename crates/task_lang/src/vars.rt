@@ -30,7 +30,7 @@ impl Vars {
         }
     }
 
-    /// Appends a variable with its value. On want of memory nothing has changed.
+    /// Appends a variable with its value. On `Memory` nothing has changed.
     pub fn push(&mut self, value: i32) -> Result<(), Memory>
         ensures ok { OnOk result (self.new ≡ self.old ++ value ∷ []) }
         ensures err { OnErr result (self.new ≡ self.old) }

@@ -17,7 +17,7 @@ stands_all (x ∷ xs) pre =
     let here = slice_get-get_or (pre ++ x ∷ xs) (length pre) x within ∙ ap Some (get_or-append_seam pre x xs x) in
     let n : length (pre ++ x ∷ []) ≡ length pre + 1 = omega (arith, length-append pre (x ∷ [])) in
     let rest = subst (λ l. Stands l (length (pre ++ x ∷ [])) xs (length l)) (append_assoc pre (x ∷ []) xs)
-        (stands_all xs (pre ++ x ∷ [])) in
+    (stands_all xs (pre ++ x ∷ [])) in
     (here, subst (λ m. Stands (pre ++ x ∷ xs) m xs (length (pre ++ x ∷ xs))) n rest)
 
 pub whole : (code : List Instr) (cs : List ℕ) (body : List Stmt) → code ≡ body_code 0 body → Left code cs 0 0 body

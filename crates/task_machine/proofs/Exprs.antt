@@ -68,7 +68,7 @@ module _ (code : List Instr) (vars : List ℤ) where
   begins_by (Expr-F.Bin op a b) p q h j e =
       let r = stands_parts code (p + 1) (expr_code a) (expr_code b) q h.1 in
       seen (i.Term (t.Apply op)) j p _ q h.0 e
-          (record { a = a; b = b; middle = r.middle; first = r.first; second = r.second; is = refl })
+      (record { a = a; b = b; middle = r.middle; first = r.first; second = r.second; is = refl })
 
   pub begins : (x : Expr) (p q : ℕ) → Stands code p (expr_code x) q → (j : Option Term)
       → j ≡ term_in (slice_get code p) → Begins j p (value_of vars x) q

@@ -35,7 +35,7 @@ pub stands_parts : (code : List Instr) (p : ℕ) (xs ys : List Instr) (q : ℕ) 
 stands_parts code p [] ys q h = record { middle = p; first = refl; second = h }
 stands_parts code p (x ∷ xs) ys q h =
     let r = stands_parts code (p + 1) xs ys q h.1 in
-        record { middle = r.middle; first = (h.0, r.first); second = r.second }
+    record { middle = r.middle; first = (h.0, r.first); second = r.second }
 
 pub stands_length : (code : List Instr) (p : ℕ) (xs : List Instr) (q : ℕ) → Stands code p xs q → q ≡ p + length xs
 stands_length code p [] q h = omega (arith, h)
@@ -49,7 +49,7 @@ module _ (code : List Instr) (cs : List ℕ) where
   body_left d p q (s ∷ body) rest h left =
       let r = stands_parts code p (stmt_code s d) (body_code d body) q h in
       At_stmt d p r.middle s (out-Stmt s) (body ++ rest) refl
-          (subst (λ c. Stands code p c r.middle) (stmt_layer s d) r.first)
+      (subst (λ c. Stands code p c r.middle) (stmt_layer s d) r.first)
       (body_left d r.middle q body rest r.second left)
 
   pub record Fronts (l : List Stmt) (x : Stmt-F Stmt) (Then : List Stmt → Type 0) : Type 0 where
@@ -163,33 +163,52 @@ module _ (code : List Instr) (cs : List ℕ) where
   front_at _ _ _ (At_end p past) j e = let none : slice_get code p ≡ None = slice_get_past code p past in cc
   front_at _ _ _ (At_stmt d p q s (Stmt-F.Work n) rest o h left) j e =
       seen (i.Work n) j d p (s ∷ rest) h.0 e
-          (record { s = s; rest = rest; is = refl; front = o; later = moved d _ q rest h.1 left })
+      (record { s = s; rest = rest; is = refl; front = o; later = moved d _ q rest h.1 left })
   front_at _ _ _ (At_stmt d p q s (Stmt-F.Take x) rest o h left) j e =
       seen (i.Take x) j d p (s ∷ rest) h.0 e
-          (record { s = s; rest = rest; is = refl; front = o; later = moved d _ q rest h.1 left })
+      (record { s = s; rest = rest; is = refl; front = o; later = moved d _ q rest h.1 left })
   front_at _ _ _ (At_stmt d p q s (Stmt-F.Set x t) rest o h left) j e =
       seen (i.Set x) j d p (s ∷ rest) h.0 e
-          (record { e = t; q = q; test = h.1; fronts =
-          record { s = s; rest = rest; is = refl; front = o; later = left } })
+      (record {
+        e = t;
+        q = q;
+        test = h.1;
+        fronts =
+            record { s = s; rest = rest; is = refl; front = o; later = left };
+      })
   front_at _ _ _ (At_stmt d p q s (Stmt-F.If t first second) rest o h left) j e =
       seen (i.If (length (body_code d first) + 1)) j d p (s ∷ rest) h.0 e
-          (at_if d (p + 1) q s t first second rest o h.1 left)
+      (at_if d (p + 1) q s t first second rest o h.1 left)
   front_at _ _ _ (At_stmt d p q s (Stmt-F.Repeat n inner) rest o h left) j e =
       seen (i.Repeat d n) j d p (s ∷ rest) h.0 e (at_repeat d (p + 1) q n s inner rest o h.1 left)
   front_at _ _ _ (At_stmt d p q s (Stmt-F.Out t) rest o h left) j e =
       seen i.Out j d p (s ∷ rest) h.0 e
-          (record { e = t; q = q; test = h.1; fronts =
-          record { s = s; rest = rest; is = refl; front = o; later = left } })
+      (record {
+        e = t;
+        q = q;
+        test = h.1;
+        fronts =
+            record { s = s; rest = rest; is = refl; front = o; later = left };
+      })
   front_at _ _ _ (At_stmt d p q s (Stmt-F.Service call) rest o h left) j e =
       seen (i.Service call) j d p (s ∷ rest) h.0 e
-          (record { s = s; rest = rest; is = refl; front = o; later = moved d _ q rest h.1 left })
+      (record { s = s; rest = rest; is = refl; front = o; later = moved d _ q rest h.1 left })
   front_at _ _ _ (At_skip d p q second rest g h left) j e =
       seen (i.Skip (length (body_code d second))) j d p rest g e
-          (moved d _ q rest (sym (stands_length code (p + 1) (body_code d second) q h)) left)
+      (moved d _ q rest (sym (stands_length code (p + 1) (body_code d second) q h)) left)
   front_at _ _ _ (At_again d p start back inner rest h far body left) j e =
       seen (i.Again d back) j (suc d) p _ h e
-          (record { same = refl; start = start; inner = inner; rest = rest; far = far; body = body; later = left; is =
-          refl })
+      (record {
+        same = refl;
+        start = start;
+        inner = inner;
+        rest = rest;
+        far = far;
+        body = body;
+        later = left;
+        is =
+            refl;
+      })
 
   -- with no instruction there, nothing is left
   pub none_at : (d p : ℕ) (l : List Stmt) → Left code cs d p l → slice_get code p ≡ None → l ≡ []
@@ -215,5 +234,5 @@ above code cs cs' _ _ _ same (At_skip d p q second rest g h left) =
     At_skip d p q second rest g h (above code cs cs' d q rest same left)
 above code cs cs' _ _ _ same (At_again d p start back inner rest h far body left) =
     let again = At_again d p start back inner rest h far body
-        (above code cs cs' d _ rest (λ e lt. same e (omega arith)) left) in
+    (above code cs cs' d _ rest (λ e lt. same e (omega arith)) left) in
     subst (λ n. Left code cs' (suc d) p (repeat_then n inner rest)) (sym (same d (omega arith))) again

@@ -57,7 +57,7 @@ module _ (code : List Instr) (cs : List ℕ) where
   at_stmt d p q s rest h later =
       let here : seen_at code p ≡ put s (seen_of (drop q code)) =
       seen_drop code p ∙ ap seen_of
-          (drop_stands code p (layer_code d (out-Stmt s)) q h ∙ ap (λ xs. xs ++ drop q code) (sym (stmt_layer s d)))
+      (drop_stands code p (layer_code d (out-Stmt s)) q h ∙ ap (λ xs. xs ++ drop q code) (sym (stmt_layer s d)))
       ∙ stmt_reads s d (drop q code) in
       left_is p _ here ∙ ap (λ l. s ∷ l) (sym (left_is q _ (seen_drop code q)) ∙ later)
 
@@ -69,9 +69,13 @@ module _ (code : List Instr) (cs : List ℕ) where
       let seen = seen_of after in
       let there : drop p code ≡ i.Skip (length two) ∷ (two ++ after) =
       drop_next code p (i.Skip (length two)) g
-          ∙ ap (λ xs. i.Skip (length two) ∷ xs) (drop_stands code (p + 1) two q h) in
-      let here : seen_at code p ≡ record { exprs = seen.exprs; block = []; around =
-          First second seen.block ∷ seen.around } =
+      ∙ ap (λ xs. i.Skip (length two) ∷ xs) (drop_stands code (p + 1) two q h) in
+      let here : seen_at code p ≡ record {
+        exprs = seen.exprs;
+        block = [];
+        around =
+            First second seen.block ∷ seen.around;
+      } =
       seen_drop code p ∙ ap seen_of there ∙ seen_cons (i.Skip (length two)) (two ++ after)
       ∙ ap (λ k. open_first (seen_of (two ++ after)) k) (later_at two after)
       ∙ ap (λ k. open_first k seen) (body_reads second d after) ∙ skipped seen second in
@@ -95,11 +99,11 @@ module _ (code : List Instr) (cs : List ℕ) where
       ap (λ n. n + back) (length-reading after ∙ ap (λ n. n + 1) (length-drop (p + 1) code)) in
       let begins : length code - from_end ≡ start =
       ap (λ n. length code - n) counted
-          ∙ at_start (length code) p start back refl far (slice_get_within code p (i.Again d back) g) in
+      ∙ at_start (length code) p start back refl far (slice_get_within code p (i.Again d back) g) in
       let whole : (seen_at code (length code - from_end)).block ≡ inner =
       ap (λ n. (seen_at code n).block) begins ∙ ap (λ k. k.block)
       (seen_drop code start ∙ ap seen_of (drop_stands code start (body_code (suc d) inner) p body)
-          ∙ body_reads inner (suc d) (drop p code) ∙ ap (puts inner) there)
+      ∙ body_reads inner (suc d) (drop p code) ∙ ap (puts inner) there)
       ∙ append-nil inner in
       left_is p _ here ∙ ap (λ b. repeat_then (slice_index cs d) b (unwound seen)) whole
       ∙ ap (λ l. repeat_then (slice_index cs d) inner l) (sym (left_is (p + 1) _ (seen_drop code (p + 1))) ∙ later)

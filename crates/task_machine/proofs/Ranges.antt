@@ -13,7 +13,7 @@ use Rattle.task_machine.specs.Layout.{expr_code, expr_step, stmt_code, stmt_step
 use Rattle.task_machine.specs.declared.instr.Instr.{Instr}
 use Rattle.task_machine.specs.declared.instr.Instr.TheVariants as i
 
--- the numbers of an instruction, with so many instructions before it and after it
+-- the numbers of an instruction, with some instructions before it and after it
 abbrev IsFine : (before : ℕ) → Instr → (after : ℕ) → Type 0
 IsFine before (i.Work ticks) after = 1 ≤ ticks
 IsFine before (i.If passed) after = passed ≤ after
@@ -33,9 +33,10 @@ fine_append before [] ys after front back = let same : before + 0 ≡ before = o
     subst (λ n. AreFine n ys after) same back
 fine_append before (x ∷ xs) ys after front back =
     let same : length xs + (length ys + after) ≡ length (xs ++ ys) + after = omega (arith, length-append xs ys) in
-    let moved : before + length (x ∷ xs) ≡ before + 1 + length xs = omega arith in
-    (subst (λ n. IsFine before x n) same front.0,
-        fine_append (before + 1) xs ys after front.1 (subst (λ n. AreFine n ys after) moved back))
+    let moved : before + length (x ∷ xs) ≡ before + 1 + length xs = omega arith in (
+      subst (λ n. IsFine before x n) same front.0,
+      fine_append (before + 1) xs ys after front.1 (subst (λ n. AreFine n ys after) moved back),
+    )
 
 -- ---- expressions
 
@@ -44,7 +45,7 @@ FineExpr expr = (before after : ℕ) → AreFine before (expr_code expr) after
 
 expr_level : (y : Expr-F ((expr : Expr) × FineExpr expr)) (before after : ℕ)
     → AreFine before (expr_step
-        (map-Expr Expr (List Instr) expr_code (map-Expr ((expr : Expr) × FineExpr expr) Expr (λ p. p.0) y))) after
+    (map-Expr Expr (List Instr) expr_code (map-Expr ((expr : Expr) × FineExpr expr) Expr (λ p. p.0) y))) after
 expr_level (Expr-F.Const number) before after = (tt, tt)
 expr_level (Expr-F.Var var) before after = (tt, tt)
 expr_level (Expr-F.Bin op left right) before after =
@@ -54,7 +55,7 @@ expr_fine : (expr : Expr) → FineExpr expr
 expr_fine = ind-Expr FineExpr (λ x y is before after.
     subst (λ code. AreFine before code after) (sym (fold-roll-Expr (List Instr) expr_step x))
     (subst (λ z. AreFine before (expr_step (map-Expr Expr (List Instr) expr_code z)) after) is
-        (expr_level y before after)))
+    (expr_level y before after)))
 
 -- ---- statements
 
@@ -84,11 +85,11 @@ if_fine : (before after : ℕ) (test first second : List Instr) → ((b a : ℕ)
     → AreFine before (i.If (length first + 1) ∷ (test ++ (first ++ i.Skip (length second) ∷ second))) after
 if_fine before after test first second t f s =
     let n : length (test ++ (first ++ i.Skip (length second) ∷ second))
-        ≡ length test + (length first + length (i.Skip (length second) ∷ second)) =
+    ≡ length test + (length first + length (i.Skip (length second) ∷ second)) =
     length-append test (first ++ i.Skip (length second) ∷ second)
-        ∙ ap (λ k. length test + k) (length-append first (i.Skip (length second) ∷ second)) in
+    ∙ ap (λ k. length test + k) (length-append first (i.Skip (length second) ∷ second)) in
     let jump : length first + 1 ≤ length (test ++ (first ++ i.Skip (length second) ∷ second)) + after =
-        omega (arith, n) in
+    omega (arith, n) in
     let skip : length second ≤ length second + after = omega arith in (
       jump,
       fine_append (before + 1) test (first ++ i.Skip (length second) ∷ second) after (t _ _)
@@ -113,11 +114,11 @@ stmt_level (Stmt-F.Take demand) depth before after deep fits = (tt, tt)
 stmt_level (Stmt-F.Set var expr) depth before after deep fits = (tt, expr_fine expr _ _)
 stmt_level (Stmt-F.If expr first second) depth before after deep fits =
     let one = λ (b a : ℕ). body_fine first depth b a (omega arith)
-        (and_left (each_in is_number_in_range (stmts first)) _ fits) in
+    (and_left (each_in is_number_in_range (stmts first)) _ fits) in
     let two = λ (b a : ℕ). body_fine second depth b a (omega arith)
-        (and_right (each_in is_number_in_range (stmts first)) _ fits) in
+    (and_right (each_in is_number_in_range (stmts first)) _ fits) in
     if_fine before after (expr_code expr) (body_code depth (stmts first)) (body_code depth (stmts second))
-        (expr_fine expr) one two
+    (expr_fine expr) one two
 stmt_level (Stmt-F.Repeat turns inner) depth before after deep fits =
     let range = nat_le 1 turns && nat_le turns 65535 in
     let some : 1 ≤ turns = from_nat_le 1 turns (and_left (nat_le 1 turns) _ (and_left range _ fits)) in
@@ -131,13 +132,13 @@ stmt_fine : (stmt : Stmt) → FineStmt stmt
 stmt_fine = ind-Stmt FineStmt (λ x y is depth before after deep fits.
     let deep' : depth + nesting_step (map-Stmt Stmt ℕ nesting_of (down y)) ≤ 4 =
     subst (λ k. depth + k ≤ 4) (fold-roll-Stmt ℕ nesting_step x
-        ∙ sym (ap (λ z. nesting_step (map-Stmt Stmt ℕ nesting_of z)) is)) deep in
+    ∙ sym (ap (λ z. nesting_step (map-Stmt Stmt ℕ nesting_of z)) is)) deep in
     let fits' : numbers_step (map-Stmt Stmt Bool (each_of is_number_in_range) (down y)) ≡ true =
     ap (λ z. numbers_step (map-Stmt Stmt Bool (each_of is_number_in_range) z)) is
-        ∙ sym (fold-roll-Stmt Bool numbers_step x) ∙ fits in
+    ∙ sym (fold-roll-Stmt Bool numbers_step x) ∙ fits in
     subst (λ f. AreFine before (f depth) after) (sym (fold-roll-Stmt (ℕ → List Instr) stmt_step x))
     (subst (λ z. AreFine before (stmt_step (map-Stmt Stmt (ℕ → List Instr) stmt_code z) depth) after) is
-        (stmt_level y depth before after deep' fits')))
+    (stmt_level y depth before after deep' fits')))
 
 code_fine : (body : List Stmt) (depth before after : ℕ) → depth + nesting_in body ≤ 4
     → each_in is_number_in_range body ≡ true
@@ -161,14 +162,22 @@ fine_at [] before after p instr fine is = cc
 fine_at (x ∷ xs) before after zero instr fine is =
     let same : x ≡ instr = cc in
     let here : before ≡ before + zero = omega arith in
-    record { after = length xs + after; few = omega arith; fine =
-        subst (λ n. IsFine n instr (length xs + after)) here
-        (subst (λ k. IsFine before k (length xs + after)) same fine.0) }
+    record {
+      after = length xs + after;
+      few = omega arith;
+      fine =
+          subst (λ n. IsFine n instr (length xs + after)) here
+          (subst (λ k. IsFine before k (length xs + after)) same fine.0);
+    }
 fine_at (x ∷ xs) before after (suc p) instr fine is =
     let there = fine_at xs (before + 1) after p instr fine.1 is in
     let here : before + 1 + p ≡ before + suc p = omega arith in
-    record { after = there.after; few = omega (arith, there.few); fine =
-        subst (λ n. IsFine n instr there.after) here there.fine }
+    record {
+      after = there.after;
+      few = omega (arith, there.few);
+      fine =
+          subst (λ n. IsFine n instr there.after) here there.fine;
+    }
 
 to_range : (len place after : ℕ) (instr : Instr) → after ≤ len → IsFine place instr after → IsInRange len place instr
 to_range len place after (i.Work ticks) few fine = fine
@@ -191,5 +200,5 @@ code_in_range body deep fits short = record {
       let at = fine_at (body_code 0 body) 0 0 p instr (code_fine body 0 0 0 (omega arith) fits) is in
       let here : 0 + p ≡ p = omega arith in
       to_range (length (body_code 0 body)) p at.after instr (omega (arith, at.few))
-          (subst (λ n. IsFine n instr at.after) here at.fine);
+      (subst (λ n. IsFine n instr at.after) here at.fine);
 }

@@ -50,19 +50,19 @@ expr_level (Expr-F.Var var) rest = seen_cons (i.Term (t.Var var)) rest
     ∙ ap (λ x. put_expr x (seen_of rest)) (sym (e.rolls-Var var))
 expr_level (Expr-F.Bin op left right) rest =
     let operands : seen_of ((expr_code left.0 ++ expr_code right.0) ++ rest)
-        ≡ put_expr left.0 (put_expr right.0 (seen_of rest)) =
+    ≡ put_expr left.0 (put_expr right.0 (seen_of rest)) =
     ap seen_of (append_assoc (expr_code left.0) (expr_code right.0) rest) ∙ left.1 (expr_code right.0 ++ rest)
-        ∙ ap (put_expr left.0) (right.1 rest) in
+    ∙ ap (put_expr left.0) (right.1 rest) in
     seen_cons (i.Term (t.Apply op)) ((expr_code left.0 ++ expr_code right.0) ++ rest)
-        ∙ ap (λ seen. applied op seen.exprs seen) operands
+    ∙ ap (λ seen. applied op seen.exprs seen) operands
     ∙ ap (λ x. put_expr x (seen_of rest)) (sym (e.rolls-Bin op left.0 right.0))
 
 pub expr_reads : (expr : Expr) → ReadsExpr expr
 expr_reads = ind-Expr ReadsExpr (λ x y is rest.
     subst (λ code. seen_of (code ++ rest) ≡ put_expr (roll-Expr x) (seen_of rest))
-        (sym (fold-roll-Expr (List Instr) expr_step x))
+    (sym (fold-roll-Expr (List Instr) expr_step x))
     (subst (λ z. seen_of (expr_step (map-Expr Expr (List Instr) expr_code z) ++ rest)
-        ≡ put_expr (roll-Expr z) (seen_of rest)) is (expr_level y rest)))
+    ≡ put_expr (roll-Expr z) (seen_of rest)) is (expr_level y rest)))
 
 -- ---- statements
 
@@ -85,7 +85,7 @@ front_of : {A : Type 0} (xs ys : List A) → take (length (xs ++ ys) - length ys
 front_of {A} [] ys = let none : length ys - length ys ≡ 0 = omega arith in ap (λ n. take n ys) none
 front_of {A} (x ∷ xs) ys =
     let more : length (x ∷ (xs ++ ys)) - length ys ≡ suc (length (xs ++ ys) - length ys) =
-        omega (arith, length-append xs ys) in
+    omega (arith, length-append xs ys) in
     ap (λ n. take n (x ∷ (xs ++ ys))) more ∙ ap (λ zs. x ∷ zs) (front_of xs ys)
 
 module _ (seen : Seen) where
@@ -99,7 +99,7 @@ module _ (seen : Seen) where
   -- the whole `if`
   chosen : (expr : Expr) (first second : List Stmt) (here : Seen)
       → here ≡ put_expr expr (puts first
-          (record { exprs = seen.exprs; block = []; around = First second seen.block ∷ seen.around }))
+      (record { exprs = seen.exprs; block = []; around = First second seen.block ∷ seen.around }))
       → close_if here.exprs here.around here ≡ put (s.If expr first second) seen
   chosen expr first second here is =
       ap (λ k. close_if k.exprs k.around k) is ∙ ap (λ xs. put (s.If expr xs second) seen) (append-nil first)
@@ -123,7 +123,7 @@ stmt_level (Stmt-F.Take demand) depth rest = seen_cons (i.Take demand) rest
     ∙ ap (λ x. put x (seen_of rest)) (sym (s.rolls-Take demand))
 stmt_level (Stmt-F.Set var expr) depth rest =
     seen_cons (i.Set var) (expr_code expr ++ rest)
-        ∙ ap (λ k. put_with (λ x. s.Set var x) k.exprs k) (expr_reads expr rest)
+    ∙ ap (λ k. put_with (λ x. s.Set var x) k.exprs k) (expr_reads expr rest)
     ∙ ap (λ x. put x (seen_of rest)) (sym (s.rolls-Set var expr))
 stmt_level (Stmt-F.If expr first second) depth rest =
     let test = expr_code expr in
@@ -134,14 +134,14 @@ stmt_level (Stmt-F.If expr first second) depth rest =
     let tail = (test ++ (one ++ i.Skip (length two) ∷ two)) ++ rest in
     let apart : tail ≡ test ++ (one ++ i.Skip (length two) ∷ after) =
     append_assoc test (one ++ i.Skip (length two) ∷ two) rest
-        ∙ ap (λ xs. test ++ xs) (append_assoc one (i.Skip (length two) ∷ two) rest) in
+    ∙ ap (λ xs. test ++ xs) (append_assoc one (i.Skip (length two) ∷ two) rest) in
     let skip : seen_of (i.Skip (length two) ∷ after)
-        ≡ record { exprs = seen.exprs; block = []; around = First (stmts second) seen.block ∷ seen.around } =
+    ≡ record { exprs = seen.exprs; block = []; around = First (stmts second) seen.block ∷ seen.around } =
     seen_cons (i.Skip (length two)) after ∙ ap (λ k. open_first (seen_of after) k) (later_at two rest)
     ∙ ap (λ k. open_first k seen) (body_level second depth rest) ∙ skipped seen (stmts second) in
     let here : seen_of tail ≡ put_expr expr
-        (puts (stmts first) (record
-        { exprs = seen.exprs; block = []; around = First (stmts second) seen.block ∷ seen.around })) =
+    (puts (stmts first) (record
+    { exprs = seen.exprs; block = []; around = First (stmts second) seen.block ∷ seen.around })) =
     ap seen_of apart ∙ expr_reads expr (one ++ i.Skip (length two) ∷ after)
     ∙ ap (put_expr expr) (body_level first depth (i.Skip (length two) ∷ after) ∙ ap (puts (stmts first)) skip) in
     seen_cons (i.If (length one + 1)) tail ∙ chosen seen expr (stmts first) (stmts second) (seen_of tail) here
@@ -154,7 +154,7 @@ stmt_level (Stmt-F.Repeat turns inner) depth rest =
     let from_end = length (reading rest) + length code in
     let here : seen_of tail ≡ puts (stmts inner) (open_turn depth from_end seen) =
     ap seen_of (append_assoc code (again ∷ []) rest) ∙ body_level inner (suc depth) (again ∷ rest)
-        ∙ ap (puts (stmts inner)) (seen_cons again rest) in
+    ∙ ap (puts (stmts inner)) (seen_cons again rest) in
     seen_cons (i.Repeat depth turns) tail ∙ repeated seen depth from_end turns (stmts inner) (seen_of tail) here
     ∙ ap (λ x. put x seen) (sym (s.rolls-Repeat turns (stmts inner)))
 stmt_level (Stmt-F.Out expr) depth rest =
@@ -166,9 +166,9 @@ stmt_level (Stmt-F.Service call) depth rest = seen_cons (i.Service call) rest
 pub stmt_reads : (stmt : Stmt) → ReadsStmt stmt
 stmt_reads = ind-Stmt ReadsStmt (λ x y is depth rest.
     subst (λ f. seen_of (f depth ++ rest) ≡ put (roll-Stmt x) (seen_of rest))
-        (sym (fold-roll-Stmt (ℕ → List Instr) stmt_step x))
+    (sym (fold-roll-Stmt (ℕ → List Instr) stmt_step x))
     (subst (λ z. seen_of (stmt_step (map-Stmt Stmt (ℕ → List Instr) stmt_code z) depth ++ rest)
-        ≡ put (roll-Stmt z) (seen_of rest)) is
+    ≡ put (roll-Stmt z) (seen_of rest)) is
     (stmt_level y depth rest)))
 
 pub body_reads : (body : List Stmt) (depth : ℕ) (rest : List Instr)
@@ -187,5 +187,5 @@ seen_end = refl
 pub body_in-body_code : (body : List Stmt) → body_in (body_code 0 body) ≡ body
 body_in-body_code body =
     ap (λ code. (seen_of code).block) (sym (append-nil (body_code 0 body)))
-        ∙ ap (λ seen. seen.block) (body_reads body 0 [])
+    ∙ ap (λ seen. seen.block) (body_reads body 0 [])
     ∙ ap (λ xs. body ++ xs) seen_end ∙ append-nil body

@@ -25,9 +25,15 @@ pub stands_for : (codes : List (List Stmt)) (frame : Frame) (l : List Stmt) → 
 unfolding left_of
 stands_for codes frame l exists at =
     let left : left_of codes frame ≡ l =
-        rests_is (code_of codes frame.program) frame.counters frame.place frame.work l at.rests in
-    record { sound = record { exists = exists; is_at =
-        subst (λ m. IsAt (code_of codes frame.program) frame m) (sym left) at }; left = left }
+    rests_is (code_of codes frame.program) frame.counters frame.place frame.work l at.rests in
+    record {
+      sound = record {
+        exists = exists;
+        is_at =
+            subst (λ m. IsAt (code_of codes frame.program) frame m) (sym left) at;
+      };
+      left = left;
+    }
 
 -- ---- more codes
 
@@ -40,7 +46,7 @@ pub codes_grow : (codes more : List (List Stmt)) (frame : Frame) (l : List Stmt)
 codes_grow codes more frame l stands =
     let same = more_codes codes more frame.program stands.sound.exists in
     let at : IsAt (code_of codes frame.program) frame l =
-        subst (λ m. IsAt (code_of codes frame.program) frame m) stands.left stands.sound.is_at in
+    subst (λ m. IsAt (code_of codes frame.program) frame m) stands.left stands.sound.is_at in
     stands_for (codes ++ more) frame l (omega (arith, length-append codes more, stands.sound.exists))
     (subst (λ body. IsAt (code_of (body ∷ []) 0) frame l) (sym same) at)
 
@@ -87,7 +93,7 @@ pub begun_is_front : (codes : List (List Stmt)) (frame : Frame) → IsSound code
     → frame.work ≡ work_in_front (left_of codes frame)
 begun_is_front codes frame sound =
     front_work (code_of codes frame.program) frame.counters
-        (left_of codes frame) frame.place frame.work sound.is_at.rests
+    (left_of codes frame) frame.place frame.work sound.is_at.rests
 
 -- ---- ticks
 
@@ -103,7 +109,7 @@ outcome_is : (left : List Stmt) (vars : List ℤ) (cursors : List ℕ) (effects 
     → cursors ≡ state.cursors → state.effects ≡ effects → state_of left vars cursors effects ≡ state
 outcome_is left vars cursors effects state a b d e =
     ap (λ k. state_of k vars cursors effects) a ∙ ap (λ k. state_of state.left k cursors effects) b
-        ∙ ap (λ k. state_of state.left state.vars k effects) d
+    ∙ ap (λ k. state_of state.left state.vars k effects) d
     ∙ ap (λ k. state_of state.left state.vars state.cursors k) (sym e)
 
 module _ (codes : List (List Stmt)) (code : List Instr) (old new : Frame) (vars : List ℤ) (cursors : List ℕ)
@@ -126,7 +132,7 @@ module _ (codes : List (List Stmt)) (code : List Instr) (old new : Frame) (vars 
         ended = stands.sound.is_at.ended;
       }
 
-  -- the state of a list in a store, after so many ticks
+  -- the state of a list in a store, after k ticks
   abbrev pub after : ℕ → Store → List Stmt → State
   after k store l = ticks (supply_of store.demands store.values) k (begin l store.vars store.cursors)
 
@@ -136,7 +142,7 @@ module _ (codes : List (List Stmt)) (code : List Instr) (old new : Frame) (vars 
       → Outcome codes new vars cursors effect (after k now (left_of codes old))
   outcome k stored now is layout same sound some taken =
       subst (λ store. Outcome codes new vars cursors effect (after k store (left_of codes old))) is
-          (outcome_by (after k stored) layout same sound some taken)
+      (outcome_by (after k stored) layout same sound some taken)
 
 -- A frame that rests at the start of a program stands for its body.
 pub started : (codes : List (List Stmt)) (code : List Instr) (counters : List ℕ) (frame : Frame) (program : ℕ)
@@ -145,6 +151,6 @@ pub started : (codes : List (List Stmt)) (code : List Instr) (counters : List �
     → StandsFor codes frame (body_of codes program)
 started codes code counters frame program layout exists same at =
     let here : IsAt code frame (body_of codes program) =
-        at 0 (body_of codes program) (whole code counters (body_of codes program) layout) in
+    at 0 (body_of codes program) (whole code counters (body_of codes program) layout) in
     stands_for codes frame (body_of codes program) (subst (λ n. n < length codes) (sym same) exists)
     (subst (λ c. IsAt c frame (body_of codes program)) (layout ∙ ap (code_of codes) (sym same)) here)

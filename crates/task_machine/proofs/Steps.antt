@@ -84,7 +84,7 @@ module _ (code : List Instr) (cs : List ℕ) where
   work_by d p w l None g e some left = absurd (omega arith)
   work_by d p w l (Some (i.Work n)) g e some left =
       subst (λ k. Rests code cs l (p + 1) k) (sym e)
-          (begins_work n d (p + 1) l (omega arith) (front_at code cs d p l left (i.Work n) g))
+      (begins_work n d (p + 1) l (omega arith) (front_at code cs d p l left (i.Work n) g))
   work_by d p w l (Some (i.Skip m)) g e some left = absurd (omega arith)
   work_by d p w l (Some (i.Again c back)) g e some left = absurd (omega arith)
   work_by d p w l (Some (i.Take x)) g e some left = absurd (omega arith)
@@ -154,7 +154,7 @@ pub moved_step : (code : List Instr) (cs : List ℕ) (p p' : ℕ) (vars : List �
     → Stepped code cs p vars cursors effect st → Stepped code cs p' vars cursors effect' st
 moved_step code cs p p' vars cursors effect effect' st e f h =
     subst (λ k. Stepped code cs k vars cursors effect' st) (sym e)
-        (subst (λ k. Stepped code cs p vars cursors k st) (sym f) h)
+    (subst (λ k. Stepped code cs p vars cursors k st) (sym f) h)
 
 tick_front : (code : List Instr) (cs : List ℕ) (supply : Supply) (l : List Stmt) (vars : List ℤ) (cursors : List ℕ)
     (x : Stmt-F Stmt) (Then : List Stmt → Type 0)
@@ -162,7 +162,7 @@ tick_front : (code : List Instr) (cs : List ℕ) (supply : Supply) (l : List Stm
 unfolding tick
 tick_front code cs supply l vars cursors x Then f =
     ap (λ k. tick_list supply (begin l vars cursors) k) f.is
-        ∙ ap (λ y. tick_by supply (begin l vars cursors) y f.rest) f.front
+    ∙ ap (λ y. tick_by supply (begin l vars cursors) y f.rest) f.front
 
 branch_zero : (v : ℤ) (a b : List Stmt) → v ≡ pos 0 → branch v a b ≡ b
 branch_zero v a b e = rw e refl
@@ -181,7 +181,7 @@ module _ (code : List Instr) (cs : List ℕ) (supply : Supply) (l : List Stmt) (
       let at = front_at code cs d p l left (i.Set x) g in
       let r = ev at.e at.q at.test in
       subst (λ st. Stepped code cs after vars' cursors None st)
-          (sym (tick_front code cs supply l vars cursors _ _ at.fronts)) (record {
+      (sym (tick_front code cs supply l vars cursors _ _ at.fronts)) (record {
         depth = d;
         left = subst (λ k. Left code cs d k at.fronts.rest) (sym r.1) at.fronts.later;
         vars_are = is ∙ ap (λ k. slice_set vars x.0 k) r.0;
@@ -195,7 +195,7 @@ module _ (code : List Instr) (cs : List ℕ) (supply : Supply) (l : List Stmt) (
       let at = front_at code cs d p l left i.Out g in
       let r = ev at.e at.q at.test in
       subst (λ st. Stepped code cs after vars cursors (Some (effect.Out v)) st)
-          (sym (tick_front code cs supply l vars cursors _ _ at.fronts)) (record {
+      (sym (tick_front code cs supply l vars cursors _ _ at.fronts)) (record {
         depth = d;
         left = subst (λ k. Left code cs d k at.fronts.rest) (sym r.1) at.fronts.later;
         vars_are = refl;
@@ -208,7 +208,7 @@ module _ (code : List Instr) (cs : List ℕ) (supply : Supply) (l : List Stmt) (
   step_service call g =
       let at = front_at code cs d p l left (i.Service call) g in
       subst (λ st. Stepped code cs (p + 1) vars cursors (Some (effect.Service call)) st)
-          (sym (tick_front code cs supply l vars cursors _ _ at)) (record {
+      (sym (tick_front code cs supply l vars cursors _ _ at)) (record {
         depth = d;
         left = at.later;
         vars_are = refl;
@@ -224,7 +224,7 @@ module _ (code : List Instr) (cs : List ℕ) (supply : Supply) (l : List Stmt) (
       let r = ev at.e at.q at.test in
       let is = branch_zero (value_of vars at.e) at.first at.second (sym r.0 ∙ none) in
       subst (λ st. Stepped code cs (after + n) vars cursors None st)
-          (sym (tick_front code cs supply l vars cursors _ _ at.fronts)) (record {
+      (sym (tick_front code cs supply l vars cursors _ _ at.fronts)) (record {
         depth = d;
         left = subst (λ k. Left code cs d (k + n) (branch (value_of vars at.e) at.first at.second ++ at.fronts.rest))
             (sym r.1)
@@ -242,7 +242,7 @@ module _ (code : List Instr) (cs : List ℕ) (supply : Supply) (l : List Stmt) (
       let r = ev at.e at.q at.test in
       let is = branch_other (value_of vars at.e) at.first at.second (λ z. some (r.0 ∙ z)) in
       subst (λ st. Stepped code cs after vars cursors None st)
-          (sym (tick_front code cs supply l vars cursors _ _ at.fronts)) (record {
+      (sym (tick_front code cs supply l vars cursors _ _ at.fronts)) (record {
         depth = d;
         left = subst (λ k. Left code cs d k (branch (value_of vars at.e) at.first at.second ++ at.fronts.rest))
             (sym r.1)
@@ -263,14 +263,14 @@ module _ (code : List Instr) (cs : List ℕ) (supply : Supply) (l : List Stmt) (
       let at = front_at code cs d p l left (i.Repeat c n) g in
       let new = slice_set cs c (n - 1) in
       let rest : Left code new d (at.q + 1) at.fronts.rest =
-          above code cs new d (at.q + 1) at.fronts.rest
-          (λ e lt. outer c (n - 1) e (omega (arith, at.same))) at.fronts.later in
+      above code cs new d (at.q + 1) at.fronts.rest
+      (λ e lt. outer c (n - 1) e (omega (arith, at.same))) at.fronts.later in
       let again = At_again d at.q (p + 1) at.back at.inner at.fronts.rest at.again at.far at.body rest in
       let count : slice_index new d ≡ n - 1 = ap (slice_index new) at.same ∙ get_or-set_same cs c (n - 1) 0 within in
       let again' = subst (λ k. Left code new (suc d) at.q (repeat_then k at.inner at.fronts.rest)) count again in
       let all = body_left code new (suc d) (p + 1) at.q at.inner _ at.body again' in
       subst (λ st. Stepped code cs' (p + 1) vars cursors None st)
-          (sym (tick_front code cs supply l vars cursors _ _ at.fronts)) (record {
+      (sym (tick_front code cs supply l vars cursors _ _ at.fronts)) (record {
         depth = suc d;
         left = subst (λ k. Left code k (suc d) (p + 1) (at.inner ++ repeat_then (n - 1) at.inner at.fronts.rest))
             (sym is) all;
@@ -285,7 +285,7 @@ module _ (code : List Instr) (cs : List ℕ) (supply : Supply) (l : List Stmt) (
   unfolding tick
   repeat_tick m inner rest is =
       ap (λ k. tick_list supply (begin l vars cursors) k) is
-          ∙ ap (λ y. tick_by supply (begin l vars cursors) y rest) (outs-Repeat (suc m) inner)
+      ∙ ap (λ y. tick_by supply (begin l vars cursors) y rest) (outs-Repeat (suc m) inner)
 
   pub step_again : (back c m : ℕ) (cs' : List ℕ) → slice_get code p ≡ Some (i.Again c back) → c < length cs
       → slice_index cs c ≡ suc m
@@ -296,7 +296,7 @@ module _ (code : List Instr) (cs : List ℕ) (supply : Supply) (l : List Stmt) (
       let rest : Left code new c (p + 1) at.rest = above code cs new c (p + 1) at.rest (outer c m) at.later in
       let again = At_again c p at.start back at.inner at.rest g at.far at.body rest in
       let count : slice_index new c ≡ suc m - 1 = get_or-set_same cs c m 0 within
-          ∙ (let e : m ≡ suc m - 1 = omega arith in e) in
+      ∙ (let e : m ≡ suc m - 1 = omega arith in e) in
       let again' = subst (λ k. Left code new (suc c) p (repeat_then k at.inner at.rest)) count again in
       let all = body_left code new (suc c) at.start p at.inner _ at.body again' in
       let start : at.start ≡ p - back = omega (arith, at.far) in
@@ -305,7 +305,7 @@ module _ (code : List Instr) (cs : List ℕ) (supply : Supply) (l : List Stmt) (
         depth = suc c;
         left = subst (λ k. Left code cs' (suc c) k (at.inner ++ repeat_then (suc m - 1) at.inner at.rest)) start
             (subst (λ k. Left code k (suc c) at.start (at.inner ++ repeat_then (suc m - 1) at.inner at.rest))
-                (sym is) all);
+            (sym is) all);
         vars_are = refl;
         cursors_are = refl;
         effects_are = refl;

@@ -1,4 +1,4 @@
--- Turns of work, and a tick with the places behind it.
+-- Turns of work, and a tick with the places after it.
 use Rattle.std.proofs.Common.{Bool, ◌↔◌, IsTrue, ◌≡◌, ◌≢◌, ℕ, ℤ, zero, suc, ◌+◌, ◌-◌, ◌≤◌, List, [], Option, None, refl, sym, ap, subst, ◌∙◌, arith}
 use Rattle.task_lang.specs.declared.tick.Effect.{Effect}
 use Rattle.task_lang.specs.declared.syntax.Stmt.{Stmt}
@@ -23,9 +23,9 @@ ticks_work supply (suc k) (suc w) below vars cursors le =
     let rest : w - k ≡ suc w - suc k = omega arith in
     let one : tick supply (begin (work_then (suc w) below) vars cursors) ≡ begin (work_then w below) vars cursors =
     ap (λ y. tick_by supply (begin (work_then (suc w) below) vars cursors) y below) (outs-Work (suc w))
-        ∙ ap (λ n. begin (work_then n below) vars cursors) less in
+    ∙ ap (λ n. begin (work_then n below) vars cursors) less in
     ap (ticks supply k) one ∙ ticks_work supply k w below vars cursors (omega arith)
-        ∙ ap (λ n. begin (work_then n below) vars cursors) rest
+    ∙ ap (λ n. begin (work_then n below) vars cursors) rest
 
 -- the state that work leaves
 pub worked : (code : List Instr) (cs : List ℕ) (l : List Stmt) (p w k : ℕ) (r : Rests code cs l p w) (supply : Supply)
@@ -39,13 +39,13 @@ pub advanced : (code : List Instr) (f : Frame) (vars : List ℤ) (cursors : List
     → Advanced code f vars cursors None state
 advanced code f vars cursors l state is at =
     subst (λ x. Advanced code f vars cursors None x) (sym is)
-        (record { is_at = at; vars_are = refl; cursors_are = refl; effects_are = refl })
+    (record { is_at = at; vars_are = refl; cursors_are = refl; effects_are = refl })
 
 rests_moved : (code : List Instr) (l : List Stmt) (cs cs' : List ℕ) (p p' w w' : ℕ) → cs' ≡ cs → p' ≡ p → w' ≡ w
     → Rests code cs l p w → Rests code cs' l p' w'
 rests_moved code l cs cs' p p' w w' a b c r =
     subst (λ k. Rests code k l p' w') (sym a)
-        (subst (λ k. Rests code cs l k w') (sym b) (subst (λ k. Rests code cs l p k) (sym c) r))
+    (subst (λ k. Rests code cs l k w') (sym b) (subst (λ k. Rests code cs l p k) (sym c) r))
 
 work_some : (w : ℕ) (below : List Stmt) → w ≢ 0 → work_then w below ≢ []
 work_some zero below some = absurd (some refl)
@@ -72,8 +72,13 @@ module _ (code : List Instr) (cs : List ℕ) (supply : Supply) (l : List Stmt) (
       → ((m : List Stmt) → Left code cs d (p + 1) m → IsAt code f m) → Advanced code f vars cursors' None state
   taken_zero v cursors' state f t none settled =
       let is : state.left ≡ t.below = t.left_is ∙ ap (λ n. work_then n t.below) none in
-      record { is_at = subst (IsAt code f) (sym is) (settled t.below t.later); vars_are = t.vars_are; cursors_are =
-          t.cursors_are; effects_are = t.effects_are }
+      record {
+        is_at = subst (IsAt code f) (sym is) (settled t.below t.later);
+        vars_are = t.vars_are;
+        cursors_are =
+            t.cursors_are;
+        effects_are = t.effects_are;
+      }
 
   pub taken_some : (v : ℕ) (cursors' : List ℕ) (state : State) (f : Frame)
       → Taken code cs supply l vars cursors d p left v cursors' state → v ≢ 0
@@ -105,5 +110,10 @@ pub settled : (code : List Instr) (cs : List ℕ) (p : ℕ) (f : Frame) (vars : 
     → Stepped code cs p vars cursors effect state → ((d : ℕ) (l : List Stmt) → Left code cs d p l → IsAt code f l)
     → Advanced code f vars cursors effect state
 settled code cs p f vars cursors effect state s at =
-    record { is_at = at s.depth state.left s.left; vars_are = s.vars_are; cursors_are = s.cursors_are; effects_are =
-        s.effects_are }
+    record {
+      is_at = at s.depth state.left s.left;
+      vars_are = s.vars_are;
+      cursors_are = s.cursors_are;
+      effects_are =
+          s.effects_are;
+    }

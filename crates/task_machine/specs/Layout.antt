@@ -32,7 +32,7 @@ abbrev pub joined : ℕ → List (ℕ → List Instr) → List Instr
 joined depth [] = []
 joined depth (code ∷ codes) = code depth ++ joined depth codes
 
--- one statement under so many repetitions, with the code of each inner statement in its place
+-- one statement inside n repetitions, with the code of each inner statement in its place
 abbrev pub stmt_step : Stmt-F (ℕ → List Instr) → ℕ → List Instr
 stmt_step (Stmt-F.Work ticks) depth = i.Work ticks ∷ []
 stmt_step (Stmt-F.Take demand) depth = i.Take demand ∷ []
@@ -45,7 +45,7 @@ stmt_step (Stmt-F.Service call) depth = i.Service call ∷ []
 abbrev pub stmt_code : Stmt → ℕ → List Instr
 stmt_code = fold-Stmt (ℕ → List Instr) stmt_step
 
--- the code of a body under so many repetitions, each of which has a counter of its own
+-- the code of a body inside n repetitions, each of which has a counter of its own
 abbrev pub body_code : ℕ → List Stmt → List Instr
 body_code depth body = joined depth (map stmt_code body)
 
@@ -70,7 +70,7 @@ abbrev pub term_in : Option Instr → Option Term
 term_in (Some (i.Term term)) = Some term
 term_in _ = None
 
--- The numbers of an instruction are in range, at a place of a code of so many instructions.
+-- The numbers of an instruction are in range, at a place of a code of n instructions.
 abbrev pub IsInRange : (len place : ℕ) → Instr → Type 0
 IsInRange len p (i.Work ticks) = 1 ≤ ticks
 IsInRange len p (i.If passed) = passed ≤ len

@@ -8,7 +8,7 @@ use Rattle.task_machine.specs.Layout.{layer_code, body_code, Stands}
 use Rattle.task_machine.specs.declared.instr.Instr.{Instr}
 use Rattle.task_machine.specs.declared.instr.Instr.TheVariants as i
 
--- Under so many repetitions, at this place of the code, these statements are left. The counters say how many turns
+-- Inside n repetitions, at this place of the code, these statements are left. The counters say how many turns
 -- are left.
 pub data Left (code : List Instr) (counters : List ℕ) : ℕ → ℕ → List Stmt → Type 0 where
   At_end : (p : ℕ) → length code ≤ p → Left code counters 0 p []

@@ -104,7 +104,7 @@ left_around code counters [] = []
 left_around code counters (First second rest ∷ around) = rest ++ left_around code counters around
 left_around code counters (Turn counter from_end rest ∷ around) =
     repeat_then (slice_index counters counter) (seen_at code (length code - from_end)).block
-        (rest ++ left_around code counters around)
+    (rest ++ left_around code counters around)
 
 -- the statements that are left at a place of the code
 unfoldable pub left_at : List Instr → (counters : List ℕ) → ℕ → List Stmt

@@ -27,7 +27,7 @@ pub fn compile(alloc: Global, body: &Body) -> Result<Code, Memory>
     Ok(Code { instrs })
 }
 
-/// The instructions of a body under so many repetitions.
+/// The instructions of a body inside this number of repetitions.
 #[cycle(emitting)]
 fn body_instrs(alloc: Global, body: &[Stmt], depth: u8) -> Result<Vec<Instr>, AllocError>
     requires nested { depth + nesting_in body.now ≤ 4 }

@@ -23,13 +23,14 @@ pub enum Instr {
     Take(DemandNo),
     /// A variable gets the value of the expression.
     Set(VarNo),
-    /// Where the expression is 0, so many instructions after it are passed.
+    /// Where the expression is 0, this number of instructions after it is passed.
     If(usize),
     /// So many instructions are passed, in no time.
     Skip(usize),
     /// The counter that it sets, and the turns of the body that follows.
     Repeat(u8, u16),
-    /// The end of a body: while its counter is not 0, one turn more, so many instructions back.
+    /// The end of a body: while its counter is not 0, one turn more, this number of instructions
+    /// back.
     Again(u8, usize),
     /// Puts out the value of the expression.
     Out,

@@ -50,7 +50,7 @@ module _ {O : Type 0} (written : O → Option (List ℕ)) where
       record {
         part = part_of_front (written (sink_of s).now) (written (sink_of t).now) both rest
             (waiting_in s ++ ((first ++ second) ++ rest))
-                (sym (append_assoc (waiting_in s) (first ++ second) rest)) part;
+            (sym (append_assoc (waiting_in s) (first ++ second) rest)) part;
         same_sink = q.same_sink ∙ p.same_sink;
         over = q.over;
       }

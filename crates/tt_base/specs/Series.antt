@@ -3,6 +3,6 @@ use Rattle.std.specs.Prelude.{ℕ, List, slice_set}
 use Rattle.std.specs.Borrow.{Lends, RattleType, MutBor, Fml}
 use Rattle.tt_base.specs.contracts.series.Series.{the_row}
 
--- the list ends with the last value behind r at this place
+-- the list ends with the last value that r had at this place
 abbrev pub LendsItem : (T : RattleType) → MutBor (List T.Denot) → ℕ → MutBor T.Denot → Fml
 LendsItem T list place r = Lends (the_row T) T list r (slice_set list.now place)

@@ -52,7 +52,7 @@ module _ (d : Document) where
   join_none number [] others kept = ap (λ n. first_broken n others d) (omega arith)
   join_none number (rule ∷ first) others kept =
       none_then number (least_line (rule d)) (first_broken (number + 1) first d)
-          (first_broken (number + 1) (first ++ others) d) (first_broken (number + length (rule ∷ first)) others d) kept
+      (first_broken (number + 1) (first ++ others) d) (first_broken (number + length (rule ∷ first)) others d) kept
       (λ later. join_none (number + 1) first others later ∙ ap (λ n. first_broken n others d) (omega arith))
 
   -- where one of the first rules is broken, it is that one
@@ -61,7 +61,7 @@ module _ (d : Document) where
   join_some number [] others broken is = cc
   join_some number (rule ∷ first) others broken is =
       some_then number (least_line (rule d)) (first_broken (number + 1) first d)
-          (first_broken (number + 1) (first ++ others) d) broken is
+      (first_broken (number + 1) (first ++ others) d) broken is
       (λ later. join_some (number + 1) first others broken later)
 
 -- ---- the groups in which the rules are asked
@@ -95,7 +95,7 @@ module _ (d : Document) where
       → Some broken ≡ first_broken 9 later_rules d
   later_three broken a b c =
       sym (join_none d 9 declaration_rules (body_rules ++ (table_rules ++ input_rules)) (sym a)
-          ∙ join_none d 14 body_rules (table_rules ++ input_rules) (sym b)
+      ∙ join_none d 14 body_rules (table_rules ++ input_rules) (sym b)
       ∙ join_some d 18 table_rules input_rules broken (sym c))
 
   pub later_rest : None ≡ first_broken 9 declaration_rules d → None ≡ first_broken 14 body_rules d
@@ -103,7 +103,7 @@ module _ (d : Document) where
       → first_broken 25 input_rules d ≡ first_broken 9 later_rules d
   later_rest a b c =
       sym (join_none d 9 declaration_rules (body_rules ++ (table_rules ++ input_rules)) (sym a)
-          ∙ join_none d 14 body_rules (table_rules ++ input_rules) (sym b)
+      ∙ join_none d 14 body_rules (table_rules ++ input_rules) (sym b)
       ∙ join_none d 18 table_rules input_rules (sym c))
 
 module _ (rows : List NumberedRow) where

@@ -46,7 +46,7 @@ module _ (names : List NameEntry) where
       → nat_lt (number_named names name) (count_of kind names) ≡ true
   one_known kind name known =
       lt-ltb (number_named names name) (count_of kind names)
-          (number_below names kind name (and_parts (is_declared names (uses kind name)) true known).0)
+      (number_below names kind name (and_parts (is_declared names (uses kind name)) true known).0)
 
   items_sound : (row : Row) → is_sound_row row ≡ true → list_all is_sound_item (items_of row) ≡ true
   items_sound row sound = (and_parts (list_all is_sound_item (items_of row)) _ sound).0
@@ -59,7 +59,7 @@ module _ (names : List NameEntry) where
   row_short (r.Set var terms) fit =
       let items = items_sound (r.Set var terms) fit.sound in
       short-last names (r.Set var terms) (codes "set" ∷ var ∷ []) terms fit.sound
-          (last_sound terms (and_parts (is_name var) _ items).1) refl
+      (last_sound terms (and_parts (is_name var) _ items).1) refl
   row_short (r.If terms) fit =
       short-last names (r.If terms) (codes "if" ∷ []) terms fit.sound
       (last_sound terms (items_sound (r.If terms) fit.sound)) refl
@@ -79,7 +79,7 @@ module _ (names : List NameEntry) where
       let both = and_parts here _ fit.known in
       and_from (nat_lt (number_named names var) (count_of Kind.Var names)) _
       (lt-ltb (number_named names var) (count_of Kind.Var names) (number_below names Kind.Var var both.0))
-          (reads-expression_of names terms both.1)
+      (reads-expression_of names terms both.1)
   row_variables (r.If terms) fit = reads-expression_of names terms fit.known
   row_variables (r.Out terms) fit = reads-expression_of names terms fit.known
   row_variables row fit = refl
@@ -98,7 +98,7 @@ module _ (names : List NameEntry) where
 
   pub row_callee : (row : Row) → IsRowFit names row
       → passes (λ k. has_callee (count_of Kind.Mode names) (count_of Kind.Osek names))
-          (λ k. shallow_callee) names owner.Task (head_of names row) ≡ true
+      (λ k. shallow_callee) names owner.Task (head_of names row) ≡ true
   row_callee (r.Switch mode) fit = one_known Kind.Mode mode fit.known
   row_callee (r.Activate task) fit = one_known Kind.Osek task fit.known
   row_callee (r.Chain task) fit = one_known Kind.Osek task fit.known

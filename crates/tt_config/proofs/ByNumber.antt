@@ -34,19 +34,19 @@ same_each : {X : Type 0} (f : ℕ → X) (n : ℕ) (xs : List X) (d : X) → len
     → ((k : ℕ) → k < n → get_or xs k d ≡ f k) → xs ≡ map f (below n)
 same_each f n xs d long each =
     ext_get_or d xs (map f (below n)) (long ∙ sym (length-each f n))
-        (λ k lt. let less : k < n = omega arith in each k less ∙ sym (get_or-each f n k d less))
+    (λ k lt. let less : k < n = omega arith in each k less ∙ sym (get_or-each f n k d less))
 
 module _ {A B : Type 0} (count : ℕ) (place : A → Option (ℕ × B)) where
   -- at first none
   pub by_number-first : (lists : List (List B)) → lists ≡ replicate count [] → lists ≡ by_number count place []
   by_number-first lists is =
       is ∙ same_each (given place []) count (replicate count []) [] (length-replicate count [])
-          (λ k lt. get_or-replicate count k [] [] lt)
+      (λ k lt. get_or-replicate count k [] [] lt)
 
   given-push : (xs : List A) (x : A) (k : ℕ) → given place (xs ++ x ∷ []) k ≡ given place xs k ++ at_number k (place x)
   given-push xs x k =
       flat_map-append (λ y. at_number k (place y)) xs (x ∷ [])
-          ∙ ap (λ ys. given place xs k ++ ys) (append-nil (at_number k (place x)))
+      ∙ ap (λ ys. given place xs k ++ ys) (append-nil (at_number k (place x)))
 
   put_one : (xs : List A) (o : Option (ℕ × B)) (k : ℕ) → k < count
       → get_or (put_at o (by_number count place xs)) k [] ≡ given place xs k ++ at_number k o
@@ -58,7 +58,7 @@ module _ {A B : Type 0} (count : ℕ) (place : A → Option (ℕ × B)) where
     here : p.0 ≡ k → get_or (set lists p.0 (get_or lists p.0 [] ++ p.1 ∷ [])) k [] ≡ given place xs k ++ p.1 ∷ []
     here same =
         get_or-set_at lists p.0 k (get_or lists p.0 [] ++ p.1 ∷ []) [] (sym same)
-            (omega (arith, length-each (given place xs) count))
+        (omega (arith, length-each (given place xs) count))
         ∙ ap (λ ys. ys ++ p.1 ∷ []) (ap (λ m. get_or lists m []) same ∙ get_or-each (given place xs) count k [] lt)
 
     by : (same : Bool) → (p.0 == k) ≡ same
@@ -68,7 +68,7 @@ module _ {A B : Type 0} (count : ℕ) (place : A → Option (ℕ × B)) where
     by false is =
         let apart : k ≢ p.0 = grind (arith, nat_tests) in
         get_or-set_other lists p.0 k (get_or lists p.0 [] ++ p.1 ∷ []) [] apart
-            ∙ get_or-each (given place xs) count k [] lt ∙ sym (append-nil (given place xs k))
+        ∙ get_or-each (given place xs) count k [] lt ∙ sym (append-nil (given place xs k))
 
   length-put : (xs : List A) (o : Option (ℕ × B)) → length (put_at o (by_number count place xs)) ≡ count
   length-put xs None = length-each (given place xs) count
@@ -78,7 +78,7 @@ module _ {A B : Type 0} (count : ℕ) (place : A → Option (ℕ × B)) where
   put-push : (xs : List A) (x : A) → put_at (place x) (by_number count place xs) ≡ by_number count place (xs ++ x ∷ [])
   put-push xs x =
       same_each (given place (xs ++ x ∷ [])) count (put_at (place x) (by_number count place xs)) []
-          (length-put xs (place x))
+      (length-put xs (place x))
       (λ k lt. put_one xs (place x) k lt ∙ sym (given-push xs x k))
 
   -- one part more
@@ -89,6 +89,6 @@ module _ {A B : Type 0} (count : ℕ) (place : A → Option (ℕ × B)) where
   by_number-more xs i x lists more o lt is before gives put =
       let whole : parts (take (i + 1) xs) ≡ parts (take i xs) ++ x.part ∷ [] =
       ap parts (take_more xs i x lt ∙ ap (λ (y : At A). take i xs ++ y ∷ []) (sym is))
-          ∙ map-append (λ (y : At A). y.part) (take i xs) (x ∷ []) in
+      ∙ map-append (λ (y : At A). y.part) (take i xs) (x ∷ []) in
       put ∙ ap (λ p. put_at p lists) gives ∙ ap (put_at (place x.part)) before ∙ put-push (parts (take i xs)) x.part
-          ∙ ap (by_number count place) (sym whole)
+      ∙ ap (by_number count place) (sym whole)

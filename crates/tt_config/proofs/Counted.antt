@@ -51,8 +51,13 @@ module _ {A : Type 0} (kind : NameKind) (part_of : Row → Option A)
   count_parts : (rows : List NumberedRow) → count_of kind (names_in rows) ≡ length (parts (each_at part_of rows))
   count_parts [] = refl
   count_parts (row ∷ rows) =
-      omega (arith, count-then kind row.line (declared_in row.row) (each_at declared_in rows),
-          length-then row.line (part_of row.row) (each_at part_of rows), ap one_if (same row.row), count_parts rows)
+      omega (
+        arith,
+        count-then kind row.line (declared_in row.row) (each_at declared_in rows),
+        length-then row.line (part_of row.row) (each_at part_of rows),
+        ap one_if (same row.row),
+        count_parts rows,
+      )
 
 -- what a body gives that there may be
 abbrev owned : {A : Type 0} → (BodyPart → List A) → Option BodyPart → List A
@@ -75,9 +80,13 @@ module _ {A : Type 0} (kind : NameKind) (part_in : BodyPart → List A)
   count_owners [] = refl
   count_owners (row ∷ rows) =
       let rest = branches_from names rows in
-      omega (arith, count-then kind row.line (declared_in row.row) (each_at declared_in rows),
-          length-owned row.line (body_of (owner_in row.row) rest) (bodies_of names rows), one row.row rest,
-          count_owners rows)
+      omega (
+        arith,
+        count-then kind row.line (declared_in row.row) (each_at declared_in rows),
+        length-owned row.line (body_of (owner_in row.row) rest) (bodies_of names rows),
+        one row.row rest,
+        count_owners rows,
+      )
 
 -- ---- each kind
 

@@ -69,8 +69,8 @@ module _ (number_of : Owner → Option ℕ) where
   fields field part_in same [] = refl
   fields field part_in same (b ∷ bodies) =
       map-append field (part_in b) (flat_map part_in bodies)
-          ∙ ap (λ ns. ns ++ map field (flat_map part_in bodies)) (same b)
-          ∙ ap (λ ns. told (key b) ++ ns) (fields field part_in same bodies)
+      ∙ ap (λ ns. ns ++ map field (flat_map part_in bodies)) (same b)
+      ∙ ap (λ ns. told (key b) ++ ns) (fields field part_in same bodies)
 
   fields_distinct : {A : Type 0} (field : A → ℕ) (part_in : BodyPart → List A)
       → ((b : BodyPart) → map field (part_in b) ≡ told (key b)) → (bodies : List (At BodyPart))
@@ -78,7 +78,7 @@ module _ (number_of : Owner → Option ℕ) where
   fields_distinct field part_in same bodies is =
       ap are_distinct (fields field part_in same (parts bodies))
       ∙ distinct (parts bodies) (pairs_differ (same_by same_number key) (parts bodies)
-          (kept_one 1 (Differ (same_by same_number key)) bodies is))
+      (kept_one 1 (Differ (same_by same_number key)) bodies is))
 
 module _ (demands : List Demand) where
   level_told : (body : List Stmt) (o : Owner)

@@ -73,4 +73,4 @@ module _ (rows : List NumberedRow) where
   elaborated_tellable d bodies is same short is_2 is_3 none =
       subst (AreTellable d.demands) (sym same)
       (subst (λ (e : Elaborated). AreTellable e.demands e.bodies) (sym is)
-          (tellable rows short is_2 is_3 (kept (document_of rows) 9 declaration_rules (sym none) 0)))
+      (tellable rows short is_2 is_3 (kept (document_of rows) 9 declaration_rules (sym none) 0)))

@@ -64,7 +64,7 @@ short-expression_of : (names : List NameEntry) (terms : List Term) → length te
 short-expression_of names terms few =
     let short : terms_of (expression_of names terms) ≤ 100 =
     few-first_or_zero (expressions_of names terms) 100 (omega arith)
-        (omega (arith, terms-expressions_of names terms)) in
+    (omega (arith, terms-expressions_of names terms)) in
     grind (arith, nat_tests, short)
 
 -- ---- a word of an expression has a byte
@@ -132,7 +132,7 @@ pub short-last : (names : List NameEntry) (row : Row) (before : List (List ℕ))
 short-last names row before terms sound last line =
     short-expression_of names terms (few_terms before terms last
     (subst (λ bytes. nat_le (length bytes) 200 ≡ true) line
-        (and_right (list_all is_sound_item (items_of row)) _ sound)))
+    (and_right (list_all is_sound_item (items_of row)) _ sound)))
 
 -- ---- the variables
 
@@ -148,7 +148,7 @@ module _ (names : List NameEntry) where
       let after = and_right (reads left) _ each in
       and_from (reads _) _
       (fold-Bin Bool (reads_step (count_of Kind.Var names)) op left right
-          ∙ and_from (reads left) (reads right) (and_left (reads left) _ each) (and_left (reads right) _ after))
+      ∙ and_from (reads left) (reads right) (and_left (reads left) _ each) (and_left (reads right) _ after))
       (and_right (reads right) _ after)
 
   reads-expressions_of : (terms : List Term) → list_all (is_declared names) (flat_map used_by_term terms) ≡ true
@@ -156,13 +156,13 @@ module _ (names : List NameEntry) where
   reads-expressions_of [] known = refl
   reads-expressions_of (term.Int value ∷ terms) known =
       and_from (reads _) _ (fold-Const Bool (reads_step (count_of Kind.Var names)) value)
-          (reads-expressions_of terms known)
+      (reads-expressions_of terms known)
   reads-expressions_of (term.Name name ∷ terms) known =
       let here = is_declared names (uses Kind.Var name) in
       and_from (reads _) _
       (fold-Var Bool (reads_step (count_of Kind.Var names)) (record { 0 = number_named names name })
       ∙ lt-ltb (number_named names name) (count_of Kind.Var names)
-          (number_below names Kind.Var name (and_left here _ known)))
+      (number_below names Kind.Var name (and_left here _ known)))
       (reads-expressions_of terms (and_right here _ known))
   reads-expressions_of (term.Op op ∷ terms) known =
       reads-operator_then op (expressions_of names terms) (reads-expressions_of terms known)

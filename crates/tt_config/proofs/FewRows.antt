@@ -21,5 +21,8 @@ pub few_rows-last : (rows : List NumberedRow) (last : NumberedRow) → AreSound 
     → length rows < 2 ^ 32
 few_rows-last [] last sound is below = omega arith
 few_rows-last (row ∷ rows) last sound is below =
-    omega (arith, last_bound 1 row last rows sound.ascending
-        (subst (λ n. slice_get (row ∷ rows) n ≡ Some last) (omega arith) is))
+    omega (
+      arith,
+      last_bound 1 row last rows sound.ascending
+          (subst (λ n. slice_get (row ∷ rows) n ≡ Some last) (omega arith) is),
+    )

@@ -54,13 +54,17 @@ below [] place entry is = cc
 below (first ∷ names) zero entry is =
     let one : first ≡ entry = cc in
     let same : is_same_kind entry.kind first.kind ≡ true = ap (λ (e : NameEntry). is_same_kind entry.kind e.kind) one
-        ∙ same_itself entry.kind in
+    ∙ same_itself entry.kind in
     let more : count_of entry.kind (first ∷ names) ≡ 1 + count_of entry.kind names = count-cons entry.kind first names
-        ∙ ap (λ b. one_if b + count_of entry.kind names) same in
+    ∙ ap (λ b. one_if b + count_of entry.kind names) same in
     omega (arith, more)
 below (first ∷ names) (suc place) entry is =
-    omega (arith, count-cons entry.kind first names, count-cons entry.kind first (take place names),
-    below names place entry is)
+    omega (
+      arith,
+      count-cons entry.kind first names,
+      count-cons entry.kind first (take place names),
+      below names place entry is,
+    )
 
 -- how many names have a kind at a place among the kinds
 abbrev count_at : ℕ → List NameEntry → ℕ
@@ -85,7 +89,7 @@ module _ (names : List NameEntry) (kind : NameKind) (name : List ℕ) where
       let same = either_same (is_same_kind (kind_of (declared e.kind number)) kind) has in
       let index : index_of e.kind ≡ index_of kind =
       sym (ap index_of (kind_of-declared e.kind number))
-          ∙ eqb-true (index_of (kind_of (declared e.kind number))) (index_of kind) same in
+      ∙ eqb-true (index_of (kind_of (declared e.kind number))) (index_of kind) same in
       omega (arith, number_of-declared e.kind number, below names place e is, ap (λ n. count_at n names) index)
 
   at_place : (place : Option ℕ) → IsBelow (option_and_then (declared_at names) place)

@@ -31,13 +31,13 @@ use Rattle.tt_rules.proofs.SoundBodies.{block_head, formed, has_block, opens_kin
 module _ (names : List NameEntry) (P : List Stmt → Type 0) (H : List NumberedRow → Type 0)
     (more : (row : NumberedRow) (rows : List NumberedRow) → H (row ∷ rows) → H rows)
     (here : (row : NumberedRow) (rows : List NumberedRow) (owner : Owner) → owner_in row.row ≡ Some owner
-        → H (row ∷ rows) → P (first_branch (branches_from names rows))) where
+    → H (row ∷ rows) → P (first_branch (branches_from names rows))) where
   each_body : (rows : List NumberedRow) → H rows → Each (λ (x : At BodyPart). P x.part.body) (bodies_of names rows)
   each_body [] h = tt
   each_body (row ∷ rows) h = by (owner_in row.row) refl (each_body rows (more row rows h)) where
     by : (o : Option Owner) → owner_in row.row ≡ o → Each (λ (x : At BodyPart). P x.part.body) (bodies_of names rows)
         → Each (λ (x : At BodyPart). P x.part.body)
-            (at_then row.line (body_of o (branches_from names rows)) (bodies_of names rows))
+        (at_then row.line (body_of o (branches_from names rows)) (bodies_of names rows))
     by None is rest = rest
     by (Some owner) is rest = (here row rows owner is h, rest)
 
@@ -107,7 +107,7 @@ low-block own inner outer (Some head) (inside ∷ (b ∷ rest)) there some =
     let first : nesting_in inside.first + suc (length outer) ≤ 4 = there.0.first in
     let second : nesting_in inside.second + suc (length outer) ≤ 4 = there.0.second in
     let own_ : nesting_of (statement_of head inside.first inside.second) ≤ 1 + (3 - length outer) =
-        nesting-block head inside.first inside.second (3 - length outer) (omega arith) (omega arith) in
+    nesting-block head inside.first inside.second (3 - length outer) (omega arith) (omega arith) in
     (record { first = omega (arith, own_, there.1.0.first); second = there.1.0.second }, there.1.1)
 
 low-else : (inner : Open) (outer : List Open) (head : Option Head) (rest : List Branches) → length outer ≤ 4
@@ -182,7 +182,7 @@ record AreInBlocks (rows : List NumberedRow) : Type 0 where
 in_blocks-more : (row : NumberedRow) (rows : List NumberedRow) → AreInBlocks (row ∷ rows) → AreInBlocks rows
 in_blocks-more row rows h =
     let three = none-here (is_block_high h.stack row.row) row.line
-        (lines_3_from (stack_then h.stack (standing_of row.row)) rows) h.few in
+    (lines_3_from (stack_then h.stack (standing_of row.row)) rows) h.few in
     record {
       stack = stack_then h.stack (standing_of row.row);
       last = row.line;
@@ -201,7 +201,7 @@ module _ (names : List NameEntry) where
     by (inner ∷ outer) = tt
   low-branches (row ∷ rows) h =
       low-row h.stack (standing_of row.row) (head_of names row.row) (branches_from names rows) h.low
-          (formed h.stack h.last row rows h.formed_).0
+      (formed h.stack h.last row rows h.formed_).0
       (row_flat names row.row) (block_head names row.row) (low-branches rows (in_blocks-more row rows h))
 
   low-opened : (stack : List Open) (own : _) (rest : List Branches) → is_misplaced stack (Opener own) ≡ false
@@ -218,16 +218,16 @@ module _ (names : List NameEntry) where
   low-body row rows owner is h =
       let opens_ = opens_kind row.row owner is in
       low-opened h.stack (kind_of owner) (branches_from names rows)
-          (subst (λ s. is_misplaced h.stack s ≡ false) opens_ (formed h.stack h.last row rows h.formed_).0)
+      (subst (λ s. is_misplaced h.stack s ≡ false) opens_ (formed h.stack h.last row rows h.formed_).0)
       (subst (λ s. AreLow (stack_then h.stack s) (branches_from names rows)) opens_
-          (low-branches rows (in_blocks-more row rows h)))
+      (low-branches rows (in_blocks-more row rows h)))
 
   -- 2, 3. Each body nests at most 4 deep.
   pub bodies_nested : (rows : List NumberedRow) → lines_2 rows ≡ [] → lines_3 rows ≡ []
       → Each (λ (x : At BodyPart). IsNestedInLimit x.part.body) (bodies_of names rows)
   bodies_nested rows is_2 is_3 =
       each_body names IsNestedInLimit AreInBlocks in_blocks-more low-body rows
-          (record { stack = []; last = 0; low = omega arith; formed_ = is_2; few = is_3 })
+      (record { stack = []; last = 0; low = omega arith; formed_ = is_2; few = is_3 })
 
 -- ---- how many statements
 
@@ -256,8 +256,11 @@ count-block : (head : Option Head) (rest : List Branches) → count_all (block_t
 count-block None rest = omega arith
 count-block (Some head) [] = omega arith
 count-block (Some head) (inner ∷ outer) =
-    omega (arith, count-statement_then (statement_of head inner.first inner.second) outer,
-        count-statement head inner.first inner.second)
+    omega (
+      arith,
+      count-statement_then (statement_of head inner.first inner.second) outer,
+      count-statement head inner.first inner.second,
+    )
 
 count-row : (standing : Standing) (head : Option Head) (rest : List Branches)
     → count_all (row_then standing head rest) ≤ 1 + count_all rest
@@ -277,8 +280,11 @@ module _ (names : List NameEntry) where
   count-branches : (rows : List NumberedRow) → count_all (branches_from names rows) ≤ length rows
   count-branches [] = omega arith
   count-branches (row ∷ rows) =
-      omega (arith, count-row (standing_of row.row) (head_of names row.row) (branches_from names rows),
-      count-branches rows)
+      omega (
+        arith,
+        count-row (standing_of row.row) (head_of names row.row) (branches_from names rows),
+        count-branches rows,
+      )
 
   count-first : (rest : List Branches) → count_in (first_branch rest) ≤ count_all rest
   count-first [] = omega arith

@@ -45,11 +45,11 @@ rows_fit rows sound is_9 is_14 =
     let K = λ (row : NumberedRow). known row.row ≡ true in
     let S = λ (row : NumberedRow). is_sound_row row.row ≡ true in
     each_weaker (λ row. N row × (K row × S row)) (λ row. IsRowFit (names_in rows) row.row)
-        (λ row h. record { numbers = h.0; known = h.1.0; sound = h.1.1 }) rows
+    (λ row h. record { numbers = h.0; known = h.1.0; sound = h.1.1 }) rows
     (each_both N (λ row. K row × S row) rows
-        (each_row has_numbers_in_range rows (kept_one 1 (Every has_numbers_in_range) (rows_at rows) is_9))
+    (each_row has_numbers_in_range rows (kept_one 1 (Every has_numbers_in_range) (rows_at rows) is_9))
     (each_both K S rows (each_row known rows (kept_one 1 (Every known) (rows_at rows) is_14))
-        (each_from_all (λ (row : NumberedRow). is_sound_row row.row) rows sound.sound)))
+    (each_from_all (λ (row : NumberedRow). is_sound_row row.row) rows sound.sound)))
 
 -- a fact for a part that there may be
 abbrev pub IfPart : {A : Type 0} → (A → Type 0) → Option A → Type 0
@@ -76,6 +76,6 @@ module _ (P : Owner → Type 0) (Q : Row → Type 0) (gives : (row : Row) → Q 
   each_owner (row ∷ rows) h = by (owner_in row.row) (gives row.row h.0) (each_owner rows h.1) where
     by : (o : Option Owner) → IfPart P o → Each (λ (x : At BodyPart). P x.part.owner) (bodies_of names rows)
         → Each (λ (x : At BodyPart). P x.part.owner)
-            (at_then row.line (body_of o (branches_from names rows)) (bodies_of names rows))
+        (at_then row.line (body_of o (branches_from names rows)) (bodies_of names rows))
     by None here rest = rest
     by (Some owner) here rest = (here, rest)

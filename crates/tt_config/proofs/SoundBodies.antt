@@ -83,15 +83,18 @@ fits_owner : (demands : List Demand) (body : List Stmt) (o : Owner) → IsInRang
     → is_hook o || nat_le (worst_in demands body) (10 ^ 12) ≡ true → FitsOwner demands body o
 fits_owner demands body (owner.Task stack) range light =
     (leb-true stack 65535 range, leb-true (worst_in demands body) (10 ^ 12) light)
-fits_owner demands body (owner.Isr level stack distance) range light =
-    (leb-true level 255 (and_parts (nat_le 1 level) (nat_le level 255) range.0).1,
-        (leb-true stack 65535 range.1.0, leb-true (worst_in demands body) (10 ^ 12) light))
-fits_owner demands body (owner.Osek priority auto) range light =
-    (leb-true priority 255 (and_parts (nat_le 1 priority) (nat_le priority 255) range).1,
-        leb-true (worst_in demands body) (10 ^ 12) light)
-fits_owner demands body (owner.Oisr priority) range light =
-    (leb-true priority 255 (and_parts (nat_le 1 priority) (nat_le priority 255) range).1,
-        leb-true (worst_in demands body) (10 ^ 12) light)
+fits_owner demands body (owner.Isr level stack distance) range light = (
+  leb-true level 255 (and_parts (nat_le 1 level) (nat_le level 255) range.0).1,
+  (leb-true stack 65535 range.1.0, leb-true (worst_in demands body) (10 ^ 12) light),
+)
+fits_owner demands body (owner.Osek priority auto) range light = (
+  leb-true priority 255 (and_parts (nat_le 1 priority) (nat_le priority 255) range).1,
+  leb-true (worst_in demands body) (10 ^ 12) light,
+)
+fits_owner demands body (owner.Oisr priority) range light = (
+  leb-true priority 255 (and_parts (nat_le 1 priority) (nat_le priority 255) range).1,
+  leb-true (worst_in demands body) (10 ^ 12) light,
+)
 fits_owner demands body owner.ErrorHook range light = tt
 fits_owner demands body owner.ShutdownHook range light = tt
 
@@ -124,14 +127,15 @@ module _ (rows : List NumberedRow) (short : length rows < 2 ^ 32) (is_2 : lines_
   tellable = by (bodies_of (names_in rows) rows) (bodies_nested (names_in rows) rows is_2 is_3)
       (bodies_counted (names_in rows) rows short)
       (bodies_pass is_number_in_range (shallow-number kind.Task) (names_in rows)
-          (λ row. has_numbers_in_range row ≡ true) (number_passes (names_in rows) kind.Task) rows is_2 in_range) where
+      (λ row. has_numbers_in_range row ≡ true) (number_passes (names_in rows) kind.Task) rows is_2 in_range) where
         by : (xs : List (At BodyPart)) → Each (λ (x : At BodyPart). IsNestedInLimit x.part.body) xs
             → Each (λ (x : At BodyPart). IsCountInLimit x.part.body) xs
             → Each (λ (x : At BodyPart). each_in is_number_in_range x.part.body ≡ true) xs → AreTellable demands xs
         by [] nested counted numbers = tt
-        by (x ∷ xs) nested counted numbers =
-            (record { nested = nested.0; counted = counted.0; numbers = numbers.0; mosts = mosts_in_range },
-                by xs nested.1 counted.1 numbers.1)
+        by (x ∷ xs) nested counted numbers = (
+          record { nested = nested.0; counted = counted.0; numbers = numbers.0; mosts = mosts_in_range },
+          by xs nested.1 counted.1 numbers.1,
+        )
 
 -- ---- bodies that break no rule
 
@@ -150,8 +154,16 @@ each_every test (x ∷ xs) is = let both = none-here (test x.part) x.line (faili
 
 module _ (c : ConfigParts) where
   hook : IsBody c kind.Hook []
-  hook = record { nested = omega arith; counted = omega arith; numbers = refl; expressions = refl; variables = refl;
-      demands = refl; callees = refl; allowed = refl }
+  hook = record {
+    nested = omega arith;
+    counted = omega arith;
+    numbers = refl;
+    expressions = refl;
+    variables = refl;
+    demands = refl;
+    callees = refl;
+    allowed = refl;
+  }
 
   first_good : (bodies : List (List Stmt)) → Each (IsBody c kind.Hook) bodies → IsBody c kind.Hook (first_body bodies)
   first_good [] h = hook
@@ -191,9 +203,14 @@ module _ (c : ConfigParts) where
 
   osek_good : (body : List Stmt) (o : Owner) → IsGood c (record { owner = o; body = body })
       → Each (IsOsek c) (osek_by c.demands body o)
-  osek_good body (owner.Osek priority auto) good =
-      (record { routine = routine_good body (owner.Osek priority auto) good refl; priority =
-      least priority good.range }, tt)
+  osek_good body (owner.Osek priority auto) good = (
+    record {
+      routine = routine_good body (owner.Osek priority auto) good refl;
+      priority =
+          least priority good.range;
+    },
+    tt,
+  )
   osek_good body other good = tt
 
   oisr_good : (body : List Stmt) (o : Owner) → IsGood c (record { owner = o; body = body })
@@ -231,17 +248,17 @@ module _ (rows : List NumberedRow) (rules : KeepBodyRules rows) where
   good_bodies : Each (λ (x : At BodyPart). IsGood c x.part) bodies
   good_bodies =
       by bodies (bodies_nested names rows rules.rule_2 rules.rule_3) (bodies_counted names rows rules.short)
-          (bodies_sound names rows rules.rule_2 rules.rule_9 rules.rule_15)
+      (bodies_sound names rows rules.rule_2 rules.rule_9 rules.rule_15)
       (bodies_pass is_expression_short (shallow_expressions names) names (IsRowFit names)
-          (row_short names) rows rules.rule_2 fit)
+      (row_short names) rows rules.rule_2 fit)
       (bodies_pass (has_variables (count_of Kind.Var names)) (shallow_variables names) names (IsRowFit names)
-          (row_variables names) rows rules.rule_2 fit)
+      (row_variables names) rows rules.rule_2 fit)
       (bodies_pass (has_demand (count_of Kind.Demand names)) (shallow_demand names) names (IsRowFit names)
-          (row_demand names) rows rules.rule_2 fit)
+      (row_demand names) rows rules.rule_2 fit)
       (bodies_pass (has_callee (count_of Kind.Mode names) (count_of Kind.Osek names)) (shallow_callee names) names
-          (IsRowFit names) (row_callee names) rows rules.rule_2 fit)
+      (IsRowFit names) (row_callee names) rows rules.rule_2 fit)
       ranges (each_every has_statement bodies rules.rule_16)
-          (each_every (is_light c.demands) bodies rules.rule_17) where
+      (each_every (is_light c.demands) bodies rules.rule_17) where
         by : (xs : List (At BodyPart)) → Each (λ (x : At BodyPart). IsNestedInLimit x.part.body) xs
             → Each (λ (x : At BodyPart). IsCountInLimit x.part.body) xs
             → Each (λ (x : At BodyPart). IsBodySound x.part) xs
@@ -249,7 +266,7 @@ module _ (rows : List NumberedRow) (rules : KeepBodyRules rows) where
             → Each (λ (x : At BodyPart). each_in (has_variables (count_of Kind.Var names)) x.part.body ≡ true) xs
             → Each (λ (x : At BodyPart). each_in (has_demand (count_of Kind.Demand names)) x.part.body ≡ true) xs
             → Each (λ (x : At BodyPart). each_in
-                (has_callee (count_of Kind.Mode names) (count_of Kind.Osek names)) x.part.body ≡ true) xs
+            (has_callee (count_of Kind.Mode names) (count_of Kind.Osek names)) x.part.body ≡ true) xs
             → Each (λ (x : At BodyPart). IsInRange x.part.owner) xs
             → Each (λ (x : At BodyPart). has_statement x.part ≡ true) xs
             → Each (λ (x : At BodyPart). is_light c.demands x.part ≡ true) xs
@@ -304,12 +321,14 @@ module _ (rows : List NumberedRow) (rules : KeepBodyRules rows) where
   pub bodies_fit : AreFit c.demands bodies
   bodies_fit = by bodies (tellable rows rules.short rules.rule_2 rules.rule_3 rules.rule_9) ranges
       (each_every (is_light c.demands) bodies rules.rule_17) where
-    by : (xs : List (At BodyPart)) → AreTellable c.demands xs → Each (λ (x : At BodyPart). IsInRange x.part.owner) xs
-        → Each (λ (x : At BodyPart). is_light c.demands x.part ≡ true) xs → AreFit c.demands xs
-    by [] told range light = tt
-    by (x ∷ xs) told range light =
-        (record { tellable = told.0; owner = fits_owner c.demands x.part.body x.part.owner range.0 light.0 },
-            by xs told.1 range.1 light.1)
+        by : (xs : List (At BodyPart)) → AreTellable c.demands xs
+            → Each (λ (x : At BodyPart). IsInRange x.part.owner) xs
+            → Each (λ (x : At BodyPart). is_light c.demands x.part ≡ true) xs → AreFit c.demands xs
+        by [] told range light = tt
+        by (x ∷ xs) told range light = (
+          record { tellable = told.0; owner = fits_owner c.demands x.part.body x.part.owner range.0 light.0 },
+          by xs told.1 range.1 light.1,
+        )
 
 pub law : BodiesAreSound
 unfolding config_of

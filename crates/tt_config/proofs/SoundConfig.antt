@@ -59,13 +59,13 @@ module _ (names : List NameEntry) where
   both_known : (kind other : NameKind) (one two : List ℕ)
       → is_declared names (uses kind one) && (is_declared names (uses other two) && true) ≡ true
       → nat_lt (number_named names one) (count_of kind names)
-          && nat_lt (number_named names two) (count_of other names) ≡ true
+      && nat_lt (number_named names two) (count_of other names) ≡ true
   both_known kind other one two known =
       let both = and_parts (is_declared names (uses kind one)) _ known in
       and_from (nat_lt (number_named names one) (count_of kind names)) _
-          (lt-ltb (number_named names one) (count_of kind names) (number_below names kind one both.0))
+      (lt-ltb (number_named names one) (count_of kind names) (number_below names kind one both.0))
       (lt-ltb (number_named names two) (count_of other names)
-          (number_below names other two (and_parts (is_declared names (uses other two)) true both.1).0))
+      (number_below names other two (and_parts (is_declared names (uses other two)) true both.1).0))
 
   entry_known : (row : Row) → IsRowFit names row → IfPart (λ x. is_known x ≡ true) (entry_in names row)
   entry_known (r.AtStringent offset mode task deadline) fit = both_known Kind.Mode Kind.Task mode task fit.known
@@ -89,22 +89,29 @@ module _ (rows : List NumberedRow) (sound : AreSound rows) (none : AreKept the_r
       let xs = parts (each_at (entry_in names) rows) in
       subst (λ n. list_all (is_entry_known (count_of Kind.Mode names) n (length c.isrs)) xs ≡ true) (named rows).tasks
       (subst (λ n. list_all (is_entry_known (count_of Kind.Mode names) (count_of Kind.Task names) n) xs ≡ true)
-          (named rows).isrs
+      (named rows).isrs
       (all_from_each (is_known names) xs
-          (each_part (λ x. is_known names x ≡ true) (IsRowFit names) (entry_in names) (entry_known names) rows
-          (rows_fit rows sound (none 8) (none 13)))))
+      (each_part (λ x. is_known names x ≡ true) (IsRowFit names) (entry_in names) (entry_known names) rows
+      (rows_fit rows sound (none 8) (none 13)))))
 
   modes_sound : All (IsMode c) c.modes
   modes_sound =
       let tables : AreTablesKept (c.round - c.adjust) (count_of Kind.Mode names) (each_at (entry_in names) rows) =
-          record { enables = none 18; deadlines = none 19; places = none 20; sources = none 21; apart = none 22; few =
-          none 23 } in
+      record {
+        enables = none 18;
+        deadlines = none 19;
+        places = none 20;
+        sources = none 21;
+        apart = none 22;
+        few =
+            none 23;
+      } in
       All-from_recursion (IsMode c) c.modes
       (each_map (IsMode c) (mode_with (parts (each_at (entry_in names) rows))) (below (count_of Kind.Mode names))
       (each_weaker (λ k. k < count_of Kind.Mode names)
-          (λ k. IsMode c (mode_with (parts (each_at (entry_in names) rows)) k))
+      (λ k. IsMode c (mode_with (parts (each_at (entry_in names) rows)) k))
       (λ k lt. mode_sound c (count_of Kind.Mode names) (each_at (entry_in names) rows) all_known tables k lt)
-          (below (count_of Kind.Mode names)) (each_below (count_of Kind.Mode names))))
+      (below (count_of Kind.Mode names)) (each_below (count_of Kind.Mode names))))
 
   body_rules : length rows < 2 ^ 32 → KeepBodyRules rows
   body_rules short = record {
@@ -122,7 +129,7 @@ module _ (rows : List NumberedRow) (sound : AreSound rows) (none : AreKept the_r
   config_sound : length rows < 2 ^ 32 → IsConfig c
   config_sound short =
       let declared : AreDeclarationsSound (declarations_of rows) =
-          declarations_sound (declarations_of rows) (none 3) (none 5) (none 6) (none 7) in
+      declarations_sound (declarations_of rows) (none 3) (none 5) (none 6) (none 7) in
       let bodies : HasSoundBodies c = bodies_are_sound rows (body_rules short) in
       let located = bodies_of names rows in
       record {
@@ -175,12 +182,12 @@ module _ (rows : List NumberedRow) (d : Elaborated) (is : d ≡ elaborated_of ro
       → s ≡ script_with (parts d.declared.names) d.said → IsScript c s
   script_fits c s sound none built made =
       subst (λ p. IsScript p s) (sym (config_is c built))
-          (subst (IsScript (config_of rows)) (sym (script_is s made)) (script_is_sound rows sound none))
+      (subst (IsScript (config_of rows)) (sym (script_is s made)) (script_is_sound rows sound none))
 
   pub bodies_are_fit : AreSound rows → length rows < 2 ^ 32 → broken_rule rows ≡ None → AreFit d.demands d.bodies
   bodies_are_fit sound short none =
       subst (λ (e : Elaborated). AreFit e.demands e.bodies) (sym is)
-          (bodies_fit rows (body_rules rows sound (none_broken rows none) short))
+      (bodies_fit rows (body_rules rows sound (none_broken rows none) short))
 
   -- 26. The number of rounds has the width of that of a script.
   pub rounds_fit : broken_rule rows ≡ None → first_or_zero (parts d.said.counts) ≤ 100000
@@ -188,4 +195,4 @@ module _ (rows : List NumberedRow) (d : Elaborated) (is : d ≡ elaborated_of ro
       let rounds = first_or_zero (parts (each_at rounds_in rows)) in
       subst (λ (e : Elaborated). first_or_zero (parts e.said.counts) ≤ 100000) (sym is)
       (leb-true rounds 100000 (and_parts (nat_le 1 rounds) (nat_le rounds 100000)
-          (rounds_within rows (none_broken rows none))).1)
+      (rounds_within rows (none_broken rows none))).1)

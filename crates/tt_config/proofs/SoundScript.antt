@@ -71,7 +71,7 @@ module _ (names : List NameEntry) where
       → IfPart (λ (a : Arrival). nat_lt a.tick (10 ^ 12) ≡ true) (arrival_in names row)
   tick_fits (r.Arrive source tick) fit =
       (and_parts (nat_lt tick (10 ^ 12)) true
-          (and_parts _ _ (and_parts (list_all is_sound_item (items_of (r.Arrive source tick))) _ fit.sound).0).1).0
+      (and_parts _ _ (and_parts (list_all is_sound_item (items_of (r.Arrive source tick))) _ fit.sound).0).1).0
   tick_fits row fit = tt
 
 first_holds : (P : ModeNo → Type 0) (modes : List ModeNo) → 1 ≤ length modes → Each P modes → P (first_mode modes)
@@ -91,7 +91,7 @@ values_small count values is =
     all_lists (list_all (λ n. nat_le n 10000000)) (given value_place values)
     (λ k. all_from_each (λ n. nat_le n 10000000) (given value_place values k)
     (each_flat_map (λ (value : Value). at_number k (value_place value))
-        (λ (value : Value). nat_le value.ticks 10000000 ≡ true) (λ n. nat_le n 10000000 ≡ true) (value_small k) values
+    (λ (value : Value). nat_le value.ticks 10000000 ≡ true) (λ n. nat_le n 10000000 ≡ true) (value_small k) values
     (each_from_all (λ (value : Value). nat_le value.ticks 10000000) values is)))
     (below count)
 
@@ -105,7 +105,7 @@ ascend least (tick ∷ ticks) low small h =
     and_from (nat_le least tick) _ (le-leb least tick low.0)
     (and_from (nat_lt tick (10 ^ 12)) _ small.0
     (ascend (tick + 1) ticks (each_weaker (λ b. tick < b) (λ b. tick + 1 ≤ b) (λ b lt. omega arith) ticks h.0) small.1
-        h.1))
+    h.1))
 
 -- one arrival of a source above another
 later : (same : Bool) (a b : ℕ) → same && nat_le b a ≡ false → same ≡ true → a < b
@@ -143,11 +143,11 @@ module _ (kind : NameKind) (k : ℕ) where
   apart (Some d) None a b h = in_source (λ x. Each (λ y. x < y) []) (Some d) a tt
   apart (Some d) (Some e) a b h =
       in_kind (λ x. Each (λ y. x < y) (at_number k (arrival_by kind (Some e) b))) (is_same_kind kind (kind_of d))
-          (number_of d) a (λ own here.
+      (number_of d) a (λ own here.
       in_kind (λ y. a < y) (is_same_kind kind (kind_of e)) (number_of e) b (λ other there.
       later (is_same_thing d e) a b h
       (and_from (is_same_kind (kind_of d) (kind_of e)) _
-          (both_are (index_of kind) (index_of (kind_of d)) (index_of (kind_of e)) own other)
+      (both_are (index_of kind) (index_of (kind_of d)) (index_of (kind_of e)) own other)
       (both_are k (number_of d) (number_of e) (turned k (number_of d) here) (turned k (number_of e) there)))))
 
 -- 27. The arrivals of each source ascend.
@@ -159,12 +159,12 @@ arrivals_ascend kind count arrivals small is =
     (λ k. ascend 0 (given (arrival_place kind) arrivals k)
     (each_always (λ tick. 0 ≤ tick) (λ tick. omega arith) (given (arrival_place kind) arrivals k))
     (each_flat_map (λ (a : Arrival). at_number k (arrival_place kind a))
-        (λ (a : Arrival). nat_lt a.tick (10 ^ 12) ≡ true) (λ tick. nat_lt tick (10 ^ 12) ≡ true)
+    (λ (a : Arrival). nat_lt a.tick (10 ^ 12) ≡ true) (λ tick. nat_lt tick (10 ^ 12) ≡ true)
     (λ a lt. in_source kind k (λ tick. nat_lt tick (10 ^ 12) ≡ true) a.source a.tick lt) arrivals small)
     (pairs_flat_map (λ (a : Arrival). at_number k (arrival_place kind a))
-        (λ (a b : Arrival). is_not_after a b ≡ false) (λ a b. a < b)
+    (λ (a b : Arrival). is_not_after a b ≡ false) (λ a b. a < b)
     (λ a b h. apart kind k a.source b.source a.tick b.tick h) (λ a. single kind k a.source a.tick) arrivals
-        (pairs_differ is_not_after arrivals is)))
+    (pairs_differ is_not_after arrivals is)))
     (below count)
 
 -- ---- the whole
@@ -178,9 +178,9 @@ module _ (rows : List NumberedRow) (kept : AreKept the_rules (document_of rows))
   rounds_within =
       let ns = parts (each_at rounds_in rows) in
       let all = and_parts (nat_le 1 (length ns)) _
-          (keeps (first_line rows) rule_26 (each_at rounds_in rows) (kept 25)) in
+      (keeps (first_line rows) rule_26 (each_at rounds_in rows) (kept 25)) in
       first-passes (is_within 1 100000) ns (leb-true 1 (length ns) all.0)
-          (and_parts (list_all (is_within 1 100000) ns) _ all.1).0
+      (and_parts (list_all (is_within 1 100000) ns) _ all.1).0
 
   module _ (sound : AreSound rows) where
     fit : EachRow (IsRowFit names) rows
@@ -190,10 +190,10 @@ module _ (rows : List NumberedRow) (kept : AreKept the_rules (document_of rows))
     start_sound =
         let modes = parts (each_at (start_in names) rows) in
         let some = and_parts (nat_le 1 (length modes)) _
-            (keeps (first_line rows) rule_25 (each_at (start_in names) rows) (kept 24)) in
+        (keeps (first_line rows) rule_25 (each_at (start_in names) rows) (kept 24)) in
         first_holds (λ mode. mode.0 < count_of Kind.Mode names) modes (leb-true 1 (length modes) some.0)
         (each_part (λ (mode : ModeNo). mode.0 < count_of Kind.Mode names) (IsRowFit names) (start_in names)
-            (start_fits names) rows fit)
+        (start_fits names) rows fit)
 
     ticks_small : Each (λ (a : Arrival). nat_lt a.tick (10 ^ 12) ≡ true) (parts (each_at (arrival_in names) rows))
     ticks_small = each_part (λ (a : Arrival). nat_lt a.tick (10 ^ 12) ≡ true) (IsRowFit names) (arrival_in names)
@@ -218,7 +218,7 @@ module _ (rows : List NumberedRow) (kept : AreKept the_rules (document_of rows))
           values = length-by_number (count_of Kind.Demand names) value_place values ∙ (named rows).demands;
           values_small = values_small (count_of Kind.Demand names) values
               (and_parts (list_all (λ (value : Value). nat_le value.ticks 10000000) values) true
-                  (keeps 1 rule_28 (each_at (value_in names) rows) (kept 27))).0;
+              (keeps 1 rule_28 (each_at (value_in names) rows) (kept 27))).0;
           isrs = length-by_number (count_of Kind.Isr names) (arrival_place Kind.Isr) arrivals ∙ (named rows).isrs;
           oisrs = length-by_number (count_of Kind.Oisr names) (arrival_place Kind.Oisr) arrivals ∙ (named rows).oisrs;
           isrs_ascending = arrivals_ascend Kind.Isr (count_of Kind.Isr names) arrivals ticks_small not_late;

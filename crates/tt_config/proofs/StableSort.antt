@@ -53,7 +53,7 @@ module _ {X : Type 0} (lt : X → X → Bool) (o : IsStrictWeakOrder lt) where
     apart : lt y x ≡ true → ties lt z x ≡ true → ties lt z y ≡ true → ⊥
     apart before one other =
         let after : lt y x ≡ false =
-            o.chain y z x (tie_right (lt z y) (lt y z) other) (tie_left (lt z x) (lt x z) one) in
+        o.chain y z x (tie_right (lt z y) (lt y z) other) (tie_left (lt z x) (lt x z) one) in
         cc
 
     at : (before : Bool) → lt y x ≡ before → filter (ties lt z) (inserted lt x ys) ≡ filter (ties lt z) (x ∷ ys)
@@ -105,11 +105,11 @@ module _ {X : Type 0} (lt : X → X → Bool) (o : IsStrictWeakOrder lt) where
   one_ascending [] [] up other same = refl
   one_ascending [] (y ∷ ys) up other same =
       let none : [] ≡ y ∷ filter (ties lt y) ys = same y
-          ∙ ap (λ passes. cond passes (y ∷ filter (ties lt y) ys) (filter (ties lt y) ys)) (ties_itself y) in
+      ∙ ap (λ passes. cond passes (y ∷ filter (ties lt y) ys) (filter (ties lt y) ys)) (ties_itself y) in
       cc
   one_ascending (x ∷ xs) [] up other same =
       let none : [] ≡ x ∷ filter (ties lt x) xs = sym (same x)
-          ∙ ap (λ passes. cond passes (x ∷ filter (ties lt x) xs) (filter (ties lt x) xs)) (ties_itself x) in
+      ∙ ap (λ passes. cond passes (x ∷ filter (ties lt x) xs) (filter (ties lt x) xs)) (ties_itself x) in
       cc
   one_ascending (x ∷ xs) (y ∷ ys) up other same =
       let after : lt y x ≡ false = not_after x xs y ys up (same y) in
@@ -117,7 +117,7 @@ module _ {X : Type 0} (lt : X → X → Bool) (o : IsStrictWeakOrder lt) where
       let front : x ∷ filter (ties lt x) xs ≡ y ∷ filter (ties lt x) ys =
       sym (ap (λ passes. cond passes (x ∷ filter (ties lt x) xs) (filter (ties lt x) xs)) (ties_itself x)) ∙ same x
       ∙ ap (λ passes. cond passes (y ∷ filter (ties lt x) ys) (filter (ties lt x) ys))
-          (tie (lt x y) (lt y x) before after) in
+      (tie (lt x y) (lt y x) before after) in
       let one : x ≡ y = cc in
       let rest : xs ≡ ys = one_ascending xs ys up.1 other.1
       (λ z. same_rest (ties lt z x) x y (filter (ties lt z) xs) (filter (ties lt z) ys) one

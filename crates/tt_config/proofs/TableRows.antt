@@ -38,7 +38,7 @@ module _ (mode : ℕ) where
   own f g same [] = refl
   own f g same (x ∷ xs) =
       flat_map-append f (at_number mode (entry_place x)) (given entry_place xs mode)
-          ∙ ap (λ ys. ys ++ flat_map f (given entry_place xs mode)) (same x)
+      ∙ ap (λ ys. ys ++ flat_map f (given entry_place xs mode)) (same x)
       ∙ ap (λ ys. g x ++ ys) (own f g same xs)
 
   own_table : (xs : List Entry) → mode_of_entries (given entry_place xs mode) ≡ mode_with xs mode

@@ -43,7 +43,7 @@ lines_of-cut (b ∷ []) plain some = lines_of-other b [] (plain_is_no_lf b (and_
 lines_of-cut (b ∷ next ∷ bytes) plain some =
     let parts = and_parts (is_plain_byte b) (list_all is_plain_byte (next ∷ bytes)) plain in
     lines_of-other b (next ∷ bytes) (plain_is_no_lf b parts.0)
-        ∙ ap (in_front b) (lines_of-cut (next ∷ bytes) parts.1 (omega arith))
+    ∙ ap (in_front b) (lines_of-cut (next ∷ bytes) parts.1 (omega arith))
 
 -- a plain line of at most 200 bytes that a LF ends has no fault
 pub fault_of-plain : (text : List ℕ) → list_all is_plain_byte text ≡ true → length text ≤ 200
@@ -89,7 +89,7 @@ front_is_plain : (text : List ℕ) → list_all is_plain_byte (take (plain_len_o
 front_is_plain [] = refl
 front_is_plain (b ∷ bytes) =
     cond_both (not (not (is_plain_byte b))) (1 + plain_len_of bytes) 0
-        (λ n. list_all is_plain_byte (take n (b ∷ bytes)) ≡ true)
+    (λ n. list_all is_plain_byte (take n (b ∷ bytes)) ≡ true)
     (λ plain.
     let more : 1 + plain_len_of bytes ≡ suc (plain_len_of bytes) = omega arith in
     ap (λ n. list_all is_plain_byte (take n (b ∷ bytes))) more
@@ -97,7 +97,7 @@ front_is_plain (b ∷ bytes) =
     (not-false (is_plain_byte b) (not-true (not (is_plain_byte b)) plain)) (front_is_plain bytes))
     (λ unplain. refl)
 
--- where plain bytes go on for so many, they go on after these
+-- where plain bytes go on for n bytes, they go on after these
 pub plain_len_more : (n : ℕ) (text : List ℕ) → n ≤ length text → list_all is_plain_byte (take n text) ≡ true
     → plain_len_of text ≡ n + plain_len_of (drop n text)
 plain_len_more zero text inside plain = omega arith
@@ -107,7 +107,7 @@ plain_len_more (suc n) (b ∷ bytes) inside plain =
     cond-true (not (not (is_plain_byte b))) (1 + plain_len_of bytes) 0 (ap (λ t. not (not t)) parts.0)
     ∙ omega (arith, plain_len_more n bytes (omega arith) parts.1)
 
--- a search that passed so many bytes passes a plain chunk more
+-- a search that passed n bytes passes a plain chunk more
 pub plain_len_further : (text : List ℕ) (at n : ℕ) → at + n ≤ length text
     → list_all is_plain_byte (take (at + n - at) (drop at text)) ≡ true
     → plain_len_of text ≡ at + plain_len_of (drop at text)
@@ -115,7 +115,7 @@ pub plain_len_further : (text : List ℕ) (at n : ℕ) → at + n ≤ length tex
 plain_len_further text at n inside plain passed =
     let size : at + n - at ≡ n = omega arith in
     let sum : at + (n + plain_len_of (drop (at + n) text)) ≡ (at + n) + plain_len_of (drop (at + n) text) =
-        omega arith in
+    omega arith in
     let more = plain_len_more n (drop at text) (omega (arith, length-drop at text))
     (ap (λ k. list_all is_plain_byte (take k (drop at text))) (sym size) ∙ plain) in
     passed
@@ -143,7 +143,7 @@ stops_at : (text : List ℕ) (n : ℕ) → n ≡ plain_len_of text → (n ≡ le
 stops_at text n is before =
     let test : ℕ → Bool = λ b. not (is_plain_byte b) in
     let short : plain_len_of text < length text =
-        omega (arith, prefix_len-le-length (λ b. not (test b)) text, is, before) in
+    omega (arith, prefix_len-le-length (λ b. not (test b)) text, is, before) in
     subst (StopsAt text) (sym is) (record {
       split = split_at_first test text 0 short;
       unplain = not-true (is_plain_byte (get_or text (plain_len_of text) 0)) (passes_at_first test text 0 short);
@@ -191,7 +191,7 @@ pub begins_with_byte : (text : List ℕ) (n : ℕ) → n ≡ plain_len_of text �
 begins_with_byte text n is before other =
     let stop = stops_at text n is before in
     let lines = unplain_line (take n text) (get_or text n 0) (drop (n + 1) text)
-        (plain_front text n is).plain stop.unplain
+    (plain_front text n is).plain stop.unplain
     (ne_eqb (get_or text n 0) 10 other) in
     record {
       line = lines.line;
@@ -239,7 +239,7 @@ ended_line bytes at n rest is_rest is_len before_end at_lf =
       line = lines_of-lf (drop at bytes) n is before lf
           ∙ ap (λ k. line_with (take k (drop at bytes)) true ∷ lines_of (drop (n + 1) (drop at bytes))) far
           ∙ ap (λ text. line_with (slice_range bytes at (at + n)) true ∷ lines_of text)
-              (drop-drop (n + 1) at bytes ∙ ap (λ k. drop k bytes) after);
+          (drop-drop (n + 1) at bytes ∙ ap (λ k. drop k bytes) after);
       good = λ few. subst (λ k. fault_of (line_with (take k (drop at bytes)) true) ≡ None) far
           (fault_of-plain (take n (drop at bytes)) front.plain (short few));
     }

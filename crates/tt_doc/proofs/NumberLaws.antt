@@ -149,8 +149,10 @@ integer_cases : (first : ℕ) (rest : List ℕ) (z : ℤ) → integer_of (first 
     → ((first ≡ 45) × (negative_of (number_of rest) ≡ Some z)) ⊎ (positive_of (number_of (first ∷ rest)) ≡ Some z)
 integer_cases first rest z h =
     elim (cases_Bool (first == 45)) [
-      | inl e ↦ inl (eqb-true first 45 e,
-          sym (cond-true (first == 45) (negative_of (number_of rest)) (positive_of (number_of (first ∷ rest))) e) ∙ h)
+      | inl e ↦ inl (
+        eqb-true first 45 e,
+        sym (cond-true (first == 45) (negative_of (number_of rest)) (positive_of (number_of (first ∷ rest))) e) ∙ h,
+      )
       | inr e ↦ inr (sym (cond-false (first == 45) (negative_of (number_of rest))
           (positive_of (number_of (first ∷ rest))) e) ∙ h)
     ]
@@ -170,9 +172,9 @@ positive_read : (text : List ℕ) (n : ℕ) → number_of text ≡ Some n → n 
 positive_read [] n h small = cc
 positive_read (first ∷ rest) n h small =
     let digit = bounds_of_digit first
-        (and_parts (is_ascii_digit first) (list_all is_ascii_digit rest) (digits_of_number (first ∷ rest) n h)).0 in
+    (and_parts (is_ascii_digit first) (list_all is_ascii_digit rest) (digits_of_number (first ∷ rest) n h)).0 in
     cond-false (first == 45) (negative_of (number_of rest)) (positive_of (number_of (first ∷ rest)))
-        (ne_eqb first 45 (λ e. omega (arith, digit)))
+    (ne_eqb first 45 (λ e. omega (arith, digit)))
     ∙ ap positive_of h
     ∙ cond-true (nat_lt n (2 ^ 31)) (Some (pos n)) None (lt-ltb n (2 ^ 31) small)
 
@@ -222,5 +224,13 @@ signed_decimal_is_plain z fits = integer_is_plain (signed_decimal z) z (integer_
 pub signed_decimal_is_word : (z : ℤ) → FitsSigned w32 z → is_word (signed_decimal z) ≡ true
 signed_decimal_is_word z fits = integer_is_word (signed_decimal z) z (integer_of-signed_decimal z fits)
 
-pub ruleset number_laws = (number_of-spelled, number_of-decimal, number_is_plain, number_is_word, integer_of-spelled,
-    integer_of-signed_decimal, integer_is_plain, integer_is_word)
+pub ruleset number_laws = (
+  number_of-spelled,
+  number_of-decimal,
+  number_is_plain,
+  number_is_word,
+  integer_of-spelled,
+  integer_of-signed_decimal,
+  integer_is_plain,
+  integer_is_word,
+)

@@ -82,7 +82,7 @@ words_of-cut (b ∷ bytes) some next =
     ap (filter is_some_text) (cuts text).pieces
     ∙ ap (λ k. filter is_some_text (take k text ∷ pieces_after (drop k text))) n
     ∙ ap (λ words. (b ∷ take (word_len_of bytes) bytes) ∷ words)
-        (words_after (drop (word_len_of bytes) bytes) (cuts bytes).cut)
+    (words_after (drop (word_len_of bytes) bytes) (cuts bytes).cut)
     ∙ sym (ap (λ k. take k text ∷ words_of (drop k text)) n)
 
 -- each word has a byte, and a space stands between two
@@ -100,8 +100,12 @@ lengths_of_words ((b ∷ bytes) ∷ words) good =
 -- a text has at most one word for two bytes
 pub few_words : (text : List ℕ) → 2 * length (words_of text) ≤ length text + 1
 few_words text =
-    omega (arith, length-joined-words_of text, length-joined (words_of text),
-        lengths_of_words (words_of text) (words_of_are_words text))
+    omega (
+      arith,
+      length-joined-words_of text,
+      length-joined (words_of text),
+      lengths_of_words (words_of text) (words_of_are_words text),
+    )
 
 length-in_first : (b : ℕ) (pieces : List (List ℕ)) → 0 < length pieces → length (in_first b pieces) ≡ length pieces
 length-in_first b [] some = absurd (omega arith)
@@ -115,12 +119,12 @@ length-pieces_of (b ∷ bytes) =
       | inl space ↦
           let one : ◌≡◌ {A = ℕ} (cond (b == 32) 1 0) 1 = cond-true (b == 32) 1 0 space in
           let cut = ap (length {A = List ℕ})
-              (cond-true (b == 32) ([] ∷ pieces_of bytes) (in_first b (pieces_of bytes)) space) in
+          (cond-true (b == 32) ([] ∷ pieces_of bytes) (in_first b (pieces_of bytes)) space) in
           omega (arith, one, cut, sum_by-cons (λ (x : ℕ). cond (x == 32) 1 0) b bytes, length-pieces_of bytes)
       | inr other ↦
           let none : ◌≡◌ {A = ℕ} (cond (b == 32) 1 0) 0 = cond-false (b == 32) 1 0 other in
           let same = ap (length {A = List ℕ})
-              (cond-false (b == 32) ([] ∷ pieces_of bytes) (in_first b (pieces_of bytes)) other) in
+          (cond-false (b == 32) ([] ∷ pieces_of bytes) (in_first b (pieces_of bytes)) other) in
           omega (
             arith,
             none,
@@ -134,5 +138,9 @@ length-pieces_of (b ∷ bytes) =
 -- so it has at most one word more
 pub words_by_spaces : (text : List ℕ) → length (words_of text) ≤ count_by (λ b. b == 32) text + 1
 words_by_spaces text =
-    omega (arith, length-filter is_some_text (pieces_of text), count_by-le-length is_some_text (pieces_of text),
-        length-pieces_of text)
+    omega (
+      arith,
+      length-filter is_some_text (pieces_of text),
+      count_by-le-length is_some_text (pieces_of text),
+      length-pieces_of text,
+    )

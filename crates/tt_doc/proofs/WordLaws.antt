@@ -18,7 +18,7 @@ no_space-pieces_of : (text : List ℕ) → list_all has_no_space (pieces_of text
 no_space-pieces_of [] = refl
 no_space-pieces_of (b ∷ bytes) =
     cond_both (b == 32) ([] ∷ pieces_of bytes) (in_first b (pieces_of bytes))
-        (λ pieces. list_all has_no_space pieces ≡ true)
+    (λ pieces. list_all has_no_space pieces ≡ true)
     (λ e. no_space-pieces_of bytes)
     (λ other. no_space-in_first b (pieces_of bytes) other (no_space-pieces_of bytes))
 
@@ -29,13 +29,13 @@ words_from_pieces ([] ∷ pieces) clean = words_from_pieces pieces clean
 words_from_pieces ((b ∷ bytes) ∷ pieces) clean =
     let parts = and_parts (has_no_space (b ∷ bytes)) (list_all has_no_space pieces) clean in
     and_from (has_no_space (b ∷ bytes)) (list_all is_word (filter is_some_text pieces)) parts.0
-        (words_from_pieces pieces parts.1)
+    (words_from_pieces pieces parts.1)
 
 -- each word of a text is some bytes, and none of them is a space
 pub words_of_are_words : (text : List ℕ) → list_all is_word (words_of text) ≡ true
 words_of_are_words text = words_from_pieces (pieces_of text) (no_space-pieces_of text)
 
--- bytes without a space begin with none, and have none behind it
+-- bytes without a space begin with none, and have none after it
 pub parts_of_no_space : (t rest : Bool) → cond t false rest ≡ true → (t ≡ false) × (rest ≡ true)
 parts_of_no_space true rest clean = absurd (false≢true clean)
 parts_of_no_space false rest clean = (refl, clean)
@@ -74,8 +74,12 @@ pub length-joined : (words : List (List ℕ)) → length (joined words) ≡ sum_
 length-joined [] = refl
 length-joined (word ∷ []) = omega (arith, sum_by-cons (length {A = ℕ}) word [])
 length-joined (word ∷ (next ∷ rest)) =
-    omega (arith, length-append word (32 ∷ joined (next ∷ rest)), length-joined (next ∷ rest),
-        sum_by-cons (length {A = ℕ}) word (next ∷ rest))
+    omega (
+      arith,
+      length-append word (32 ∷ joined (next ∷ rest)),
+      length-joined (next ∷ rest),
+      sum_by-cons (length {A = ℕ}) word (next ∷ rest),
+    )
 
 -- plain words make a plain text
 pub plain-joined : (words : List (List ℕ)) → list_all (list_all is_plain_byte) words ≡ true
@@ -86,7 +90,7 @@ plain-joined (word ∷ (next ∷ rest)) plain =
     let parts = and_parts (list_all is_plain_byte word) (list_all (list_all is_plain_byte) (next ∷ rest)) plain in
     list_all-append is_plain_byte word (32 ∷ joined (next ∷ rest))
     ∙ and_from (list_all is_plain_byte word) (list_all is_plain_byte (32 ∷ joined (next ∷ rest))) parts.0
-        (plain-joined (next ∷ rest) parts.1)
+    (plain-joined (next ∷ rest) parts.1)
 
 plain-in_first : (b : ℕ) (pieces : List (List ℕ)) → is_plain_byte b ≡ true
     → list_all (list_all is_plain_byte) pieces ≡ true → list_all (list_all is_plain_byte) (in_first b pieces) ≡ true
@@ -100,7 +104,7 @@ plain-pieces_of [] plain = refl
 plain-pieces_of (b ∷ bytes) plain =
     let parts = and_parts (is_plain_byte b) (list_all is_plain_byte bytes) plain in
     cond_both (b == 32) ([] ∷ pieces_of bytes) (in_first b (pieces_of bytes))
-        (λ pieces. list_all (list_all is_plain_byte) pieces ≡ true)
+    (λ pieces. list_all (list_all is_plain_byte) pieces ≡ true)
     (λ space. plain-pieces_of bytes parts.1)
     (λ other. plain-in_first b (pieces_of bytes) parts.0 (plain-pieces_of bytes parts.1))
 
@@ -111,7 +115,7 @@ plain-some ([] ∷ pieces) plain = plain-some pieces plain
 plain-some ((b ∷ bytes) ∷ pieces) plain =
     let parts = and_parts (list_all is_plain_byte (b ∷ bytes)) (list_all (list_all is_plain_byte) pieces) plain in
     and_from (list_all is_plain_byte (b ∷ bytes))
-        (list_all (list_all is_plain_byte) (filter is_some_text pieces)) parts.0 (plain-some pieces parts.1)
+    (list_all (list_all is_plain_byte) (filter is_some_text pieces)) parts.0 (plain-some pieces parts.1)
 
 -- the words of a plain text are plain
 pub plain-words_of : (text : List ℕ) → list_all is_plain_byte text ≡ true
@@ -131,10 +135,13 @@ room-pieces_of : (text : List ℕ) → room_of (pieces_of text) ≡ length text 
 room-pieces_of [] = refl
 room-pieces_of (b ∷ bytes) =
     cond_both (b == 32) ([] ∷ pieces_of bytes) (in_first b (pieces_of bytes))
-        (λ pieces. room_of pieces ≡ length (b ∷ bytes) + 1)
+    (λ pieces. room_of pieces ≡ length (b ∷ bytes) + 1)
     (λ space. omega (arith, room-pieces_of bytes))
-    (λ other. omega (arith, room-in_first b (pieces_of bytes) (omega (arith, room-pieces_of bytes)),
-        room-pieces_of bytes))
+    (λ other. omega (
+      arith,
+      room-in_first b (pieces_of bytes) (omega (arith, room-pieces_of bytes)),
+      room-pieces_of bytes,
+    ))
 
 room-some : (pieces : List (List ℕ)) → room_of (filter is_some_text pieces) ≤ room_of pieces
 room-some [] = omega arith
@@ -152,5 +159,11 @@ pub length-joined-words_of : (text : List ℕ) → length (joined (words_of text
 length-joined-words_of text =
     omega (arith, room-joined (words_of text), room-some (pieces_of text), room-pieces_of text)
 
-pub ruleset word_laws = (words_of_are_words, words_of-joined, length-joined, plain-joined, plain-words_of,
-    length-joined-words_of)
+pub ruleset word_laws = (
+  words_of_are_words,
+  words_of-joined,
+  length-joined,
+  plain-joined,
+  plain-words_of,
+  length-joined-words_of,
+)

@@ -59,7 +59,7 @@ split_at xs a at e low high inside =
     ap (λ k. take k (drop a xs)) parts
     ∙ take-add n (suc m) (drop a xs)
     ∙ ap (λ back. take n (drop a xs) ++ take (suc m) back)
-        (drop-drop n a xs ∙ ap (λ k. drop k xs) place ∙ drop_more xs at 0 inside)
+    (drop-drop n a xs ∙ ap (λ k. drop k xs) place ∙ drop_more xs at 0 inside)
 
 is_some_text-length : (text : List ℕ) → is_some_text text ≡ nat_lt 0 (length text)
 is_some_text-length [] = refl
@@ -124,7 +124,7 @@ passed_space {bytes} {span} {words} {start} {at} passed before inside space =
     let read =
     sym (read_piece bytes words start at (pieces_of rest) (omega arith))
     ∙ ap (λ pieces. map (text_of bytes) words ++ filter is_some_text pieces)
-        (sym (ap pieces_of split ∙ pieces_of-piece piece rest passed.clean))
+    (sym (ap pieces_of split ∙ pieces_of-piece piece rest passed.clean))
     ∙ passed.read in
     record {
       read = read;
@@ -134,7 +134,7 @@ passed_space {bytes} {span} {words} {start} {at} passed before inside space =
       few = few_with_word words span.start start at passed.few passed.to;
       within = all_with_word (λ word. (span.start ≤ word.start) × (word.end < at + 1)) words start at
           (λ k d below. let one = passed.within k d below in (one.0, omega (arith, one.1, passed.to)))
-              (λ some. (passed.from, omega arith));
+          (λ some. (passed.from, omega arith));
       some = all_with_word (λ word. word.start < word.end) words start at passed.some (λ some. some);
       ascend = ascend_with_word words start at passed.ascend (λ k d below. (passed.within k d below).1);
     }
@@ -160,7 +160,7 @@ all_passed {bytes} {span} {words} {start} passed inside =
       read = read;
       within = all_with_word (λ word. (span.start ≤ word.start) × (word.end ≤ span.end)) words start span.end
           (λ k d below. let one = passed.within k d below in (one.0, omega (arith, one.1, passed.to)))
-              (λ some. (passed.from, omega arith));
+          (λ some. (passed.from, omega arith));
       some = all_with_word (λ word. word.start < word.end) words start span.end passed.some (λ some. some);
       ascend = ascend_with_word words start span.end passed.ascend (λ k d below. (passed.within k d below).1);
     }

@@ -6,7 +6,7 @@ use Rattle.tt_doc.specs.declared.lines.LineStep.{LineStep}
 use Rattle.tt_doc.specs.declared.lines.LineStep.TheVariants.{End, Line, Fault}
 use Rattle.tt_doc.specs.declared.lines.Span.{Span}
 
--- what holds of the line and of the place behind it, where there is a good line
+-- what holds of the line and of the place after it, where there is a good line
 abbrev pub IfLine : LineStep → (Span → ℕ → Type 0) → Type 0
 IfLine End P = Unit {0}
 IfLine (Line span next) P = P span next

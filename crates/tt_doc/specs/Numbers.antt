@@ -26,7 +26,7 @@ abbrev pub positive_of : Option ℕ → Option ℤ
 positive_of None = None
 positive_of (Some n) = if nat_lt n (2 ^ 31) then Some (pos n) else None
 
--- the integer that a number behind a `-` is, from -1 to -2147483648
+-- the integer that a number after a `-` is, from -1 to -2147483648
 abbrev pub negative_of : Option ℕ → Option ℤ
 negative_of None = None
 negative_of (Some zero) = None

@@ -12,9 +12,11 @@ pub part_after : (a b c : Option (List ℕ)) (done rest all : List ℕ) → all 
     → AppendsPart b c rest → AppendsPart a c all
 part_after a b c done rest all split front (n, short, part) =
     let taken : take (length done + n) all ≡ done ++ take n rest = ap (take (length done + n)) split
-        ∙ take-append-add done rest n in
-    (length done + n, rw split (omega (arith, length-append done rest)),
-        subst (Appends a c) (sym taken) (Appends-trans a b c _ _ front part))
+    ∙ take-append-add done rest n in (
+      length done + n,
+      rw split (omega (arith, length-append done rest)),
+      subst (Appends a c) (sym taken) (Appends-trans a b c _ _ front part),
+    )
 
 -- a part of a front is a part of the whole
 pub part_of_front : (a b : Option (List ℕ)) (front rest all : List ℕ) → all ≡ front ++ rest → AppendsPart a b front
@@ -53,7 +55,7 @@ pub passes_part : {a b : Option (List ℕ)} {so_far waiting : List ℕ} (c : Opt
     → Passes a b so_far waiting → AppendsPart b c (waiting ++ piece) → AppendsPart a c all
 passes_part {a} {b} {so_far} {waiting} c all piece split p part =
     part_after a b c p.sent (waiting ++ piece) all
-        (split ∙ ap (λ l. l ++ piece) p.split ∙ append_assoc p.sent waiting piece) p.appended part
+    (split ∙ ap (λ l. l ++ piece) p.split ∙ append_assoc p.sent waiting piece) p.appended part
 
 -- a part of what waited was sent, and with it a part of all
 pub passes_end_part : {a b : Option (List ℕ)} {so_far waiting : List ℕ} (c : Option (List ℕ)) (all : List ℕ)

@@ -18,7 +18,7 @@ filled_more buf part at n within fits =
     let front = take at buf in
     let after = post_of at (length buf - at) buf in
     ap (λ k. take (k + n) (front ++ (part ++ after))) (sym (length-take-le at buf within))
-        ∙ take-append-add front (part ++ after) n ∙ ap (λ l. front ++ l) (take-append-le n part after fits)
+    ∙ take-append-add front (part ++ after) n ∙ ap (λ l. front ++ l) (take-append-le n part after fits)
 
 -- what fills the part was taken next
 pub taken_more : (a b c : Option (List ℕ)) (buf part : List ℕ) (at n : ℕ) → at ≤ length buf → n ≤ length part
@@ -33,7 +33,7 @@ pub given_front : (items seen copied buf : List ℕ) (at n : ℕ) → seen ≡ i
     → drop at items ≡ take n (copied ++ drop n buf) ++ drop (at + n) items
 given_front items seen copied buf at n same long read =
     let piece : copied ≡ take n (drop at items) = read ∙ ap (take n) (take_rest seen at)
-        ∙ ap (λ l. take n (drop at l)) same in
+    ∙ ap (λ l. take n (drop at l)) same in
     sym (take-append-drop n (drop at items))
-        ∙ ap (λ l. l ++ drop n (drop at items)) (sym (take_at copied (drop n buf) n long ∙ piece))
-        ∙ ap (λ l. take n (copied ++ drop n buf) ++ l) (drop-drop n at items)
+    ∙ ap (λ l. l ++ drop n (drop at items)) (sym (take_at copied (drop n buf) n long ∙ piece))
+    ∙ ap (λ l. take n (copied ++ drop n buf) ++ l) (drop-drop n at items)

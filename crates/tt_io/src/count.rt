@@ -3,7 +3,7 @@
 ghost use Rattle.std.specs.Prelude.{◌≡◌};
 ghost use Rattle.tt_io.specs.Count.{counted};
 
-/// A count after so many more. It takes the count as a parameter, whose range a proof knows; it
+/// A count after some more. It takes the count as a parameter, whose range a proof knows; it
 /// would not know that of a field beside a type parameter.
 pub(crate) fn count_more(before: u64, more: usize) -> u64
     ensures { result ≡ counted before more }

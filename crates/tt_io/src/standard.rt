@@ -138,7 +138,7 @@ impl<W: Write + Drop> Sink for StdSink<W> {
     }
 }
 
-/// What a write comes to of which the writer took so many bytes, and was then flushed.
+/// What a write comes to of which the writer took this number of bytes, and was then flushed.
 fn step_of(taken: usize, flushed: io::Result<()>) -> WriteStep
     ensures { result ≡ (if is_ok flushed then WriteStep.Took taken else WriteStep.Failed) }
 {

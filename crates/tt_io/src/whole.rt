@@ -79,7 +79,7 @@ pub fn take_all<I: Source>(
 enum Filled {
     /// To its end.
     Whole,
-    /// By so many bytes, with which the source ended.
+    /// By this number of bytes, with which the source ended.
     Ended(usize),
     /// Up to a fault.
     Broken,

@@ -17,14 +17,14 @@ module _ {A : Type 0} (part_of : Row → Option A) where
   each_at-push [] row = refl
   each_at-push (first ∷ rows) row =
       ap (at_then first.line (part_of first.row)) (each_at-push rows row)
-          ∙ then-append first.line (part_of first.row) (each_at part_of rows) (at_then row.line (part_of row.row) [])
+      ∙ then-append first.line (part_of first.row) (each_at part_of rows) (at_then row.line (part_of row.row) [])
 
   -- what the rows give up to one, and with it
   pub each_at-more : (rows : List NumberedRow) (k : ℕ) (row : NumberedRow) → k < length rows → row ≡ get_or rows k row
       → each_at part_of (take (k + 1) rows) ≡ each_at part_of (take k rows) ++ at_then row.line (part_of row.row) []
   each_at-more rows k row lt is =
       ap (each_at part_of) (take_more rows k row lt ∙ ap (λ r. take k rows ++ r ∷ []) (sym is))
-          ∙ each_at-push (take k rows) row
+      ∙ each_at-push (take k rows) row
 
 -- a list of what the rows before one give, with what that row gives put after it
 pub put-more : {A : Type 0} (rows : List NumberedRow) (k : ℕ) (row : NumberedRow) → k < length rows

@@ -33,9 +33,13 @@ module _ (names : List NameEntry) (entries : List (At NameEntry)) (i : ℕ)
   room_for at most lt is le =
       let more = parts (drop (i + 1) entries) in
       let whole : names ++ at.part ∷ more ≡ parts entries = sym (ap (λ ns. names ++ ns) (parts-drop at lt is))
-          ∙ split in
-      omega (arith, ap (count_of at.part.kind) whole, count_of-append at.part.kind names (at.part ∷ more),
-          count_of-first at.part more)
+      ∙ split in
+      omega (
+        arith,
+        ap (count_of at.part.kind) whole,
+        count_of-append at.part.kind names (at.part ∷ more),
+        count_of-first at.part more,
+      )
 
   -- after the last entry they are all
   pub all_named : length entries ≤ i → names ≡ parts entries

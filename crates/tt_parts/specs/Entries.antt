@@ -36,8 +36,13 @@ demand_in row = None
 abbrev pub activates : List NameEntry → ℕ → List ℕ → List ℕ → ℕ → Bool → Option Entry
 activates names offset mode task deadline stringent =
     Some (entry.Activates (record { 0 = number_named names mode })
-    (record { offset = offset; task = record { 0 = number_named names task }; deadline = deadline; stringent =
-        stringent }))
+    (record {
+      offset = offset;
+      task = record { 0 = number_named names task };
+      deadline = deadline;
+      stringent =
+          stringent;
+    }))
 
 -- a row of a dispatcher table
 abbrev pub entry_in : List NameEntry → Row → Option Entry
@@ -45,7 +50,7 @@ entry_in names (r.AtStringent offset mode task deadline) = activates names offse
 entry_in names (r.AtNonstringent offset mode task deadline) = activates names offset mode task deadline false
 entry_in names (r.AtEnable offset mode isr) =
     Some (entry.Enables (record { 0 = number_named names mode })
-        (record { offset = offset; isr = record { 0 = number_named names isr } }))
+    (record { offset = offset; isr = record { 0 = number_named names isr } }))
 entry_in names row = None
 
 -- the mode at tick 0

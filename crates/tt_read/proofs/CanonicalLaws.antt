@@ -90,7 +90,7 @@ op_is_plain_word _ = refl
 term_is_plain_word : (t : Term) → is_sound_term t ≡ true → is_plain_word (term_word t) ≡ true
 term_is_plain_word (term.Int value) sound =
     plain_word (signed_decimal value) (signed_decimal_is_word value (fits_from_integer value sound))
-        (signed_decimal_is_plain value (fits_from_integer value sound))
+    (signed_decimal_is_plain value (fits_from_integer value sound))
 term_is_plain_word (term.Name name) sound = name_is_plain_word name sound
 term_is_plain_word (term.Op op) sound = op_is_plain_word op
 
@@ -100,7 +100,7 @@ terms_are_plain_words [] sound = refl
 terms_are_plain_words (t ∷ terms) sound =
     let parts = and_parts (is_sound_term t) (list_all is_sound_term terms) sound in
     and_from (is_plain_word (term_word t)) (list_all is_plain_word (map term_word terms))
-        (term_is_plain_word t parts.0) (terms_are_plain_words terms parts.1)
+    (term_is_plain_word t parts.0) (terms_are_plain_words terms parts.1)
 
 -- the words of the language are plain
 abbrev is_plain_key : Item → Bool
@@ -117,7 +117,7 @@ item_is_plain (Key word) key sound = and_from (is_plain_word word) true key refl
 item_is_plain (Number n) key sound =
     let small = ltb-true n (10 ^ 12) sound in
     and_from (is_plain_word (decimal n)) true
-        (plain_word (decimal n) (decimal_is_word n small) (decimal_is_plain n small)) refl
+    (plain_word (decimal n) (decimal_is_word n small) (decimal_is_plain n small)) refl
 item_is_plain (Named name) key sound = and_from (is_plain_word name) true (name_is_plain_word name sound) refl
 item_is_plain (Integer value) key sound =
     and_from (is_plain_word (signed_decimal value)) true (term_is_plain_word (term.Int value) sound) refl
@@ -166,10 +166,10 @@ good_line row sound =
     let no_comment = spelling_is_no_comment row in
     let is_row = row_of-spelled (spelling_of row) row (record { spelled = refl; sound = sound }) in
     let read : row_of_words (spelling_of row) ≡ Some row =
-        cond-false (is_comment (spelling_of row)) None (row_of (spelling_of row)) no_comment ∙ is_row in
+    cond-false (is_comment (spelling_of row)) None (row_of (spelling_of row)) no_comment ∙ is_row in
     let fine : word_fault (spelling_of row) ≡ None =
     cond-false (is_comment (spelling_of row)) None
-        (cond (is_some (row_of (spelling_of row))) None (Some kind.Row)) no_comment
+    (cond (is_some (row_of (spelling_of row))) None (Some kind.Row)) no_comment
     ∙ ap (λ o. cond (is_some o) None (Some kind.Row)) is_row in
     record {
       plain = plain;
@@ -198,7 +198,7 @@ no_fault n [] sound = refl
 no_fault n (row ∷ rows) sound =
     let parts = and_parts (is_sound_row row.row) (all_sound rows) sound in
     ap (λ o. fault_or n o (first_fault (n + 1) (map line_of rows))) (good_line row.row parts.0).good
-        ∙ no_fault (n + 1) rows parts.1
+    ∙ no_fault (n + 1) rows parts.1
 
 same_rows : (n : ℕ) (rows : List NumberedRow) → all_sound rows ≡ true
     → rows_of n (map line_of rows) ≡ numbered_from n rows

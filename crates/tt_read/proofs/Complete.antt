@@ -91,7 +91,7 @@ reads_number next n items row later = record {
   at = λ sound.
       let parts = and_parts (nat_lt n (10 ^ 12)) (list_all is_sound_item items) sound in
       reads_one number_of next (decimal n) n (flat_map words_of_item items) row
-          (number_of-decimal n (ltb-true n (10 ^ 12) parts.0)) (later.at parts.1);
+      (number_of-decimal n (ltb-true n (10 ^ 12) parts.0)) (later.at parts.1);
 }
 
 reads_integer : (next : ℤ → Reader) (value : ℤ) (items : List Item) (row : Row) → Reads (next value) items row
@@ -109,7 +109,7 @@ reads_name next text items row later = record {
   at = λ sound.
       let parts = and_parts (is_name text) (list_all is_sound_item items) sound in
       reads_one name_of next text text (flat_map words_of_item items) row
-          (cond-true (is_name text) (Some text) None parts.0) (later.at parts.1);
+      (cond-true (is_name text) (Some text) None parts.0) (later.at parts.1);
 }
 
 -- where something follows, the reader of what follows goes on
@@ -144,22 +144,22 @@ reads_row (r.Var var value) =
     reads_keyword after_first k.Var _ _ (reads_name _ _ _ _ (reads_integer _ _ _ _ (reads_stop _)))
 reads_row (r.Demand demand most usual) =
     reads_keyword after_first k.Demand _ _
-        (reads_name _ _ _ _ (reads_number _ _ _ _ (reads_number _ _ _ _ (reads_stop _))))
+    (reads_name _ _ _ _ (reads_number _ _ _ _ (reads_number _ _ _ _ (reads_stop _))))
 reads_row (r.Task task stack) =
     reads_keyword after_first k.Task _ _ (reads_name _ _ _ _ (reads_number _ _ _ _ (reads_stop _)))
 reads_row (r.Isr isr level stack) =
     reads_keyword after_first k.Isr _ _
-        (reads_name _ _ _ _ (reads_number _ _ _ _ (reads_number _ _ _ _ (reads_end _ _))))
+    (reads_name _ _ _ _ (reads_number _ _ _ _ (reads_number _ _ _ _ (reads_end _ _))))
 reads_row (r.IsrFar isr level stack distance) =
     reads_keyword after_first k.Isr _ _
-        (reads_name _ _ _ _ (reads_number _ _ _ _
-        (reads_number _ _ _ _ (reads_on _ _ _ _ _ _ refl (reads_number _ _ _ _ (reads_stop _))))))
+    (reads_name _ _ _ _ (reads_number _ _ _ _
+    (reads_number _ _ _ _ (reads_on _ _ _ _ _ _ refl (reads_number _ _ _ _ (reads_stop _))))))
 reads_row (r.Osek task priority) =
     reads_keyword after_first k.Osek _ _ (reads_name _ _ _ _ (reads_number _ _ _ _ (reads_end _ _)))
 reads_row (r.OsekAuto task priority) =
     reads_keyword after_first k.Osek _ _
-        (reads_name _ _ _ _ (reads_number _ _ _ _
-        (reads_on _ _ _ _ _ _ refl (reads_keyword _ k.Auto _ _ (reads_stop _)))))
+    (reads_name _ _ _ _ (reads_number _ _ _ _
+    (reads_on _ _ _ _ _ _ refl (reads_keyword _ k.Auto _ _ (reads_stop _)))))
 reads_row (r.Oisr oisr priority) =
     reads_keyword after_first k.Oisr _ _ (reads_name _ _ _ _ (reads_number _ _ _ _ (reads_stop _)))
 reads_row r.HookError = reads_keyword after_first k.Hook _ _ (reads_keyword _ k.Error _ _ (reads_stop _))
@@ -172,7 +172,7 @@ reads_row (r.AtNonstringent offset mode task deadline) =
     (reads_name _ _ _ _ (reads_number _ _ _ _ (reads_keyword _ k.Nonstringent _ _ (reads_stop _)))))))
 reads_row (r.AtEnable offset mode isr) =
     reads_keyword after_first k.At _ _
-        (reads_number _ _ _ _ (reads_name _ _ _ _ (reads_keyword _ k.Enable _ _ (reads_name _ _ _ _ (reads_stop _)))))
+    (reads_number _ _ _ _ (reads_name _ _ _ _ (reads_keyword _ k.Enable _ _ (reads_name _ _ _ _ (reads_stop _)))))
 reads_row (r.Start mode) = reads_keyword after_first k.Start _ _ (reads_name _ _ _ _ (reads_stop _))
 reads_row (r.Rounds count) = reads_keyword after_first k.Rounds _ _ (reads_number _ _ _ _ (reads_stop _))
 reads_row (r.Value demand value) =
@@ -201,7 +201,7 @@ pub row_of-spelled : (words : List (List ℕ)) (row : Row) → Spells words row 
 unfolding row_of
 row_of-spelled words row spells =
     let parts = and_parts (list_all is_sound_item (items_of row))
-        (nat_le (length (line_of_row row)) 200) spells.sound in
+    (nat_le (length (line_of_row row)) 200) spells.sound in
     ap row_of (sym spells.spelled)
     ∙ cond-true (nat_le (length (line_of_row row)) 200) (row_by_words (spelling_of row)) None parts.1
     ∙ (reads_row row).at parts.0

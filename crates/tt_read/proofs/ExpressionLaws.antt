@@ -8,7 +8,7 @@ use Rattle.tt_rows.specs.declared.row.Term.TheVariants as term
 use Rattle.tt_rows.specs.Sound.{are_expressions}
 use Rattle.tt_read.specs.Reading.{term_of, term_in_front, terms_of, expected_after, expression_of}
 
--- of all words these terms were read, so many expressions are still to come, and these words are left
+-- of all words these terms were read, n expressions are still to come, and these words are left
 pub record Parsed (all : List (List ℕ)) (terms : List Term) (expected : ℕ) (left : List (List ℕ)) : Type 0 where
   pub read : terms_of all ≡ option_map (λ later. terms ++ later) (terms_of left)
   pub whole : (later : List Term) → are_expressions 1 (terms ++ later) ≡ are_expressions expected later
@@ -46,7 +46,7 @@ more_terms all terms expected word left t parsed some is = record {
       ∙ in_front_again terms t (terms_of left);
   whole = λ later.
       ap (are_expressions 1) (append_assoc terms (t ∷ []) later) ∙ parsed.whole (t ∷ later)
-          ∙ after_term t expected later some;
+      ∙ after_term t expected later some;
   few = fewer t expected (length left) (length all) some (omega (arith, parsed.few));
 }
 
@@ -54,9 +54,9 @@ more_terms all terms expected word left t parsed some is = record {
 pub parsed_more : {all : List (List ℕ)} {terms : List Term} {expected : ℕ} {words : List (List ℕ)}
     → Parsed all terms expected words → 0 < expected
     → (word : List ℕ) (left : List (List ℕ)) (t : Term) → words ≡ word ∷ left → Some t ≡ term_of word
-    → (now : List Term) (behind : ℕ) → now ≡ terms ++ t ∷ [] → behind ≡ expected_after t expected
-    → Parsed all now behind left
-parsed_more {all} {terms} {expected} parsed some word left t front is now behind same_terms same_expected =
-    let P : List Term → Type 0 = λ ts. Parsed all ts behind left in
+    → (now : List Term) (later : ℕ) → now ≡ terms ++ t ∷ [] → later ≡ expected_after t expected
+    → Parsed all now later left
+parsed_more {all} {terms} {expected} parsed some word left t front is now later same_terms same_expected =
+    let P : List Term → Type 0 = λ ts. Parsed all ts later left in
     subst P (sym same_terms) (subst (λ n. Parsed all (terms ++ t ∷ []) n left) (sym same_expected)
     (more_terms all terms expected word left t (subst (Parsed all terms expected) front parsed) some (sym is)))

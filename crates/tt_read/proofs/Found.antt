@@ -19,7 +19,7 @@ use Rattle.tt_read.specs.Reading.{Reader, terms_of, stop, stop_or, with_some, on
 use Rattle.tt_read.specs.Spells.{Spells}
 use Rattle.tt_read.proofs.TermLaws.{keyword_of-spelled, terms_of-spelled, integer_from_fits}
 
--- a row has these items behind its first ones, and these words spell them
+-- a row has these items after its first ones, and these words spell them
 pub record Found (front : List Item → List Item) (words : List (List ℕ)) (row : Row) : Type 0 where
   pub items : List Item
   pub whole : items_of row ≡ front items
@@ -80,7 +80,7 @@ with_some_at : {A : Type 0} (front : List Item → List Item) (read : List ℕ �
 with_some_at front read item next None word holds is finds words found h = cc
 with_some_at front read item next (Some a) word holds is finds words found h =
     let parts = holds.at word a is in
-        found_in_front front (item a) word words found parts.0 parts.1 ((finds a).at words found h)
+    found_in_front front (item a) word words found parts.0 parts.1 ((finds a).at words found h)
 
 one_at : {A : Type 0} (front : List Item → List Item) (read : List ℕ → Option A) (item : A → Item) (next : A → Reader)
     → Holds read item → ((a : A) → Finds (λ items. front (item a ∷ items)) (next a))
@@ -102,8 +102,10 @@ pub finds_number : (front : List Item → List Item) (next : ℕ → Reader)
     → ((n : ℕ) → Finds (λ items. front (Number n ∷ items)) (next n)) → Finds front (number next)
 finds_number front next finds = record {
   at = one_at front number_of Number next
-      (record { at = λ word n is. let parts = number_of-spelled word n is in
-          (ap (λ w. w ∷ []) (sym parts.0), lt-ltb n (10 ^ 12) parts.1) }) finds;
+      (record {
+        at = λ word n is. let parts = number_of-spelled word n is in
+            (ap (λ w. w ∷ []) (sym parts.0), lt-ltb n (10 ^ 12) parts.1);
+      }) finds;
 }
 
 pub finds_integer : (front : List Item → List Item) (next : ℤ → Reader)
@@ -111,8 +113,10 @@ pub finds_integer : (front : List Item → List Item) (next : ℤ → Reader)
     → Finds front (integer next)
 finds_integer front next finds = record {
   at = one_at front integer_of Integer next
-      (record { at = λ word value is. let parts = integer_of-spelled word value is in
-          (ap (λ w. w ∷ []) (sym parts.0), integer_from_fits value parts.1) }) finds;
+      (record {
+        at = λ word value is. let parts = integer_of-spelled word value is in
+            (ap (λ w. w ∷ []) (sym parts.0), integer_from_fits value parts.1);
+      }) finds;
 }
 
 name_of-named : (word text : List ℕ) → name_of word ≡ Some text → (word ≡ text) × (is_name text ≡ true)
@@ -130,8 +134,10 @@ pub finds_name : (front : List Item → List Item) (next : List ℕ → Reader)
     → Finds front (name next)
 finds_name front next finds = record {
   at = one_at front name_of Named next
-      (record { at = λ word text is. let parts = name_of-named word text is in
-          (ap (λ w. w ∷ []) (sym parts.0), parts.1) }) finds;
+      (record {
+        at = λ word text is. let parts = name_of-named word text is in
+            (ap (λ w. w ∷ []) (sym parts.0), parts.1);
+      }) finds;
 }
 
 expression_at : (front : List Item → List Item) (build : List Term → Row)
@@ -143,7 +149,7 @@ expression_at front build whole words (Some terms) found is h =
     elim (cases_Bool (are_expressions 1 terms)) [
       | inl e ↦
           let same : Some (build terms) ≡ Some found =
-              sym (ap (option_map build) (cond-true (are_expressions 1 terms) (Some terms) None e)) ∙ h in
+          sym (ap (option_map build) (cond-true (are_expressions 1 terms) (Some terms) None e)) ∙ h in
           let one : build terms ≡ found = cc in
           let spells = terms_of-spelled words terms is in
           subst (Found front words) one (record {
@@ -164,37 +170,39 @@ unfolding expression
 finds_expression front build whole =
     record { at = λ words found h. expression_at front build whole words (terms_of words) found refl h }
 
-abbrev behind : (List Item → List Item) → Keyword → List Item → List Item
-behind front key items = front (Key (keyword_text key) ∷ items)
+abbrev after_front : (List Item → List Item) → Keyword → List Item → List Item
+after_front front key items = front (Key (keyword_text key) ∷ items)
 
-finds_after_one : (key : Keyword) → Finds (behind (λ items. Key (keyword_text k.Osektime) ∷ items) key) (after_one key)
+finds_after_one : (key : Keyword)
+    → Finds (after_front (λ items. Key (keyword_text k.Osektime) ∷ items) key) (after_one key)
 finds_after_one k.One = finds_stop _ _ refl
 finds_after_one _ = finds_fail _
 
-finds_after_hook : (key : Keyword) → Finds (behind (λ items. Key (keyword_text k.Hook) ∷ items) key) (after_hook key)
+finds_after_hook : (key : Keyword)
+    → Finds (after_front (λ items. Key (keyword_text k.Hook) ∷ items) key) (after_hook key)
 finds_after_hook k.Error = finds_stop _ _ refl
 finds_after_hook k.Shutdown = finds_stop _ _ refl
 finds_after_hook _ = finds_fail _
 
 finds_after_priority : (task : List ℕ) (priority : ℕ) (key : Keyword)
-    → Finds (behind (λ items. Key (keyword_text k.Osek) ∷ Named task ∷ Number priority ∷ items) key)
-        (after_priority task priority key)
+    → Finds (after_front (λ items. Key (keyword_text k.Osek) ∷ Named task ∷ Number priority ∷ items) key)
+    (after_priority task priority key)
 finds_after_priority task priority k.Auto = finds_stop _ _ refl
 finds_after_priority task priority _ = finds_fail _
 
 finds_after_deadline : (offset : ℕ) (mode task : List ℕ) (deadline : ℕ) (key : Keyword)
-    → Finds (behind (λ items. Key (keyword_text k.At) ∷ Number offset ∷ Named mode ∷ Key (keyword_text k.Activate)
-        ∷ Named task ∷ Number deadline ∷ items) key) (after_deadline offset mode task deadline key)
+    → Finds (after_front (λ items. Key (keyword_text k.At) ∷ Number offset ∷ Named mode ∷ Key (keyword_text k.Activate)
+    ∷ Named task ∷ Number deadline ∷ items) key) (after_deadline offset mode task deadline key)
 finds_after_deadline offset mode task deadline k.Stringent = finds_stop _ _ refl
 finds_after_deadline offset mode task deadline k.Nonstringent = finds_stop _ _ refl
 finds_after_deadline offset mode task deadline _ = finds_fail _
 
 finds_after_mode : (offset : ℕ) (mode : List ℕ) (key : Keyword)
-    → Finds (behind (λ items. Key (keyword_text k.At) ∷ Number offset ∷ Named mode ∷ items) key)
-        (after_mode offset mode key)
+    → Finds (after_front (λ items. Key (keyword_text k.At) ∷ Number offset ∷ Named mode ∷ items) key)
+    (after_mode offset mode key)
 finds_after_mode offset mode k.Activate =
     finds_name _ _ (λ task. finds_number _ _
-        (λ deadline. finds_keyword _ _ (finds_after_deadline offset mode task deadline)))
+    (λ deadline. finds_keyword _ _ (finds_after_deadline offset mode task deadline)))
 finds_after_mode offset mode k.Enable = finds_name _ _ (λ isr. finds_stop _ _ refl)
 finds_after_mode offset mode _ = finds_fail _
 
@@ -212,7 +220,7 @@ finds_after_first k.Isr =
     finds_stop_or _ _ _ refl (finds_number _ _ (λ distance. finds_stop _ _ refl)))))
 finds_after_first k.Osek =
     finds_name _ _ (λ task. finds_number _ _
-        (λ priority. finds_stop_or _ _ _ refl (finds_keyword _ _ (finds_after_priority task priority))))
+    (λ priority. finds_stop_or _ _ _ refl (finds_keyword _ _ (finds_after_priority task priority))))
 finds_after_first k.Oisr = finds_name _ _ (λ oisr. finds_number _ _ (λ priority. finds_stop _ _ refl))
 finds_after_first k.Hook = finds_keyword _ _ finds_after_hook
 finds_after_first k.At = finds_number _ _
@@ -248,7 +256,7 @@ row_of-spells words row h =
     elim (cases_Bool (nat_le (length (joined words)) 200)) [
       | inl e ↦
           let found = finds_row.at words row
-              (sym (cond-true (nat_le (length (joined words)) 200) (row_by_words words) None e) ∙ h) in
+          (sym (cond-true (nat_le (length (joined words)) 200) (row_by_words words) None e) ∙ h) in
           let spelled : spelling_of row ≡ words = ap (flat_map words_of_item) found.whole ∙ found.spelled in
           record {
             spelled = spelled;

@@ -17,4 +17,4 @@ row_of_line bytes span short inside =
     let words = words_of (text_of bytes span) in
     cond-true (nat_le (length (joined words)) 200) (row_by_words words) None
     (le-leb (length (joined words)) 200
-        (omega (arith, length-joined-words_of (text_of bytes span), length-between bytes span.start span.end inside)))
+    (omega (arith, length-joined-words_of (text_of bytes span), length-between bytes span.start span.end inside)))

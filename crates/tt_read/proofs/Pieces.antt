@@ -32,7 +32,7 @@ pub puts_from : (r : Result (Unit {0}) WriteFault) (b c : Option (List ℕ)) (mi
 puts_from (Ok u) b c mid new piece ok part = ok
 puts_from (Err e) b c mid new piece ok part = part
 
--- of some things the first so many were put, each as its own text
+-- of some things the first n were put, each as its own text
 pub record Put {X : Type 0} (text : X → List ℕ) (xs : List X) (i : ℕ) (a b : Option (List ℕ))
     (old now : List ℕ) : Type 0 where
   pub passes : Passes a b (old ++ flat_map text (take i xs)) now
@@ -52,7 +52,7 @@ pub put_more : {X : Type 0} {text : X → List ℕ} {xs : List X} {i : ℕ} {a b
 put_more {X} {text} {xs} {i} {a} {b} {old} {mid} put inside c now x is passes = record {
   passes = passes_more (old ++ flat_map text (take (i + 1) xs)) (text x)
       (ap (λ all. old ++ all) (text_more text xs i x inside ∙ ap (λ y. flat_map text (take i xs) ++ text y) (sym is))
-          ∙ sym (append_assoc old (flat_map text (take i xs)) (text x)))
+      ∙ sym (append_assoc old (flat_map text (take i xs)) (text x)))
       put.passes passes;
 }
 
@@ -69,7 +69,7 @@ put_part {X} {text} {xs} {i} {a} {b} {old} {mid} put inside c x is part =
     ∙ ap (λ done. done ++ rest) (text_more text xs i x inside ∙ ap (λ y. front ++ text y) (sym is)) in
     part_of_front a c ((old ++ front) ++ text x) rest (old ++ flat_map text xs)
     (ap (λ all. old ++ all) split ∙ sym (append_assoc old (front ++ text x) rest)
-        ∙ ap (λ l. l ++ rest) (sym (append_assoc old front (text x))))
+    ∙ ap (λ l. l ++ rest) (sym (append_assoc old front (text x))))
     (passes_part c ((old ++ front) ++ text x) (text x) refl put.passes part)
 
 -- a call that answers a fault
@@ -95,7 +95,7 @@ spaced_items : (items : List Item) → flat_map spaced (flat_map words_of_item i
 spaced_items [] = refl
 spaced_items (item ∷ items) =
     flat_map-append spaced (words_of_item item) (flat_map words_of_item items)
-        ∙ ap (λ rest. spaced_item item ++ rest) (spaced_items items)
+    ∙ ap (λ rest. spaced_item item ++ rest) (spaced_items items)
 
 line_from_items : (first : List ℕ) (rest items : List Item) → items ≡ Key first ∷ rest
     → joined (flat_map words_of_item items) ≡ first ++ flat_map spaced_item rest
@@ -104,7 +104,7 @@ line_from_items first rest items is =
     ∙ spaced-joined first (flat_map words_of_item rest)
     ∙ ap (λ text. first ++ text) (spaced_items rest)
 
--- what waited and a row's line are the first word behind what waited, the fields, and a LF
+-- what waited and a row's line are the first word after what waited, the fields, and a LF
 pub whole_line : (row : Row) (first : Keyword) (old : List ℕ)
     → items_of row ≡ Key (keyword_text first) ∷ drop 1 (items_of row)
     → old ++ (line_of_row row ++ 10 ∷ [])
@@ -112,7 +112,7 @@ pub whole_line : (row : Row) (first : Keyword) (old : List ℕ)
 whole_line row first old is =
     let fields = flat_map spaced_item (drop 1 (items_of row)) in
     ap (λ line. old ++ (line ++ 10 ∷ []))
-        (line_from_items (keyword_text first) (drop 1 (items_of row)) (items_of row) is)
+    (line_from_items (keyword_text first) (drop 1 (items_of row)) (items_of row) is)
     ∙ sym (append_assoc old (keyword_text first ++ fields) (10 ∷ []))
     ∙ ap (λ text. text ++ 10 ∷ []) (sym (append_assoc old (keyword_text first) fields))
 
@@ -124,7 +124,7 @@ part_of_first row first a b old word is same part =
     let fields = flat_map spaced_item (drop 1 (items_of row)) in
     part_of_front a b (old ++ word) (fields ++ 10 ∷ []) (old ++ (line_of_row row ++ 10 ∷ []))
     (whole_line row first old is ∙ append_assoc (old ++ keyword_text first) fields (10 ∷ [])
-        ∙ ap (λ text. (old ++ text) ++ (fields ++ 10 ∷ [])) (sym same)) part
+    ∙ ap (λ text. (old ++ text) ++ (fields ++ 10 ∷ [])) (sym same)) part
 
 -- a part of a row's first word and fields was appended
 pub part_of_fields : (row : Row) (first : Keyword) (a b c : Option (List ℕ)) (old mid word : List ℕ)
@@ -146,7 +146,7 @@ pub puts_line : (row : Row) (first : Keyword) (a b c d : Option (List ℕ)) (old
 puts_line row first a b c d old mid more new word is same passes fields_pass r last =
     let fields = flat_map spaced_item (drop 1 (items_of row)) in
     puts_then (passes_more ((old ++ word) ++ fields) fields refl passes fields_pass) r d old new (10 ∷ [])
-        (line_of_row row ++ 10 ∷ [])
+    (line_of_row row ++ 10 ∷ [])
     (whole_line row first old is ∙ ap (λ text. ((old ++ text) ++ fields) ++ 10 ∷ []) (sym same)) last
 
 -- where sending what waited fails, a part of all was sent

@@ -14,7 +14,7 @@ use Rattle.tt_read.specs.Reading.{row_of}
 use Rattle.tt_read.specs.Spells.{Spells}
 use Rattle.tt_read.proofs.Found.{row_of-spells}
 
--- of a document so many lines were read, which have these rows and end at this place
+-- of a document n lines were read, which have these rows and end at this place
 pub record Passed (bytes : List ℕ) (lines at : ℕ) (rows : List NumberedRow) : Type 0 where
   pub read : rows_of 1 (lines_of bytes) ≡ rows ++ rows_of (lines + 1) (lines_of (drop at bytes))
   pub good : first_fault 1 (lines_of bytes) ≡ first_fault (lines + 1) (lines_of (drop at bytes))
@@ -42,16 +42,16 @@ sound_then : (line : ℕ) (words : List (List ℕ)) (o : Option Row) (rows : Lis
 sound_then line words None rows is sound = sound
 sound_then line words (Some row) rows is sound =
     and_from (is_sound_row row) (list_all (λ (row : NumberedRow). is_sound_row row.row) rows)
-        (row_of_words-spells words row is).sound sound
+    (row_of_words-spells words row is).sound sound
 
 sound_rows : (line : ℕ) (lines : List Line)
     → list_all (λ (row : NumberedRow). is_sound_row row.row) (rows_of line lines) ≡ true
 sound_rows line [] = refl
 sound_rows line (first ∷ rest) =
     sound_then line (words_of first.text) (row_of_words (words_of first.text)) (rows_of (line + 1) rest) refl
-        (sound_rows (line + 1) rest)
+    (sound_rows (line + 1) rest)
 
--- rows that ascend from behind a line also do with one of that line in front, or none
+-- rows that ascend from after a line also do with one of that line in front, or none
 ascend_then : (least line : ℕ) (o : Option Row) (rows : List NumberedRow) → least ≤ line
     → ((low : ℕ) → low ≤ line + 1 → ascend_from low rows ≡ true) → ascend_from least (row_then line o rows) ≡ true
 ascend_then least line None rows low later = later least (omega arith)
@@ -62,14 +62,14 @@ ascending : (line : ℕ) (lines : List Line) (least : ℕ) → least ≤ line �
 ascending line [] least low = refl
 ascending line (first ∷ rest) least low =
     ascend_then least line (row_of_words (words_of first.text)) (rows_of (line + 1) rest) low
-        (ascending (line + 1) rest)
+    (ascending (line + 1) rest)
 
 -- the rows of a document are sound
 pub document_of-sound : (bytes : List ℕ) (rows : List NumberedRow) → document_of bytes ≡ Rows rows → AreSound rows
 document_of-sound bytes rows is =
     let same = rows_by (first_fault 1 (lines_of bytes)) (rows_of 1 (lines_of bytes)) rows is in
     subst AreSound same (record
-        { ascending = ascending 1 (lines_of bytes) 1 (omega arith); sound = sound_rows 1 (lines_of bytes) })
+    { ascending = ascending 1 (lines_of bytes) 1 (omega arith); sound = sound_rows 1 (lines_of bytes) })
 
 -- where no line is left, the rows that were read are the document's, and sound
 pub passed_all : {bytes : List ℕ} {lines at : ℕ} {rows : List NumberedRow} → Passed bytes lines at rows
@@ -77,7 +77,7 @@ pub passed_all : {bytes : List ℕ} {lines at : ℕ} {rows : List NumberedRow} �
 passed_all {bytes} {lines} {at} {rows} passed end =
     let none : drop at bytes ≡ [] = drop_all at bytes (omega arith) in
     ap (λ fault. document_by fault (rows_of 1 (lines_of bytes)))
-        (passed.good ∙ ap (λ text. first_fault (lines + 1) (lines_of text)) none)
+    (passed.good ∙ ap (λ text. first_fault (lines + 1) (lines_of text)) none)
     ∙ ap Rows (passed.read ∙ ap (λ text. rows ++ rows_of (lines + 1) (lines_of text)) none ∙ append-nil rows)
 
 pub passed_sound : {bytes : List ℕ} {lines at : ℕ} {rows : List NumberedRow} → Passed bytes lines at rows

@@ -41,7 +41,7 @@ pub keyword_of-spelled : (text : List ℕ) (keyword : Keyword) → keyword_of te
 unfolding keyword_of
 keyword_of-spelled text keyword h =
     (bytes_eq-Decides text (keyword_text keyword)).0
-        (find-passes (λ keyword. bytes_eq text (keyword_text keyword)) keywords keyword h)
+    (find-passes (λ keyword. bytes_eq text (keyword_text keyword)) keywords keyword h)
 
 pub op_of-spelled : (text : List ℕ) (op : Op) → op_of text ≡ Some op → text ≡ op_word op
 unfolding op_of
@@ -103,10 +103,10 @@ name_is_no_integer (first ∷ rest) named =
     let high = letter_is_high first (and_parts (is_letter first) (is_rest_of_name rest) named).0 in
     let no_digit = and_right (nat_le 48 first) (nat_le first 57) (lt-leb first 57 (omega (arith, high))) in
     cond-false (first == 45) (negative_of (number_of rest)) (positive_of (number_of (first ∷ rest)))
-        (ne_eqb first 45 (λ e. omega (arith, high)))
+    (ne_eqb first 45 (λ e. omega (arith, high)))
     ∙ ap (λ t. positive_of (cond
-        (((t && list_all is_ascii_digit rest) && nat_le (length (first ∷ rest)) 12)
-        && has_no_leading_zero (first ∷ rest)) (Some (value_of (first ∷ rest))) None)) no_digit
+    (((t && list_all is_ascii_digit rest) && nat_le (length (first ∷ rest)) 12)
+    && has_no_leading_zero (first ∷ rest)) (Some (value_of (first ∷ rest))) None)) no_digit
 
 no_op_of_integer : (o : Option Op) (value : ℤ) → op_of (signed_decimal value) ≡ o → is_integer value ≡ true → o ≡ None
 no_op_of_integer None value h small = refl
@@ -125,9 +125,9 @@ pub term_of-term_word : (t : Term) → is_sound_term t ≡ true → term_of (ter
 unfolding term_of
 term_of-term_word (term.Int value) sound =
     ap (λ o. op_or_operand o (integer_of (signed_decimal value)) (signed_decimal value))
-        (no_op_of_integer (op_of (signed_decimal value)) value refl sound)
+    (no_op_of_integer (op_of (signed_decimal value)) value refl sound)
     ∙ ap (λ o. op_or_operand None o (signed_decimal value))
-        (integer_of-signed_decimal value (fits_from_integer value sound))
+    (integer_of-signed_decimal value (fits_from_integer value sound))
 term_of-term_word (term.Name name) sound =
     ap (λ o. op_or_operand o (integer_of name) name) (no_op_of_name (op_of name) name refl sound)
     ∙ ap (λ o. op_or_operand None o name) (name_is_no_integer name sound)
@@ -144,7 +144,7 @@ named_term text t h =
     elim (cases_Bool (is_name text)) [
       | inl e ↦
           let same : Some (term.Name text) ≡ Some t = sym (cond-true (is_name text) (Some (term.Name text)) None e)
-              ∙ h in
+          ∙ h in
           let one : term.Name text ≡ t = cc in
           subst (SpellsTerm text) one (record { spelled = refl; sound = e })
       | inr e ↦ let none : None ≡ Some t = sym (cond-false (is_name text) (Some (term.Name text)) None e) ∙ h in cc
@@ -189,10 +189,10 @@ in_front_spelled (Some t) None word words terms first others h = cc
 in_front_spelled (Some t) (Some rest) word words terms first others h =
     let one : t ∷ rest ≡ terms = cc in
     let front = first t refl in
-    let behind = others rest refl in
+    let later = others rest refl in
     subst (SpellsTerms (word ∷ words)) one (record {
-      spelled = ap (λ w. w ∷ map term_word rest) front.spelled ∙ ap (λ ws. word ∷ ws) behind.spelled;
-      sound = and_from (is_sound_term t) (list_all is_sound_term rest) front.sound behind.sound;
+      spelled = ap (λ w. w ∷ map term_word rest) front.spelled ∙ ap (λ ws. word ∷ ws) later.spelled;
+      sound = and_from (is_sound_term t) (list_all is_sound_term rest) front.sound later.sound;
     })
 
 -- words that are read as terms are the words of the terms

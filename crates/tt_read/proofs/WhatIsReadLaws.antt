@@ -137,13 +137,13 @@ fault_by-from (Some line_kind.Cut) words = refl
 fault_of_line-least : (line : Line) (fault : FormKind) → fault_of_line line ≡ Some fault → HasLeastFault line fault
 fault_of_line-least line fault found =
     least_found (list_all is_plain_byte line.text) (nat_lt 200 (length line.text)) line.ended
-        (word_fault (words_of line.text)) fault (decide line)
+    (word_fault (words_of line.text)) fault (decide line)
     (sym (fault_by-from _ (words_of line.text)) ∙ found)
 
 fault_of_line-none : (line : Line) → fault_of_line line ≡ None → IsGood line
 fault_of_line-none line found =
     good_found (list_all is_plain_byte line.text) (nat_lt 200 (length line.text)) line.ended
-        (word_fault (words_of line.text)) (decide line)
+    (word_fault (words_of line.text)) (decide line)
     (sym (fault_by-from _ (words_of line.text)) ∙ found)
 
 -- the faults of all lines
@@ -164,7 +164,7 @@ all_good : (n : ℕ) (lines : List Line) → first_fault n lines ≡ None → (p
 all_good n [] none place line there = cc
 all_good n (first ∷ rest) none place line there =
     all_good_then n first rest (fault_of_line first) (first_fault (n + 1) rest) refl none
-        (all_good (n + 1) rest) place line there
+    (all_good (n + 1) rest) place line there
 
 earlier_good : (line : Line) (lines : List Line) (last : ℕ) → IsGood line
     → ((earlier : ℕ) (other : Line) → earlier < last → slice_get lines earlier ≡ Some other → IsGood other)
@@ -203,7 +203,7 @@ first_fault-is : (n : ℕ) (lines : List Line) (fault : Fault) → first_fault n
 first_fault-is n [] fault found = cc
 first_fault-is n (first ∷ rest) fault found =
     first_fault_then n first rest (fault_of_line first) (first_fault (n + 1) rest) fault refl found
-        (first_fault-is (n + 1) rest fault)
+    (first_fault-is (n + 1) rest fault)
 
 -- the rows of all lines
 
@@ -245,7 +245,7 @@ rows_of-spelled : (n : ℕ) (lines : List Line) (row : NumberedRow) → Contains
 rows_of-spelled n [] row (k, below, same) = absurd (omega arith)
 rows_of-spelled n (line ∷ lines) row stands =
     spelled_then n line lines (row_of_words (words_of line.text)) (rows_of (n + 1) lines) row refl
-        (rows_of-spelled (n + 1) lines row) stands
+    (rows_of-spelled (n + 1) lines row) stands
 
 stands_later : (n : ℕ) (o : Option Row) (rows : List NumberedRow) (row : NumberedRow) → Contains rows row
     → Contains (row_then n o rows) row
@@ -266,9 +266,9 @@ stands_then : (n : ℕ) (line : Line) (lines : List Line) (row : NumberedRow) (p
 stands_then n line lines row zero at numbered there spells later =
     let one : at ≡ line = cc in
     let here : Spells (words_of line.text) row.row =
-        subst (λ (found : Line). Spells (words_of found.text) row.row) one spells in
+    subst (λ (found : Line). Spells (words_of found.text) row.row) one spells in
     stands_first n (row_of_words (words_of line.text)) (rows_of (n + 1) lines) row
-        (row_of_words-spelled (words_of line.text) row.row here)
+    (row_of_words-spelled (words_of line.text) row.row here)
     (omega arith)
 stands_then n line lines row (suc place) at numbered there spells later =
     stands_later n (row_of_words (words_of line.text)) (rows_of (n + 1) lines) row
@@ -279,7 +279,7 @@ rows_of-all : (n : ℕ) (lines : List Line) (row : NumberedRow) → IsSpelledIn 
 rows_of-all n [] row spelled = let none = spelled.there in cc
 rows_of-all n (line ∷ lines) row spelled =
     stands_then n line lines row spelled.place spelled.line spelled.numbered spelled.there spelled.spells
-        (rows_of-all (n + 1) lines row)
+    (rows_of-all (n + 1) lines row)
 
 rows_are_read : (o : Option Fault) (lines : List Line) (rows : List NumberedRow) → first_fault 1 lines ≡ o
     → document_by o (rows_of 1 lines) ≡ Rows rows → (o ≡ None) × (rows_of 1 lines ≡ rows)

@@ -46,9 +46,9 @@ keyword_text k.Terminate = codes "terminate"
 abbrev pub keywords : List Keyword
 keywords =
     k.Osektime ∷ k.One ∷ k.Round ∷ k.Adjust ∷ k.Mode ∷ k.Var ∷ k.Demand ∷ k.Task ∷ k.Isr ∷ k.Osek ∷ k.Auto ∷ k.Oisr
-        ∷ k.Hook ∷ k.Error
+    ∷ k.Hook ∷ k.Error
     ∷ k.Shutdown ∷ k.At ∷ k.Activate ∷ k.Stringent ∷ k.Nonstringent ∷ k.Enable ∷ k.Start ∷ k.Rounds ∷ k.Value
-        ∷ k.Arrive ∷ k.Time ∷ k.Work
+    ∷ k.Arrive ∷ k.Time ∷ k.Work
     ∷ k.Take ∷ k.Set ∷ k.If ∷ k.Else ∷ k.Repeat ∷ k.End ∷ k.Out ∷ k.Switch ∷ k.Sync ∷ k.Chain ∷ k.Terminate ∷ []
 
 -- the word of the language that a text is

@@ -70,7 +70,7 @@ abbrev pub first_by : {A : Type 0} → (List ℕ → Option A) → List (List �
 first_by read [] = None
 first_by read (word ∷ words) = read word
 
--- the words behind the first
+-- the words after the first
 abbrev pub rest_of : List (List ℕ) → List (List ℕ)
 rest_of [] = []
 rest_of (word ∷ words) = words
@@ -99,7 +99,7 @@ integer next = one integer_of next
 abbrev pub name : (List ℕ → Reader) → Reader
 name next = one name_of next
 
--- how many expressions are still to come behind a term, where so many were to come with it
+-- how many expressions are still to come after a term, where n were to come with it
 abbrev pub expected_after : Term → ℕ → ℕ
 expected_after (term.Int value) expected = expected - 1
 expected_after (term.Name name) expected = expected - 1
@@ -149,7 +149,7 @@ plain_after k.Demand = name (λ demand. number (λ most. number (λ usual. stop 
 plain_after k.Task = name (λ task. number (λ stack. stop (r.Task task stack)))
 plain_after k.Isr =
     name (λ isr. number (λ level. number
-        (λ stack. stop_or (r.Isr isr level stack) (number (λ distance. stop (r.IsrFar isr level stack distance))))))
+    (λ stack. stop_or (r.Isr isr level stack) (number (λ distance. stop (r.IsrFar isr level stack distance))))))
 plain_after k.Osek = name (λ task. number
     (λ priority. stop_or (r.Osek task priority) (keyword (after_priority task priority))))
 plain_after k.Oisr = name (λ oisr. number (λ priority. stop (r.Oisr oisr priority)))

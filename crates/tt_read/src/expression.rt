@@ -41,7 +41,7 @@ pub fn term(word: &[u8]) -> Option<Term>
     Name::new(word).map(Term::Name)
 }
 
-/// How many expressions are still to come behind a term, where so many were to come with it.
+/// How many expressions are still to come after a term, where `expected` were to come with it.
 fn expected_after(term: &Term, expected: u8) -> u8
     requires some { 0 < expected }
     requires few { expected ≤ 101 }

@@ -1,4 +1,4 @@
-//! The fields of a row behind its first word.
+//! The fields of a row after its first word.
 #![tactic(auto, unfolding(crate::specs::Reading::one, crate::specs::Reading::fail, crate::specs::Reading::stop, crate::specs::Reading::stop_or, crate::specs::Reading::expression))]
 
 ghost use Rattle.std.specs.Prelude.{◌≡◌, ◌≤◌, length, IfOk};
@@ -11,7 +11,7 @@ use std::alloc::Global;
 use tt_base::{Memory, Name};
 use tt_rows::Row;
 
-/// The row of a first word and the fields behind it, where they are one. Words may be left behind
+/// The row of a first word and the fields after it, where they are one. Words may be left after
 /// the fields.
 fn plain_row(first: Keyword, words: &mut Cursor) -> Option<Row>
     ensures { finish result words.new ≡ plain_after first words.old }
@@ -130,7 +130,7 @@ fn set(alloc: Global, words: &mut Cursor) -> Result<Option<Row>, Memory>
     Ok(terms.map(|terms| Row::Set(var, terms)))
 }
 
-/// The row of a first word and the fields behind it, where they are one. Words may be left behind
+/// The row of a first word and the fields after it, where they are one. Words may be left after
 /// the fields.
 fn row(alloc: Global, first: Keyword, words: &mut Cursor) -> Result<Option<Row>, Memory>
     requires { length words.old ≤ 100 }

@@ -17,7 +17,7 @@ use tt_base::Name;
 use tt_io::{Buffer, Sink, WriteFault};
 use tt_rows::{NumberedRow, Row, Rows, Term, Terms};
 
-/// A part of a row's line behind its first word.
+/// A part of a row's line after its first word.
 #[derive(Clone, Copy)]
 enum Part<'a> {
     Key(Keyword),
@@ -118,7 +118,7 @@ fn put_part<O: Sink>(part: &Part, buffer: &mut Buffer, sink: &mut O) -> Result<(
     }
 }
 
-/// Puts the parts of a row's line behind its first word.
+/// Puts the parts of a row's line after its first word.
 fn put_parts<O: Sink>(parts: &[Part], buffer: &mut Buffer, sink: &mut O) -> Result<(), WriteFault>
     ensures text { Puts result (O.written sink.old) (O.written sink.new) buffer.old buffer.new
         (flat_map spaced_part parts.now) }
@@ -170,7 +170,7 @@ fn first_word(row: &Row) -> Keyword
     }
 }
 
-/// Puts the fields of a row's line behind its first word.
+/// Puts the fields of a row's line after its first word.
 fn put_fields<O: Sink>(row: &Row, buffer: &mut Buffer, sink: &mut O) -> Result<(), WriteFault>
     ensures text { Puts result (O.written sink.old) (O.written sink.new) buffer.old buffer.new
         (flat_map spaced_item (drop 1 (items_of row.now))) }
@@ -294,7 +294,7 @@ fn put_activation<O: Sink>(
     ensures text { Puts result (O.written sink.old) (O.written sink.new) buffer.old buffer.new
         (flat_map spaced_item
         (Number offset ∷ Named mode ∷ Key (codes "activate") ∷ Named task ∷ Number deadline ∷ Key
-            (keyword_text last) ∷ [])) }
+        (keyword_text last) ∷ [])) }
     ensures cause { OnErr result (Rose (O.faults sink.old) (O.faults sink.new)) }
     ensures never_falls { O.faults sink.old ≤ O.faults sink.new }
 {

@@ -9,8 +9,8 @@ use Rattle.tt_rows.specs.declared.row.Row.{Row}
 use Rattle.tt_rows.specs.declared.row.NumberedRow.{NumberedRow}
 use Rattle.tt_rows.specs.Spelling.{Item, Key, Number, Named, Integer, Expression, items_of, line_of_row}
 
--- so many expressions in prefix form, one behind the other: an integer or a name is one, and an operator with the two
--- expressions behind it is one
+-- n expressions in prefix form, one after the other: an integer or a name is one, and an operator with the two
+-- expressions after it is one
 abbrev pub are_expressions : ℕ → List Term → Bool
 are_expressions zero [] = true
 are_expressions zero (first ∷ rest) = false

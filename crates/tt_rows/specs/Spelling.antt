@@ -36,10 +36,10 @@ items_of r.HookError = Key (codes "hook") ∷ Key (codes "error") ∷ []
 items_of r.HookShutdown = Key (codes "hook") ∷ Key (codes "shutdown") ∷ []
 items_of (r.AtStringent offset mode task deadline) =
     Key (codes "at") ∷ Number offset ∷ Named mode ∷ Key (codes "activate") ∷ Named task ∷ Number deadline ∷ Key
-        (codes "stringent") ∷ []
+    (codes "stringent") ∷ []
 items_of (r.AtNonstringent offset mode task deadline) =
     Key (codes "at") ∷ Number offset ∷ Named mode ∷ Key (codes "activate") ∷ Named task ∷ Number deadline ∷ Key
-        (codes "nonstringent") ∷ []
+    (codes "nonstringent") ∷ []
 items_of (r.AtEnable offset mode isr) =
     Key (codes "at") ∷ Number offset ∷ Named mode ∷ Key (codes "enable") ∷ Named isr ∷ []
 items_of (r.Start mode) = Key (codes "start") ∷ Named mode ∷ []

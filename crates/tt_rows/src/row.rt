@@ -37,7 +37,7 @@ pub enum Row {
     Task(Name, u64),
     /// `isr NAME LEVEL STACK`: a time-triggered interrupt service routine. Its body follows.
     Isr(Name, u64, u64),
-    /// `isr NAME LEVEL STACK DISTANCE`: one whose interrupts are at least so many ticks apart. Its
+    /// `isr NAME LEVEL STACK DISTANCE`: one whose interrupts are at least DISTANCE ticks apart. Its
     /// body follows.
     IsrFar(Name, u64, u64, u64),
     /// `osek NAME PRIORITY`: a task of the OSEK subsystem, at first suspended. Its body follows.
@@ -66,7 +66,7 @@ pub enum Row {
     Arrive(Name, u64),
     /// `time G`: the next global time, in ticks.
     Time(u64),
-    /// `work N`: so many ticks of work.
+    /// `work N`: N ticks of work.
     Work(u64),
     /// `take DEM`: as much work as the demand says.
     Take(Name),
@@ -76,7 +76,7 @@ pub enum Row {
     If(Terms),
     /// `else`: the statements that follow where it is 0.
     Else,
-    /// `repeat N`: the statements that follow, so many times.
+    /// `repeat N`: the statements that follow, N times.
     Repeat(u64),
     /// `end`: the end of a body or a block.
     End,

@@ -77,7 +77,7 @@ range-between key deadline other =
     let same = (key.0 == other.0) && (key.1 == other.1) in
     by_owner owners (nat_cmp (key.2 + 1) other.2) (nat_cmp deadline other.2)
     ∙ ap (λ b. b && (is_le (nat_cmp (key.2 + 1) other.2) && not (is_le (nat_cmp deadline other.2))))
-        (owners_equal key other)
+    (owners_equal key other)
     ∙ ap (λ b. same && (b && not (is_le (nat_cmp deadline other.2)))) (above_offset key.2 other.2)
     ∙ ap (λ b. same && (nat_lt key.2 other.2 && b)) (below_deadline deadline other.2)
 
@@ -86,7 +86,7 @@ pub key-upto : (mode task offset deadline : ℕ) → offset < deadline
     → is_gt (key_cmp (mode, task, offset + 1) (mode, task, deadline)) ≡ false
 key-upto mode task offset deadline lt =
     ap (λ o. is_gt (ordering_then (ordering_then o (nat_cmp task task)) (nat_cmp (offset + 1) deadline)))
-        (tied_itself nat_cmp_total mode)
+    (tied_itself nat_cmp_total mode)
     ∙ ap (λ o. is_gt (ordering_then o (nat_cmp (offset + 1) deadline))) (tied_itself nat_cmp_total task)
     ∙ numbers where
       numbers : is_gt (nat_cmp (offset + 1) deadline) ≡ false
@@ -122,7 +122,7 @@ pub comes_between-none : (key : Key) (deadline : ℕ) (other : Key) → deadline
 comes_between-none key deadline other le =
     let empty : (nat_lt key.2 other.2 && nat_lt other.2 deadline) ≡ false = grind (arith, nat_tests) in
     ap (λ b. ((key.0 == other.0) && (key.1 == other.1)) && b) empty
-        ∙ and_false ((key.0 == other.0) && (key.1 == other.1)) where
+    ∙ and_false ((key.0 == other.0) && (key.1 == other.1)) where
       and_false : (b : Bool) → (b && false) ≡ false
       and_false true = refl
       and_false false = refl
@@ -149,7 +149,7 @@ pub keys-more : (set new : BTreeSet Key) (entries : List (At Entry)) (k : ℕ) (
     → HasKeys new (take (k + 1) entries)
 keys-more set new entries k x key lt gives has put = λ q.
     put q ∙ ap (λ o. is_key (eq_by_cmp key_cmp) q o || contains key_cmp set q) gives
-        ∙ ap (λ b. has_key q (get_or entries k x) || b) (has q)
+    ∙ ap (λ b. has_key q (get_or entries k x) || b) (has q)
     ∙ sym (any-push (has_key q) (take k entries) (get_or entries k x))
     ∙ sym (ap (list_any (has_key q)) (take_more entries k x lt))
 
@@ -190,13 +190,16 @@ found_at p [] is = cc
 found_at p (x ∷ xs) is = ⊎_elim
     (λ here. at (key_of x.part) refl here)
     (λ there. let rest = found_at p xs there in
-        (rest.0, rest.1, or_right (has_key rest.0 x) (list_any (has_key rest.0) xs) rest.2))
+    (rest.0, rest.1, or_right (has_key rest.0 x) (list_any (has_key rest.0) xs) rest.2))
     (or_cases (passing p x) (list_any (passing p) xs) is) where
       at : (key : Option Key) → key_of x.part ≡ key → passes_key p key ≡ true
           → (key : Key) × (p key ≡ true) × (list_any (has_key key) (x ∷ xs) ≡ true)
       at None of here = cc
-      at (Some key) of here = (key, here,
-          or_left (has_key key x) (list_any (has_key key) xs) (ap (is_key (eq_by_cmp key_cmp) key) of ∙ equal.refl key))
+      at (Some key) of here = (
+        key,
+        here,
+        or_left (has_key key x) (list_any (has_key key) xs) (ap (is_key (eq_by_cmp key_cmp) key) of ∙ equal.refl key),
+      )
 
 passes_at : (p : Key → Bool) (key : Key) (xs : List (At Entry)) → p key ≡ true → list_any (has_key key) xs ≡ true
     → list_any (passing p) xs ≡ true
@@ -237,7 +240,7 @@ any-between : (mode : ModeNo) (a : Activation) (xs : List (At Entry))
 any-between mode a [] = refl
 any-between mode a (x ∷ xs) =
     ap (λ b. b || list_any (passing (comes_between_key (mode.0, a.task.0, a.offset) a.deadline)) xs)
-        (one-between mode a x.part)
+    (one-between mode a x.part)
     ∙ ap (λ b. comes_between (entry.Activates mode a) x.part || b) (any-between mode a xs)
 
 none-between : (e : ModeNo) (f : _) (xs : List Entry) → list_any (comes_between (entry.Enables e f)) xs ≡ false
@@ -257,4 +260,4 @@ pub failing-same : {A : Type 0} (test other : A → Bool) (xs : List (At A)) →
 failing-same test other [] same = refl
 failing-same test other (x ∷ xs) same =
     ap (λ b. line_unless b x.line (failing test xs)) (same x.part)
-        ∙ ap (line_unless (other x.part) x.line) (failing-same test other xs same)
+    ∙ ap (line_unless (other x.part) x.line) (failing-same test other xs same)

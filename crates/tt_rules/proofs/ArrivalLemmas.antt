@@ -91,7 +91,7 @@ noted-more found more least lesser xs k x after lt noted is put less = record {
   lines = least-step (is_new is_not_after noted.above here.part) here.line least lesser
       (repeating is_not_after (here.part ∷ noted.above) (drop (k + 1) xs))
       (less ∙ ap (λ b. lesser_of least (least_line (line_unless b here.line [])))
-          (is ∙ after-exactly here.part noted.above found noted.has))
+      (is ∙ after-exactly here.part noted.above found noted.has))
       ∙ sym (ap (λ ls. lesser_of least (least_line ls)) (at_drop_more (repeating is_not_after noted.above) xs k x lt))
       ∙ noted.lines;
 } where
@@ -103,5 +103,5 @@ pub noted-end : (found : (ℕ × ℕ) → Option ℕ) (least : Option ℕ) (xs :
     → least ≡ least_line (repeating is_not_after [] xs ++ [])
 noted-end found least xs k le noted =
     sym (lesser_of-none least) ∙ sym
-        (ap (λ ls. lesser_of least (least_line ls)) (at_drop_all (repeating is_not_after noted.above) xs k le))
+    (ap (λ ls. lesser_of least (least_line ls)) (at_drop_all (repeating is_not_after noted.above) xs k le))
     ∙ noted.lines ∙ ap least_line (sym (append-nil (repeating is_not_after [] xs)))

@@ -91,7 +91,7 @@ module _ {X A : Type 0} (f : X → List A) where
       each_weaker (λ a. Each (S a) (f y) × Each (S a) (flat_map f ys)) (λ a. Each (S a) (f y ++ flat_map f ys))
       (λ a k. each_append (S a) (f y) (flat_map f ys) k.0 k.1) (f x)
       (each_both (λ a. Each (S a) (f y)) (λ a. Each (S a) (flat_map f ys)) (f x) (gives x y h.0)
-          (across R S gives x ys h.1))
+      (across R S gives x ys h.1))
 
   pub pairs_flat_map : (R : X → X → Type 0) (S : A → A → Type 0)
       → ((x y : X) → R x y → Each (λ a. Each (S a) (f y)) (f x))
@@ -99,7 +99,7 @@ module _ {X A : Type 0} (f : X → List A) where
   pairs_flat_map R S gives inside [] h = tt
   pairs_flat_map R S gives inside (x ∷ xs) h =
       pairs_append S (f x) (flat_map f xs) (inside x) (pairs_flat_map R S gives inside xs h.1)
-          (across R S gives x xs h.0)
+      (across R S gives x xs h.0)
 
 -- what holds of each holds of the one at a place
 pub each_index : {A : Type 0} (P : A → Type 0) (xs : List A) (k : ℕ) (x : A) → k < length xs → Each P xs

@@ -36,7 +36,7 @@ module _ {A : Type 0} where
   repeating-exactly same above [] = refl
   repeating-exactly same above (x ∷ xs) =
       is_none-unless (is_new same above x.part) x.line (repeating same (x.part ∷ above) xs)
-          ∙ ap (λ b. is_new same above x.part && b) (repeating-exactly same (x.part ∷ above) xs)
+      ∙ ap (λ b. is_new same above x.part && b) (repeating-exactly same (x.part ∷ above) xs)
 
   past-exactly : (n : ℕ) (xs : List (At A)) → is_none (drop n (lines xs)) ≡ nat_le (length (parts xs)) n
   past-exactly zero [] = refl

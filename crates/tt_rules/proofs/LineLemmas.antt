@@ -23,7 +23,7 @@ pub least_line-append : (lines others : List ℕ)
 least_line-append [] others = refl
 least_line-append (line ∷ lines) others =
     ap (lesser_of (Some line)) (least_line-append lines others)
-        ∙ sym (lesser_of-assoc (Some line) (least_line lines) (least_line others))
+    ∙ sym (lesser_of-assoc (Some line) (least_line lines) (least_line others))
 
 -- a line that a test adds
 pub least_line-unless : (test : Bool) (line : ℕ) (lines : List ℕ)
@@ -55,7 +55,7 @@ pub least-each : {A : Type 0} (first : ℕ) (rules : List (Shape A)) (xs : List 
 least-each first [] xs = refl
 least-each first (rule ∷ rules) xs =
     least_line-append (breaking first rule xs) (breaking_one first rules xs)
-        ∙ ap (lesser_of (least_line (breaking first rule xs))) (least-each first rules xs)
+    ∙ ap (lesser_of (least_line (breaking first rule xs))) (least-each first rules xs)
 
 -- ---- the parts that pass a test
 
@@ -102,7 +102,7 @@ module _ {A : Type 0} (passes : A → Bool) where
       past-found here none = by left none before where
         by : (n : ℕ) → n ≡ 0 → lesser_of least (least_line (drop n (lines (filter_at passes (drop k xs))))) ≡ all
             → lesser_of (lesser_of least (Some x.line))
-                (least_line (drop n (lines (filter_at passes (drop (k + 1) xs))))) ≡ all
+            (least_line (drop n (lines (filter_at passes (drop (k + 1) xs))))) ≡ all
         by (suc n) zero_ h = absurd (omega arith)
         by zero zero_ h =
             lesser_of-assoc least (Some x.line) (least_line (lines (filter_at passes (drop (k + 1) xs))))
@@ -126,7 +126,7 @@ pub flat-end : {A : Type 0} (f : A → List ℕ) (xs : List A) (k : ℕ) → len
     → lesser_of found (least_line (flat_map f (drop k xs))) ≡ all → found ≡ all
 flat-end f xs k le found all before =
     sym (lesser_of-none found) ∙ sym (ap (λ ls. lesser_of found (least_line ls)) (at_drop_all (flat_map f) xs k le))
-        ∙ before
+    ∙ before
 
 flat-push : {A : Type 0} (f : A → List ℕ) (xs : List A) (x : A)
     → least_line (flat_map f (xs ++ x ∷ [])) ≡ lesser_of (least_line (flat_map f xs)) (least_line (f x))

@@ -26,5 +26,5 @@ module _ {A : Type 0} where
   pairs_clear clash xs is =
       pairs_of_all (λ a b. clash a b ≡ false) xs
       (each_weaker (λ a. is_clear clash xs a ≡ true) (λ a. Each (λ b. clash a b ≡ false) xs)
-          (λ a k. each_from_none (clash a) xs (not-true (list_any (clash a) xs) k)) xs
+      (λ a k. each_from_none (clash a) xs (not-true (list_any (clash a) xs) k)) xs
       (each_from_all (is_clear clash xs) xs is))

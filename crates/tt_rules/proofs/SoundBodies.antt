@@ -112,11 +112,11 @@ module _ (test : OwnerKind → Head → Bool) (shallow : (k : OwnerKind) → IsS
       fold-If Bool (λ stmt. test k stmt && inner_pass stmt) e first second
       ∙ and_from (test k (Stmt-F.If e _ _)) (each_in (test k) first && each_in (test k) second)
       ((shallow k).branches e _ _ ∙ sym ((shallow k).branches e x y) ∙ is)
-          (and_from (each_in (test k) first) (each_in (test k) second) one other)
+      (and_from (each_in (test k) first) (each_in (test k) second) one other)
   statement_passes k (Stmt-F.Repeat n x) first second is one other =
       fold-Repeat Bool (λ stmt. test k stmt && inner_pass stmt) n first
       ∙ and_from (test k (Stmt-F.Repeat n _)) (each_in (test k) first)
-          ((shallow k).turns n _ ∙ sym ((shallow k).turns n x) ∙ is) one
+      ((shallow k).turns n _ ∙ sym ((shallow k).turns n x) ∙ is) one
 
   -- what stands in each open thing passes
   abbrev Fits : List Open → OwnerKind → List Branches → Type 0
@@ -130,9 +130,11 @@ module _ (test : OwnerKind → Head → Bool) (shallow : (k : OwnerKind) → IsS
       → Fits (inner ∷ outer) k rest → Fits (inner ∷ outer) k (plain_then head rest)
   fits-plain inner outer k None rest is there = there
   fits-plain inner outer k (Some head) [] is there = tt
-  fits-plain inner outer k (Some head) (b ∷ rest) is there =
-      (and_from (each_of (test k) (statement_of head [] [])) (each_in (test k) b.first)
-          (statement_passes k head [] [] is refl refl) there.0, there.1)
+  fits-plain inner outer k (Some head) (b ∷ rest) is there = (
+    and_from (each_of (test k) (statement_of head [] [])) (each_in (test k) b.first)
+        (statement_passes k head [] [] is refl refl) there.0,
+    there.1,
+  )
 
   fits-block : (own inner : Open) (outer : List Open) (k : OwnerKind) (head : Option Head) (rest : List Branches)
       → is_some head ≡ true → passes k head ≡ true
@@ -176,9 +178,9 @@ module _ (test : OwnerKind → Head → Bool) (shallow : (k : OwnerKind) → IsS
   fits (inner ∷ outer) last k (row ∷ rows) is pass =
       let ok = formed (inner ∷ outer) last row rows is in
       fits-row (inner ∷ outer) k (standing_of row.row) (head_of names row.row) (branches_from names rows) ok.0
-          (block_head names row.row) pass.0
+      (block_head names row.row) pass.0
       (fits (stack_then (inner ∷ outer) (standing_of row.row)) row.line
-          (owner_after k (standing_of row.row)) rows ok.1 pass.1)
+      (owner_after k (standing_of row.row)) rows ok.1 pass.1)
 
   abbrev pub IsFit : At BodyPart → Type 0
   IsFit x = each_in (test (kind_of x.part.owner)) x.part.body ≡ true
@@ -197,7 +199,7 @@ module _ (test : OwnerKind → Head → Bool) (shallow : (k : OwnerKind) → IsS
   fit-body stack k row owner rest is ok there =
       let opens = opens_kind row owner is in
       opened stack k (kind_of owner) rest (subst (λ s. is_misplaced stack s ≡ false) opens ok)
-          (subst (λ s. Fits (stack_then stack s) (owner_after k s) rest) opens there)
+      (subst (λ s. Fits (stack_then stack s) (owner_after k s) rest) opens there)
 
   pub fit_bodies : (stack : List Open) (last : ℕ) (k : OwnerKind) (rows : List NumberedRow)
       → lines_2_from stack last rows ≡ [] → Passes k rows → Each IsFit (bodies_of names rows)
@@ -209,7 +211,7 @@ module _ (test : OwnerKind → Head → Bool) (shallow : (k : OwnerKind) → IsS
       (fit_bodies (stack_then stack (standing_of row.row)) row.line more rows ok.1 pass.1) where
         by : (o : Option Owner) → owner_in row.row ≡ o → is_misplaced stack (standing_of row.row) ≡ false
             → Fits (stack_then stack (standing_of row.row)) (owner_after k (standing_of row.row))
-                (branches_from names rows)
+            (branches_from names rows)
             → Each IsFit (bodies_of names rows)
             → Each IsFit (at_then row.line (body_of o (branches_from names rows)) (bodies_of names rows))
         by None of ok there others = others
@@ -271,7 +273,7 @@ rows_pass : (names : List NameEntry) (k : OwnerKind) (rows : List NumberedRow) �
 rows_pass names k [] is = tt
 rows_pass names k (row ∷ rows) is =
     let here = none-here (is_row_allowed k row.row) row.line
-        (lines_15_from (owner_after k (standing_of row.row)) rows) is in
+    (lines_15_from (owner_after k (standing_of row.row)) rows) is in
     (allowed_passes names k row.row here.0, rows_pass names (owner_after k (standing_of row.row)) rows here.1)
 
 pub bodies_sound : (names : List NameEntry) (rows : List NumberedRow) → lines_2 rows ≡ [] → lines_9 rows ≡ []
@@ -282,7 +284,7 @@ bodies_sound names rows is_2 is_9 is_15 =
     let P = λ (x : At BodyPart). each_in is_number_in_range x.part.body ≡ true in
     let Q = λ (x : At BodyPart). each_in (is_allowed (kind_of x.part.owner)) x.part.body ≡ true in
     each_weaker (λ (x : At BodyPart). P x × Q x) (λ (x : At BodyPart). IsBodySound x.part)
-        (λ x h. record { numbers = h.0; allowed = h.1 }) (bodies_of names rows)
+    (λ x h. record { numbers = h.0; allowed = h.1 }) (bodies_of names rows)
     (each_both P Q (bodies_of names rows)
     (fit_bodies (λ j. is_number_in_range) shallow-number names [] 0 kind.Task rows is_2 numbers)
     (fit_bodies is_allowed shallow-allowed names [] 0 kind.Task rows is_2 (rows_pass names kind.Task rows is_15)))

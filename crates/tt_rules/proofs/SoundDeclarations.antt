@@ -35,7 +35,7 @@ round_within d is =
     let all = kept d.first rule_4 d.rounds is in
     let some = and_parts (nat_le 1 (length ns)) _ all in
     first-passes (is_within 2 10000000) ns (leb-true 1 (length ns) some.0)
-        (and_parts (list_all (is_within 2 10000000) ns) _ some.1).0
+    (and_parts (list_all (is_within 2 10000000) ns) _ some.1).0
 
 zero-or-first : (test : ℕ → Bool) (ns : List ℕ) → test 0 ≡ true → list_all test ns ≡ true
     → test (first_or_zero ns) ≡ true
@@ -60,8 +60,8 @@ free (x ∷ xs) fit apart =
     (and_from (not (list_any (λ (other : NameEntry). bytes_eq other.name x.name) xs)) (are_names_free xs)
     (ap not (none_from_each (λ (other : NameEntry). bytes_eq other.name x.name) xs
     (each_weaker (λ (b : NameEntry). bytes_eq x.name b.name ≡ false)
-        (λ (b : NameEntry). bytes_eq b.name x.name ≡ false)
-        (λ b k. nat_list_eq_equiv.symm b.name x.name ∙ k) xs apart.0)))
+    (λ (b : NameEntry). bytes_eq b.name x.name ≡ false)
+    (λ b k. nat_list_eq_equiv.symm b.name x.name ∙ k) xs apart.0)))
     (free xs fit.1 apart.1))
 
 -- 7. The names differ, and none is reserved.
@@ -72,7 +72,7 @@ names_free d is =
     let same = same_by bytes_eq (λ (e : NameEntry). Some e.name) in
     let both = and_parts (list_all fit names) _ (kept d.first rule_7 d.names is) in
     free names (each_from_all fit names both.0)
-        (pairs_differ same names (and_parts (differ_from same [] names) true both.1).0)
+    (pairs_differ same names (and_parts (differ_from same [] names) true both.1).0)
 
 counted : (d : Declarations) (kind : NameKind)
     → length (parts (filter_at (is_of_kind kind) d.names)) ≡ count_of kind (parts d.names)
@@ -98,18 +98,18 @@ of_kinds P each Kind.Oisr = each.1.1.1.1.1.1.0
 few : (d : Declarations) → lines_8 d ≡ [] → (kind : NameKind) → count_of kind (parts d.names) ≤ most_of kind
 few d is kind =
     let none = of_kinds (λ k. lines_past d k ≡ [])
-        (each_none (lines_past d) kinds
-        (none_right (breaking d.first Present (filter_at (is_of_kind Kind.Mode) d.names)) _ is)) kind in
+    (each_none (lines_past d) kinds
+    (none_right (breaking d.first Present (filter_at (is_of_kind Kind.Mode) d.names)) _ is)) kind in
     let xs = filter_at (is_of_kind kind) d.names in
     subst (λ n. n ≤ most_of kind) (counted d kind)
-        (leb-true (length (parts xs)) (most_of kind) (kept_one d.first (AtMost (most_of kind)) xs none))
+    (leb-true (length (parts xs)) (most_of kind) (kept_one d.first (AtMost (most_of kind)) xs none))
 
 some_mode : (d : Declarations) → lines_8 d ≡ [] → 1 ≤ count_of Kind.Mode (parts d.names)
 some_mode d is =
     let xs = filter_at (is_of_kind Kind.Mode) d.names in
     subst (λ n. 1 ≤ n) (counted d Kind.Mode)
-        (leb-true 1 (length (parts xs))
-        (kept_one d.first Present xs (none_left (breaking d.first Present xs) (flat_map (lines_past d) kinds) is)))
+    (leb-true 1 (length (parts xs))
+    (kept_one d.first Present xs (none_left (breaking d.first Present xs) (flat_map (lines_past d) kinds) is)))
 
 pub declarations_sound : (d : Declarations) → lines_4 d ≡ [] → lines_6 d ≡ [] → lines_7 d ≡ [] → lines_8 d ≡ []
     → AreDeclarationsSound d

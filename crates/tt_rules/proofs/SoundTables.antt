@@ -58,9 +58,9 @@ ended mode other a b is same less = by (b.task.0 == a.task.0) refl where
   by false t = refl
   by true t =
       le-leb a.deadline b.offset (ltb-false b.offset a.deadline
-          (false_from_ne_true (nat_lt b.offset a.deadline) (λ within. both_ways _ is
+      (false_from_ne_true (nat_lt b.offset a.deadline) (λ within. both_ways _ is
       (and_from (mode.0 == other.0) _ same
-          (and_from (a.task.0 == b.task.0) _ (eq-eqb a.task.0 b.task.0 (sym (eqb-true b.task.0 a.task.0 t)))
+      (and_from (a.task.0 == b.task.0) _ (eq-eqb a.task.0 b.task.0 (sym (eqb-true b.task.0 a.task.0 t)))
       (and_from (nat_lt a.offset b.offset) _ (lt-ltb a.offset b.offset less) within))))))
 
 module _ (mode : ℕ) where
@@ -71,7 +71,7 @@ module _ (mode : ℕ) where
       → Each (λ a. Each (AreApart a) (activation_in mode y)) (activation_in mode x)
   activations_apart (entry.Activates m a) (entry.Activates n b) h =
       one (λ a. Each (AreApart a) (activation_in mode (entry.Activates n b))) (m.0 == mode) a
-          (λ here. one (AreApart a) (n.0 == mode) b (λ there. record {
+      (λ here. one (AreApart a) (n.0 == mode) b (λ there. record {
         differ = λ e. both_ways _ h.place
             (and_from (m.0 == n.0) _ (same_mode m.0 n.0 here there) (eq-eqb a.offset b.offset e));
         forth = ended m n a b h.forth (same_mode m.0 n.0 here there);
@@ -98,10 +98,10 @@ module _ (mode : ℕ) where
       → Each (λ a. Each (AreEnablesApart a) (enable_in mode y)) (enable_in mode x)
   enables_apart (entry.Enables m a) (entry.Enables n b) h =
       one (λ a. Each (AreEnablesApart a) (enable_in mode (entry.Enables n b))) (m.0 == mode) a
-          (λ here. one (AreEnablesApart a) (n.0 == mode) b (λ there offset isr.
+      (λ here. one (AreEnablesApart a) (n.0 == mode) b (λ there offset isr.
       both_ways _ h.enable (and_from ((m.0 == n.0) && (a.offset == b.offset)) _
-          (and_from (m.0 == n.0) _ (same_mode m.0 n.0 here there) (eq-eqb a.offset b.offset offset))
-          (eq-eqb a.isr.0 b.isr.0 isr))))
+      (and_from (m.0 == n.0) _ (same_mode m.0 n.0 here there) (eq-eqb a.offset b.offset offset))
+      (eq-eqb a.isr.0 b.isr.0 isr))))
   enables_apart (entry.Enables m a) (entry.Activates n f) h =
       one (λ a. Each (AreEnablesApart a) []) (m.0 == mode) a (λ here. tt)
   enables_apart (entry.Activates m e) y h = tt
@@ -120,7 +120,7 @@ module _ (mode : ℕ) where
     by : (b : Bool) → length (flat_map (activation_in mode) xs) + length (flat_map (enable_in mode) xs)
         ≡ length (filter (is_of mode) xs)
         → length ((if b then a ∷ [] else []) ++ flat_map (activation_in mode) xs) + length
-            (flat_map (enable_in mode) xs)
+        (flat_map (enable_in mode) xs)
         ≡ length (if b then entry.Activates m a ∷ filter (is_of mode) xs else filter (is_of mode) xs)
     by true rest = omega arith
     by false rest = rest
@@ -128,7 +128,7 @@ module _ (mode : ℕ) where
     by : (b : Bool) → length (flat_map (activation_in mode) xs) + length (flat_map (enable_in mode) xs)
         ≡ length (filter (is_of mode) xs)
         → length (flat_map (activation_in mode) xs) + length
-            ((if b then e ∷ [] else []) ++ flat_map (enable_in mode) xs)
+        ((if b then e ∷ [] else []) ++ flat_map (enable_in mode) xs)
         ≡ length (if b then entry.Enables m e ∷ filter (is_of mode) xs else filter (is_of mode) xs)
     by true rest = omega arith
     by false rest = rest
@@ -155,7 +155,7 @@ sorted : (acts : List Activation) → Pairs AreApart acts → Pairs ComesBefore 
 sorted acts h =
     pairs_weaker (λ a b. AreApart a b × InOrder is_earlier a b) ComesBefore before (ascending is_earlier acts)
     (pairs_both AreApart (InOrder is_earlier) (ascending is_earlier acts)
-        (pairs_ascending is_earlier AreApart turned acts h) (order_ascending is_earlier one_way through acts))
+    (pairs_ascending is_earlier AreApart turned acts h) (order_ascending is_earlier one_way through acts))
 
 offsets : (least : ℕ) (acts : List Activation) → Each (λ (a : Activation). least ≤ a.offset) acts
     → Pairs ComesBefore acts → offsets_ascend least acts ≡ true
@@ -163,15 +163,15 @@ offsets least [] low h = refl
 offsets least (a ∷ rest) low h =
     and_from (nat_le least a.offset) _ (le-leb least a.offset low.0)
     (offsets (a.offset + 1) rest
-        (each_weaker (ComesBefore a) (λ (b : Activation). a.offset + 1 ≤ b.offset)
-        (λ b k. omega (arith, k.0)) rest h.0) h.1)
+    (each_weaker (ComesBefore a) (λ (b : Activation). a.offset + 1 ≤ b.offset)
+    (λ b k. omega (arith, k.0)) rest h.0) h.1)
 
 deadlines : (acts : List Activation) → Pairs ComesBefore acts → are_apart acts ≡ true
 deadlines [] h = refl
 deadlines (a ∷ rest) h =
     and_from (list_all (has_ended_before a) rest) _
     (all_from_each (has_ended_before a) rest
-        (each_weaker (ComesBefore a) (λ b. has_ended_before a b ≡ true) (λ b k. k.1) rest h.0)) (deadlines rest h.1)
+    (each_weaker (ComesBefore a) (λ b. has_ended_before a b ≡ true) (λ b k. k.1) rest h.0)) (deadlines rest h.1)
 
 abbrev is_before : ℕ → ℕ → ℕ → ℕ → Bool
 is_before a m b n = nat_lt a b || ((a == b) && nat_lt m n)
@@ -228,10 +228,10 @@ module _ (c : ConfigParts) (modes : ℕ) (located : List (At Entry))
       let D = λ (x : Entry). has_deadline limit x ≡ true in
       each_weaker (λ x. K x × (E x × D x)) IsFit (λ x k. record { known = k.0; early = k.1.0; deadline = k.1.1 }) xs
       (each_both K (λ x. E x × D x) xs
-          (each_from_all (is_entry_known modes (length c.tasks) (length c.isrs)) xs all_known)
+      (each_from_all (is_entry_known modes (length c.tasks) (length c.isrs)) xs all_known)
       (each_both E D xs (each_from_all (is_enable_early limit) xs
-          (kept_one 1 (Every (is_enable_early limit)) located kept.enables))
-          (each_from_all (has_deadline limit) xs (kept_one 1 (Every (has_deadline limit)) located kept.deadlines))))
+      (kept_one 1 (Every (is_enable_early limit)) located kept.enables))
+      (each_from_all (has_deadline limit) xs (kept_one 1 (Every (has_deadline limit)) located kept.deadlines))))
 
   all_apart : Pairs AreEntriesApart xs
   all_apart =
@@ -239,17 +239,17 @@ module _ (c : ConfigParts) (modes : ℕ) (located : List (At Entry))
       let E = λ (a b : Entry). same_enable a b ≡ false in
       let C = λ (a b : Entry). (comes_between a b ≡ false) × (comes_between b a ≡ false) in
       pairs_weaker (λ a b. P a b × (E a b × C a b)) AreEntriesApart
-          (λ a b k. record { place = k.0; enable = k.1.0; forth = k.1.1.0; back = k.1.1.1 }) xs
+      (λ a b k. record { place = k.0; enable = k.1.0; forth = k.1.1.0; back = k.1.1.1 }) xs
       (pairs_both P (λ a b. E a b × C a b) xs
-          (pairs_differ same_place xs (kept_one 1 (Differ same_place) located kept.places))
+      (pairs_differ same_place xs (kept_one 1 (Differ same_place) located kept.places))
       (pairs_both E C xs (pairs_differ same_enable xs (kept_one 1 (Differ same_enable) located kept.sources))
-          (pairs_clear comes_between xs (kept_one 1 (Clear comes_between) located kept.apart))))
+      (pairs_clear comes_between xs (kept_one 1 (Clear comes_between) located kept.apart))))
 
   activation_fits : (mode : ℕ) (x : Entry) → IsFit x → Each (λ a. is_activation c a ≡ true) (activation_in mode x)
   activation_fits mode (entry.Activates m a) fit =
       one (λ a. is_activation c a ≡ true) (m.0 == mode) a (λ here.
       and_from (nat_lt a.task.0 (length c.tasks)) (is_deadline limit a)
-          (and_parts (nat_lt m.0 modes) (nat_lt a.task.0 (length c.tasks)) fit.known).1 fit.deadline)
+      (and_parts (nat_lt m.0 modes) (nat_lt a.task.0 (length c.tasks)) fit.known).1 fit.deadline)
   activation_fits mode (entry.Enables m e) fit = tt
 
   enable_fits : (mode : ℕ) (x : Entry) → IsFit x → Each (λ e. is_enable c e ≡ true) (enable_in mode x)
@@ -257,7 +257,7 @@ module _ (c : ConfigParts) (modes : ℕ) (located : List (At Entry))
   enable_fits mode (entry.Enables m e) fit =
       one (λ e. is_enable c e ≡ true) (m.0 == mode) e (λ here.
       and_from (nat_lt e.isr.0 (length c.isrs)) (nat_lt e.offset limit)
-          (and_parts (nat_lt m.0 modes) (nat_lt e.isr.0 (length c.isrs)) fit.known).1 fit.early)
+      (and_parts (nat_lt m.0 modes) (nat_lt e.isr.0 (length c.isrs)) fit.known).1 fit.early)
 
   -- 14, 18 to 24. The table of each mode keeps the rules.
   mode_fits : (mode : ℕ) → length (filter (is_of mode) xs) ≤ 4096 → IsMode c (mode_with xs mode)
@@ -265,23 +265,27 @@ module _ (c : ConfigParts) (modes : ℕ) (located : List (At Entry))
       let acts = flat_map (activation_in mode) xs in
       let ens = flat_map (enable_in mode) xs in
       let apart = sorted acts (pairs_flat_map (activation_in mode) AreEntriesApart AreApart (activations_apart mode)
-          (activation_alone mode) xs all_apart) in
+      (activation_alone mode) xs all_apart) in
       record {
         activations = all_from_each (is_activation c) (ascending is_earlier acts)
             (each_ascending is_earlier (λ a. is_activation c a ≡ true) acts
-                (each_flat_map (activation_in mode) IsFit (λ a. is_activation c a ≡ true)
-                (activation_fits mode) xs all_fit));
+            (each_flat_map (activation_in mode) IsFit (λ a. is_activation c a ≡ true)
+            (activation_fits mode) xs all_fit));
         ascending = offsets 0 (ascending is_earlier acts)
             (each_always (λ (a : Activation). 0 ≤ a.offset) (λ a. omega arith) (ascending is_earlier acts)) apart;
         apart = deadlines (ascending is_earlier acts) apart;
         enables = all_from_each (is_enable c) (ascending is_enabled_earlier ens)
             (each_ascending is_enabled_earlier (λ e. is_enable c e ≡ true) ens
-                (each_flat_map (enable_in mode) IsFit (λ e. is_enable c e ≡ true) (enable_fits mode) xs all_fit));
+            (each_flat_map (enable_in mode) IsFit (λ e. is_enable c e ≡ true) (enable_fits mode) xs all_fit));
         enables_ascending = ascend (ascending is_enabled_earlier ens)
             (enables_sorted mode ens (pairs_flat_map (enable_in mode) AreEntriesApart (AreEnablesApart mode)
-                (enables_apart mode) (enable_alone mode) xs all_apart));
-        few = omega (arith, length-ascending is_earlier acts, length-ascending is_enabled_earlier ens,
-            entries_of mode xs);
+            (enables_apart mode) (enable_alone mode) xs all_apart));
+        few = omega (
+          arith,
+          length-ascending is_earlier acts,
+          length-ascending is_enabled_earlier ens,
+          entries_of mode xs,
+        );
       }
 
   -- no line of a number below one
@@ -298,7 +302,7 @@ module _ (c : ConfigParts) (modes : ℕ) (located : List (At Entry))
   pub mode_sound : (mode : ℕ) → mode < modes → IsMode c (mode_with xs mode)
   mode_sound mode lt =
       let most = kept_one 1 (AtMost 4096) (filter_at (is_of mode) located)
-          (none_below (lines_of_mode located) modes mode lt kept.few) in
+      (none_below (lines_of_mode located) modes mode lt kept.few) in
       let few : length (parts (filter_at (is_of mode) located)) ≤ 4096 =
-          leb-true (length (parts (filter_at (is_of mode) located))) 4096 most in
+      leb-true (length (parts (filter_at (is_of mode) located))) 4096 most in
       mode_fits mode (subst (λ ys. length ys ≤ 4096) (filter_at-parts (is_of mode) located) few)

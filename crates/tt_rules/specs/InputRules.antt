@@ -13,7 +13,8 @@ use Rattle.tt_rules.specs.RoundRules.{is_within}
 abbrev pub rule_25 : List (Shape ModeNo)
 rule_25 = Present ∷ AtMost 1 ∷ []
 
--- 26. There is exactly one number of rounds, from 1 to 100,000: a row with another number, one after the first, or the header.
+-- 26. There is exactly one number of rounds, from 1 to 100,000: a row with another number, one after the first, or
+-- the header.
 abbrev pub rule_26 : List (Shape ℕ)
 rule_26 = Present ∷ Every (is_within 1 100000) ∷ AtMost 1 ∷ []
 
@@ -29,7 +30,8 @@ is_same_source a b = false
 abbrev pub is_not_after : Arrival → Arrival → Bool
 is_not_after above a = is_same_source above.source a.source && nat_le a.tick above.tick
 
--- 27. The arrivals of one source ascend strictly in the order of rows: a row that is not after one above of that source.
+-- 27. The arrivals of one source ascend strictly in the order of rows: a row that is not after one above of that
+-- source.
 abbrev pub rule_27 : List (Shape Arrival)
 rule_27 = Differ is_not_after ∷ []
 

@@ -41,13 +41,13 @@ abbrev pub last_line_if_open : List Open → ℕ → List ℕ
 last_line_if_open [] last = []
 last_line_if_open (inner ∷ outer) last = last ∷ []
 
--- 2. Blocks are well formed: the first row that stands where it may not; where there is none and something is open after the
--- last row, that row. Here, with what is open before the rows, and the line of the row before them.
+-- 2. Blocks are well formed: the first row that stands where it may not; where there is none and something is open
+-- after the last row, that row. Here, with what is open before the rows, and the line of the row before them.
 abbrev pub lines_2_from : List Open → ℕ → List NumberedRow → List ℕ
 lines_2_from stack last [] = last_line_if_open stack last
 lines_2_from stack last (row ∷ rows) =
     if is_misplaced stack (standing_of row.row) then row.line ∷ []
-        else lines_2_from (stack_then stack (standing_of row.row)) row.line rows
+    else lines_2_from (stack_then stack (standing_of row.row)) row.line rows
 
 abbrev pub lines_2 : List NumberedRow → List ℕ
 lines_2 rows = lines_2_from [] 0 rows

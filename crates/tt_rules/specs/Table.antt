@@ -57,13 +57,13 @@ declaration_rules =
 abbrev pub body_rules : List Rule
 body_rules =
     (λ (d : Document). lines_14 (names_of d) d.rows) ∷ (λ (d : Document). lines_15 d.rows)
-        ∷ (λ (d : Document). lines_16 d.bodies)
+    ∷ (λ (d : Document). lines_16 d.bodies)
     ∷ (λ (d : Document). lines_17 (parts d.said.demands) d.bodies) ∷ []
 
 abbrev pub table_rules : List Rule
 table_rules =
     (λ (d : Document). lines_18 (limit_of d.declared) d.said.entries)
-        ∷ (λ (d : Document). lines_19 (limit_of d.declared) d.said.entries)
+    ∷ (λ (d : Document). lines_19 (limit_of d.declared) d.said.entries)
     ∷ (λ (d : Document). lines_20 (limit_of d.declared) d.said.entries) ∷ (λ (d : Document). lines_21 d.said.entries)
     ∷ (λ (d : Document). lines_22 d.said.entries) ∷ (λ (d : Document). lines_23 d.said.entries)
     ∷ (λ (d : Document). lines_24 (count_of Kind.Mode (names_of d)) d.said.entries) ∷ []
@@ -71,7 +71,7 @@ table_rules =
 abbrev pub input_rules : List Rule
 input_rules =
     (λ (d : Document). lines_25 d.declared.first d.said.starts)
-        ∷ (λ (d : Document). lines_26 d.declared.first d.said.counts)
+    ∷ (λ (d : Document). lines_26 d.declared.first d.said.counts)
     ∷ (λ (d : Document). lines_27 d.said.arrivals) ∷ (λ (d : Document). lines_28 d.said.values) ∷ []
 
 -- those that need no number of a name, and those that do

@@ -60,7 +60,7 @@ fn note(latest: &mut HashMap<(usize, u16), u64>, arrival: &Arrival) -> Result<bo
         ≡ is_after arrival.now.tick (latest_at (get same_pair latest.old) arrival.now.source)) }
     ensures latest { OnOk result ((q : _) → get same_pair latest.new q
         ≡ latest_then (is_thing q arrival.now.source) arrival.now.tick
-            (get same_pair latest.old q)) }
+        (get same_pair latest.old q)) }
 {
     let Some(which) = arrival.source else {
         return Ok(true);

@@ -31,7 +31,7 @@ fn key_of(entry: &Entry) -> Option<Key>
 fn put_key(keys: &mut BTreeSet<Key>, key: Option<Key>) -> Result<(), Memory>
     ensures { OnOk result ((q : _)
         → contains key_cmp keys.new q ≡ is_key (eq_by_cmp key_cmp) q key
-            || contains key_cmp keys.old q) }
+        || contains key_cmp keys.old q) }
 {
     match key {
         None => Ok(()),

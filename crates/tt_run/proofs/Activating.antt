@@ -27,7 +27,7 @@ few_rows c n rules =
     ⊎_elim
     (λ (l : n < length c.modes). let few = (All-get_or (IsMode c) c.modes n no_mode l rules.modes).few in omega arith)
     (λ (g : length c.modes ≤ n). subst (λ (m : ModeDef). length m.activations ≤ 4096)
-        (sym (get_or_past c.modes n no_mode g)) (omega arith))
+    (sym (get_or_past c.modes n no_mode g)) (omega arith))
     (cases_lt n (length c.modes))
 
 module _ (c : ConfigParts) (s : ScriptParts) (rules : IsConfig c) (table : TableRows) (w : World)
@@ -44,7 +44,7 @@ module _ (c : ConfigParts) (s : ScriptParts) (rules : IsConfig c) (table : Table
       ap (λ o. entry_at o (mode_of c st.world).activations) before.offset
       ∙ ap (λ (m : ModeDef). entry_at (offset_of w) m.activations) (sym same_mode) ∙ sym is in
       let inside : entry < length (mode_of c st.world).activations =
-          subst (λ (m : ModeDef). entry < length m.activations) same_mode within in
+      subst (λ (m : ModeDef). entry < length m.activations) same_mode within in
       let exists : (row_of table.mode entry).task.0 < length c.tasks =
       subst (λ (m : ModeDef). (row_of m entry).task.0 < length c.tasks) (sym same_mode)
       (task_exists c s rules st.world before.ahead before.placed entry here entry inside) in

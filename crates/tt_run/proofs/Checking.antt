@@ -43,7 +43,7 @@ range_more xs i j x l e =
 module _ {L : Type 0} {Told : L → List Event → L → Type 0} (telling : IsTelling Told) (at : ℕ) (mode : ModeDef)
     (jobs : List Job)
     (xs : List ℕ) (i j entry : ℕ) (l : i < j) (here : slice_get xs i ≡ Some entry) (row : Activation)
-        (row_is : row ≡ row_of mode entry)
+    (row_is : row ≡ row_of mode entry)
     (met : Bool) (met_is : met ≡ is_done (job_at jobs entry).left) (first before after : L) (all : Checked)
     (so_far : SoFar Told first all.events before (checked_entries at mode jobs (slice_range xs i j)).events)
     (told : Told before (Check at row.task met ∷ []) after) where
@@ -53,7 +53,7 @@ module _ {L : Type 0} {Told : L → List Event → L → Type 0} (telling : IsTe
   one_more =
       ap (checked_entries at mode jobs) (range_more xs i j entry l here)
       ∙ ap (λ (r : Activation). check_then at r.task (is_done (job_at jobs entry).left)
-          (checked_entries at mode jobs (slice_range xs (i + 1) j)))
+      (checked_entries at mode jobs (slice_range xs (i + 1) j)))
       (sym row_is)
       ∙ ap (λ b. check_then at row.task b (checked_entries at mode jobs (slice_range xs (i + 1) j))) (sym met_is)
 
@@ -78,7 +78,7 @@ module _ {L : Type 0} {Told : L → List Event → L → Type 0} (telling : IsTe
       → Checks Told first after (Some row.task) all
   missed_last is_missed missed =
       let last = one_more ∙ ap (λ b. check_then at row.task b
-          (checked_entries at mode jobs (slice_range xs (i + 1) j))) is_missed in
+      (checked_entries at mode jobs (slice_range xs (i + 1) j))) is_missed in
       record {
         told = so_far_whole telling first before after all.events (Check at row.task false ∷ [])
             (subst (λ es. SoFar Told first all.events before es) (ap (λ (x : Checked). x.events) last) so_far)
@@ -90,11 +90,11 @@ module _ {L : Type 0} {Told : L → List Event → L → Type 0} (telling : IsTe
 pub missed_gives : {L : Type 0} {Told : L → List Event → L → Type 0} → IsTelling Told
     → (c : ConfigParts) (w v : World) (a b d : L)
     (found : Option TaskNo) (task : TaskNo) (end : Outcome) (all : Checked) → Checks Told a b found all
-        → found ≡ Some task
+    → found ≡ Some task
     → Gives Told b d v end (misses c task w) → Gives Told a d v end (after_checks c all.events all.missed w)
 missed_gives {Told = Told} telling c w v a b d found task end all checks is g =
     subst (λ (missed : Option TaskNo). Gives Told a d v end (after_checks c all.events missed w))
-        (sym is ∙ checks.missed_is)
+    (sym is ∙ checks.missed_is)
     (record {
       world_is = g.world_is;
       told = telling.both a b d all.events (misses c task w).events checks.told g.told;
@@ -119,7 +119,7 @@ module _ (at : ℕ) (mode : ModeDef) (is_due : Point → Bool) (jobs : List Job)
 
   one_checked : (b : Bool) (n : ℕ) (rest : List ℕ)
       → check_if b (check_then at (row_of mode n).task (is_done (job_at jobs n).left)
-          (checked_entries at mode jobs rest)) (checked_entries at mode jobs rest)
+      (checked_entries at mode jobs rest)) (checked_entries at mode jobs rest)
       ≡ checked_entries at mode jobs (cond b (n ∷ rest) rest)
   unfolding checked_entries
   one_checked true n rest = refl
@@ -137,12 +137,12 @@ module _ (at : ℕ) (mode : ModeDef) (is_due : Point → Bool) (jobs : List Job)
       → is_due (point_of mode (row_of mode entry)) ≡ false)
       → checked at mode is_due rest
       ≡ checked_entries at mode jobs
-          (filter (λ entry. is_due (point_of mode (row_of mode entry))) (range_with_len n (length rest + more)))
+      (filter (λ entry. is_due (point_of mode (row_of mode entry))) (range_with_len n (length rest + more)))
   unfolding checked checked_entries step
   checked_from n [] more h k none =
       let long : 0 + more ≡ more = omega arith in
       sym (ap (λ m. checked_entries at mode jobs
-          (filter (λ entry. is_due (point_of mode (row_of mode entry))) (range_with_len n m))) long
+      (filter (λ entry. is_due (point_of mode (row_of mode entry))) (range_with_len n m))) long
       ∙ ap (checked_entries at mode jobs) (none_from n more (λ entry l m. none entry (omega arith) (omega arith))))
   checked_from n (x ∷ rest) more h k none =
       let long : suc (length rest) + more ≡ suc (length rest + more) = omega arith in
@@ -150,7 +150,7 @@ module _ (at : ℕ) (mode : ModeDef) (is_due : Point → Bool) (jobs : List Job)
       let entry_is : x.entry ≡ n = k 0 (omega arith) ∙ here in
       let left_is : x.left ≡ (job_at jobs n).left = ap (λ y. y.left) (h 0 (omega arith) ∙ ap (job_at jobs) here) in
       let others = filter (λ entry. is_due (point_of mode (row_of mode entry)))
-          (range_with_len (n + 1) (length rest + more)) in
+      (range_with_len (n + 1) (length rest + more)) in
       let tail : checked at mode is_due rest ≡ checked_entries at mode jobs others =
       checked_from (n + 1) rest more
       (λ i l. let next : n + suc i ≡ (n + 1) + i = omega arith in h (suc i) (omega arith) ∙ ap (job_at jobs) next)
@@ -161,7 +161,7 @@ module _ (at : ℕ) (mode : ModeDef) (is_due : Point → Bool) (jobs : List Job)
       ∙ ap (step n (is_done (job_at jobs n).left)) tail
       ∙ one_checked (is_due (point_of mode (row_of mode n))) n others
       ∙ sym (ap (λ m. checked_entries at mode jobs
-          (filter (λ entry. is_due (point_of mode (row_of mode entry))) (range_with_len n m))) long)
+      (filter (λ entry. is_due (point_of mode (row_of mode entry))) (range_with_len n m))) long)
 
   -- where each entry that is due has been activated, the checks are those of the entries that are due
   pub checked_by_entry : ((place : ℕ) → place < length jobs → (job_at jobs place).entry ≡ place)
@@ -175,4 +175,4 @@ module _ (at : ℕ) (mode : ModeDef) (is_due : Point → Bool) (jobs : List Job)
       checked_from 0 jobs more (λ k l. ap (job_at jobs) (sym (zero-add k))) (λ k l. places k l ∙ sym (zero-add k))
       (λ entry l m. false_from_ne_true _ (λ is. let less = there entry (omega arith) is in omega arith))
       ∙ ap (λ m. checked_entries at mode jobs
-          (filter (λ entry. is_due (point_of mode (row_of mode entry))) (range_with_len 0 m))) long
+      (filter (λ entry. is_due (point_of mode (row_of mode entry))) (range_with_len 0 m))) long

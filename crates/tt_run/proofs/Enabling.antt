@@ -42,7 +42,7 @@ module _ {L : Type 0} {Told : L → List Event → L → Type 0} (telling : IsTe
               (so_far_more telling before now next all.events (enable (no_offset isr) w).events
               (enables_by rest (enable (no_offset isr) w).world).events
               (subst (λ es. SoFar Told before all.events now es) (ap (λ (m : Moved). m.events) first) led.so_far)
-                  g.told);
+              g.told);
           end_is = led.end_is ∙ ap (λ (m : Moved). m.end) first ∙ ap (λ (m : Moved). m.end) same;
         }
 

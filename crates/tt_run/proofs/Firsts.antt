@@ -68,7 +68,7 @@ module _ (c : ConfigParts) where
       bodies_are = λ n l.
           let within : n < length c.oisrs = omega (arith, l, length-map c.oisrs (λ (oisr : OisrDef). oisr.body)) in
           let same : (length c.tasks + length c.isrs) + length c.oseks + n
-              ≡ (length c.tasks + length c.isrs) + (length c.oseks + n) =
+          ≡ (length c.tasks + length c.isrs) + (length c.oseks + n) =
           omega arith in
           ap (body_of (bodies_of c)) same ∙ oisr_program c n within
           ∙ sym (get_or-map (λ (oisr : OisrDef). oisr.body) c.oisrs n no_oisr [] within);
@@ -91,7 +91,7 @@ lefts_first : (xs : List OsekDef) → lefts (map (λ (task : OsekDef). if task.a
 lefts_first [] = refl
 lefts_first (x ∷ xs) =
     ap (λ (left : List Stmt). left ∷ lefts (map (λ (task : OsekDef). if task.auto then Some task.body else None) xs))
-        (first_left x.auto x.body)
+    (first_left x.auto x.body)
     ∙ ap (λ (ls : List (List Stmt)). (if x.auto then x.body else []) ∷ ls) (lefts_first xs)
 
 none_left : (xs : List OisrDef) → lefts (map (λ (oisr : OisrDef). None) xs) ≡ replicate (length xs) []
@@ -148,8 +148,13 @@ view_by round env stack gates setup sub = record {
 }
 
 abbrev env_first : ConfigParts → ScriptParts → Store
-env_first c s = record { vars = c.vars; cursors = replicate (length c.demands) 0; demands = c.demands; values =
-    s.values }
+env_first c s = record {
+  vars = c.vars;
+  cursors = replicate (length c.demands) 0;
+  demands = c.demands;
+  values =
+      s.values;
+}
 
 abbrev stack_first : ConfigParts → Stacked
 stack_first c = record {
@@ -178,11 +183,11 @@ module _ (c : ConfigParts) (s : ScriptParts) (script : IsScript c s) (round : Ro
       ∙ ap (λ (e : Store). view_by (first_round c s.start s.rounds s.times) e stack gates setup sub) ee
       ∙ ap (λ (k : Stacked). view_by (first_round c s.start s.rounds s.times) (env_first c s) k gates setup sub) es
       ∙ ap (λ (g : Window). view_by (first_round c s.start s.rounds s.times) (env_first c s)
-          (stack_first c) g setup sub) eg
+      (stack_first c) g setup sub) eg
       ∙ ap (λ (u : Setup). view_by (first_round c s.start s.rounds s.times) (env_first c s) (stack_first c)
-          (new_window s.arrivals) u sub) eu
+      (new_window s.arrivals) u sub) eu
       ∙ ap (λ (b : Subsystem). view_by (first_round c s.start s.rounds s.times) (env_first c s) (stack_first c)
-          (new_window s.arrivals)
+      (new_window s.arrivals)
       (setup_for c (length c.tasks + length c.isrs)) b) eb
       ∙ ap (λ (ls : List (List Stmt)). record (first_state c s) {
         world = record (first_world c s) {
@@ -209,4 +214,4 @@ module _ (c : ConfigParts) (s : ScriptParts) (script : IsScript c s) (round : Ro
         };
       }) script.isrs
       ∙ ap (λ (n : ℕ). record (first_state c s)
-          { world = record (first_world c s) { oisrs_held = replicate n false } }) script.oisrs
+      { world = record (first_world c s) { oisrs_held = replicate n false } }) script.oisrs

@@ -40,11 +40,11 @@ none_kept : (p : ℕ → Bool) (n m : ℕ) → filter p (range_with_len n m) ≡
 none_kept p n zero e j l u = absurd (omega arith)
 none_kept p n (suc m) e j l u =
     ⊎_elim (λ (t : p n ≡ true). let clash = sym (cond-true (p n) (n ∷ filter p (range_with_len (n + 1) m)) _ t) ∙ e in
-        absurd cc)
+    absurd cc)
     (λ (f : p n ≡ false).
     ⊎_elim (λ (same : j ≡ n). rw same f)
     (λ (ne : j ≢ n). none_kept p (n + 1) m
-        (sym (cond-false (p n) (n ∷ filter p (range_with_len (n + 1) m)) _ f) ∙ e) j (omega (arith, ne)) (omega arith))
+    (sym (cond-false (p n) (n ∷ filter p (range_with_len (n + 1) m)) _ f) ∙ e) j (omega (arith, ne)) (omega arith))
     (cases_eq j n))
     (cases_Bool (p n))
 
@@ -59,7 +59,7 @@ not_over : (r : Round) (latched : Option ℕ) (offset next : ℕ) → r.latched 
 not_over r None offset next e l m = refl
 not_over r (Some length) offset next e l m =
     let own = own_is r (Some length) e in
-        false_from_ne_true _ (λ d. let same = eqb-true length offset d in absurd (omega arith))
+    false_from_ne_true _ (λ d. let same = eqb-true length offset d in absurd (omega arith))
 
 not_latched : (r : Round) (latched : Option ℕ) (offset next : ℕ) → r.latched ≡ latched → next ≤ next_own r
     → r.start + offset < next
@@ -94,7 +94,7 @@ module _ {L : Type 0} {Told : L → List Event → L → Type 0} (telling : IsTe
             round = not_over (round_in st) st.world.latched (offset_of st.world) next refl ahead.own (omega arith);
             checks = λ place l.
                 none_kept (λ entry. is_at (offset_of st.world)
-                    (point_of (mode_of c st.world) (row_of (mode_of c st.world) entry))) 0
+                (point_of (mode_of c st.world) (row_of (mode_of c st.world) entry))) 0
                 (length (mode_of c st.world).activations) free.checks (job_at st.world.jobs place).entry (omega arith)
                 (let few = can.served.placed.few in let e = can.served.placed.entries place l in omega arith);
             enables = free.enables;
@@ -131,7 +131,7 @@ module _ {L : Type 0} {Told : L → List Event → L → Type 0} (telling : IsTe
     accepted_round w v a b g =
         after telling (SameRound w) (acceptances c w) a b v g
         (acceptances_hold (SameRound w)
-            (λ u _ _ _ _ _ p. record { tick = p.tick; start = p.start; mode = p.mode; latched = p.latched }) c w []
+        (λ u _ _ _ _ _ p. record { tick = p.tick; start = p.start; mode = p.mode; latched = p.latched }) c w []
         (record { tick = refl; start = refl; mode = refl; latched = refl }))
 
     own_same : (st v : RunState) → v.beside ≡ st.beside → v.world.start ≡ st.world.start
@@ -141,13 +141,18 @@ module _ {L : Type 0} {Told : L → List Event → L → Type 0} (telling : IsTe
         ap (λ l. next_own (record (round_in v) { latched = l })) latched
         ∙ ap (λ (n : ℕ). next_own (record (round_in v) { start = n; latched = st.world.latched })) start
         ∙ ap (λ (b : Beside). next_own
-            (record (round_in v) { round = b.round; adjust = b.adjust; start = st.world.start; latched =
-            st.world.latched })) beside
+        (record (round_in v) {
+          round = b.round;
+          adjust = b.adjust;
+          start = st.world.start;
+          latched =
+              st.world.latched;
+        })) beside
         ∙ by_latched st.world.latched
       where
         by_latched : (latched : Option ℕ)
             → next_own (record (round_in v)
-                { round = st.beside.round; adjust = st.beside.adjust; start = st.world.start; latched = latched })
+            { round = st.beside.round; adjust = st.beside.adjust; start = st.world.start; latched = latched })
             ≡ next_own (record (round_in st) { latched = latched })
         by_latched None = refl
         by_latched (Some length) = refl
@@ -200,8 +205,13 @@ module _ {L : Type 0} {Told : L → List Event → L → Type 0} (telling : IsTe
     -- before tick 0
     pub foresees_first : Foresees c (first_state c s) (record { next = 0; ended = true })
     foresees_first = record {
-      next = record { head = λ _. refl; free = λ offset l m. absurd (omega arith); own = omega arith; arrivals =
-          λ tick e. omega arith };
+      next = record {
+        head = λ _. refl;
+        free = λ offset l m. absurd (omega arith);
+        own = omega arith;
+        arrivals =
+            λ tick e. omega arith;
+      };
       none = λ e. absurd (true≢false e);
     }
 

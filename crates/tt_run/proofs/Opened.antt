@@ -104,20 +104,20 @@ module _ {L : Type 0} {Told : L → List Event → L → Type 0} (telling : IsTe
       latch_kept =
           cond_both (eqb (offset_of w) (c.round - c.adjust)) _ _ (Holds (Kept w) [])
           (λ _. record { tick = refl; held = refl; oheld = refl })
-              (λ _. record { tick = refl; held = refl; oheld = refl })
+          (λ _. record { tick = refl; held = refl; oheld = refl })
 
       next_kept : Leads (Alone (Kept w)) (Alone (Kept w)) Anything (next_round s)
       unfolding next_round
       next_kept v es p =
           cond_both (eqb v.number s.rounds) _ _ (Holds (Kept w) es) (λ _. tt)
-              (λ _. record { tick = p.tick; held = p.held; oheld = p.oheld })
+          (λ _. record { tick = p.tick; held = p.held; oheld = p.oheld })
 
       pub round_end_kept : Holds (Kept w) [] (round_end c s w)
       unfolding round_end
       round_end_kept =
           cond_both (is_length w.latched (offset_of w)) _ _ (Holds (Kept w) [])
           (λ _. followed_leads (Alone (Kept w)) (Alone (Kept w)) Anything [] (monitored c (is_at_end (offset_of w)) w)
-              (next_round s)
+          (next_round s)
           (monitored_holds (Kept w) c _ w [] (λ _. record { tick = refl; held = refl; oheld = refl })) next_kept)
           (λ _. record { tick = refl; held = refl; oheld = refl })
 
@@ -126,7 +126,7 @@ module _ {L : Type 0} {Told : L → List Event → L → Type 0} (telling : IsTe
     enables_kept isrs w =
         chain_each (Alone (Kept w)) Anything (λ (isr : IsrNo). enable (record { offset = 0; isr = isr })) isrs
         (λ x v es p. record { tick = p.tick; held = p.held; oheld = p.oheld }) w []
-            (record { tick = refl; held = refl; oheld = refl })
+        (record { tick = refl; held = refl; oheld = refl })
 
     activated_kept : (mode : ModeDef) (found : Option ℕ) (w : World) → Kept w (activated_in c mode found w).world
     activated_kept mode None w = record { tick = refl; held = refl; oheld = refl }
@@ -152,7 +152,7 @@ module _ {L : Type 0} {Told : L → List Event → L → Type 0} (telling : IsTe
           };
           none = λ place l.
               ap (λ (w : World). is_accepted w (source_at c place)) g.world_is
-                  ∙ activated_accepts mode found st.world (source_at c place)
+              ∙ activated_accepts mode found st.world (source_at c place)
               ∙ none place l;
         }
 
@@ -176,30 +176,30 @@ module _ {L : Type 0} {Told : L → List Event → L → Type 0} (telling : IsTe
         (stands : StandsAt table (offset_of w) d) where
       checks_part : (a b : L) (v : World) (end : Outcome)
           → Gives Told a b v end (monitored_entries c table.mode
-              (slice_range (checks_of table) d.checks_from d.checks_to) w)
+          (slice_range (checks_of table) d.checks_from d.checks_to) w)
           → Gives Told a b v end (monitored c (is_at (offset_of w)) w)
       checks_part a b v end g = due_given telling Begun c s table w served is_table a b v end _ g stands.checks
 
       -- after the checks and the enables the tick and the sources are as they were
       pub enabled : (v u : World) (a b e : L) (end : Outcome) (isrs : List IsrNo)
           → Gives Told a b v end (monitored_entries c table.mode
-              (slice_range (checks_of table) d.checks_from d.checks_to) w) → end ≡ None
+          (slice_range (checks_of table) d.checks_from d.checks_to) w) → end ≡ None
           → Gives Told b e u None (enables_by isrs v) → Kept w u
       enabled v u a b e end isrs g on h =
           let checks = subst (λ o. Gives Told a b v o (monitored c (is_at (offset_of w)) w)) on
-              (checks_part a b v end g) in
+          (checks_part a b v end g) in
           subst (λ x. Kept x u) (checked_same telling c (is_at (offset_of w)) w v a b checks)
-              (after (Kept v) _ b e u h (enables_kept isrs v))
+          (after (Kept v) _ b e u h (enables_kept isrs v))
 
       -- a check was missed
       pub due_over : (a b : L) (v : World) (end : Outcome) (last : RunEnd)
           → Gives Told a b v end (monitored_entries c table.mode
-              (slice_range (checks_of table) d.checks_from d.checks_to) w) → end ≡ Some last
+          (slice_range (checks_of table) d.checks_from d.checks_to) w) → end ≡ Some last
           → Gives Told a b v (Some last) (chain (due c s) w)
       due_over a b v end last g is =
           subst (Gives Told a b v (Some last)) (sym (due_same c s w))
           (gives_over a b v (Some last) _ _ w refl
-              (subst (λ o. Gives Told a b v o (monitored c (is_at (offset_of w)) w)) is (checks_part a b v end g)))
+          (subst (λ o. Gives Told a b v o (monitored c (is_at (offset_of w)) w)) is (checks_part a b v end g)))
 
       -- the enables of the code are those of the definitions
       enables_part : (a b : L) (u v : World) → u ≡ w
@@ -213,20 +213,20 @@ module _ {L : Type 0} {Told : L → List Event → L → Type 0} (telling : IsTe
           ap (λ (x : World). enables_at (offset_of x) (mode_of c x).enables) (sym is) in
           subst (Gives Told a b v None)
           (ap (λ isrs. enables_by isrs u) (stands.enables ∙ ap (λ (m : ModeDef). isrs_of (rows m)) same)
-              ∙ sym (enables_are (rows (mode_of c w)) u)
+          ∙ sym (enables_are (rows (mode_of c w)) u)
           ∙ ap (λ (es : List Enable). chain (map enable es) u) here) g
 
       -- after the acceptances the activations stand as before, and no checked point is ahead of the offset
       pub before_activation : (e0 e1 e2 e3 e4 : L) (w1 w2 w3 w4 : World) (end : Outcome)
           → Gives Told e0 e1 w1 end (monitored_entries c table.mode
-              (slice_range (checks_of table) d.checks_from d.checks_to) w) → end ≡ None
+          (slice_range (checks_of table) d.checks_from d.checks_to) w) → end ≡ None
           → Gives Told e1 e2 w2 None (enables_by (slice_range (enables_of table) d.enables_from d.enables_to) w1)
           → Gives Told e2 e3 w3 None (arrivals c s w2) → Gives Told e3 e4 w4 None (acceptances c w3)
           → BeforeActivation c w w4
       unfolding checks
       before_activation e0 e1 e2 e3 e4 w1 w2 w3 w4 end g1 on g2 g3 g4 =
           let checked = subst (λ o. Gives Told e0 e1 w1 o (monitored c (is_at (offset_of w)) w)) on
-              (checks_part e0 e1 w1 end g1) in
+          (checks_part e0 e1 w1 end g1) in
           let same1 = checked_same telling c (is_at (offset_of w)) w w1 e0 e1 checked in
           let first : BeforeActivation c w w1 = record {
             ahead = after (Ahead c 1) (monitored c (is_at (offset_of w)) w) e0 e1 w1 checked
@@ -244,7 +244,7 @@ module _ {L : Type 0} {Told : L → List Event → L → Type 0} (telling : IsTe
 
       pub due_all : (e0 e1 e2 e3 e4 e5 : L) (w1 w2 w3 w4 w5 : World) (end : Outcome)
           → Gives Told e0 e1 w1 end (monitored_entries c table.mode
-              (slice_range (checks_of table) d.checks_from d.checks_to) w) → end ≡ None
+          (slice_range (checks_of table) d.checks_from d.checks_to) w) → end ≡ None
           → Gives Told e1 e2 w2 None (enables_by (slice_range (enables_of table) d.enables_from d.enables_to) w1)
           → Gives Told e2 e3 w3 None (arrivals c s w2) → Gives Told e3 e4 w4 None (acceptances c w3)
           → Gives Told e4 e5 w5 None (activated_in c table.mode d.activation w4)
@@ -252,11 +252,11 @@ module _ {L : Type 0} {Told : L → List Event → L → Type 0} (telling : IsTe
       due_all e0 e1 e2 e3 e4 e5 w1 w2 w3 w4 w5 end g1 on g2 g3 g4 g5 =
           let same : table.mode ≡ mode_of c w = ap (λ (t : TableRows). t.mode) is_table in
           let checks = subst (λ o. Gives Told e0 e1 w1 o (monitored c (is_at (offset_of w)) w)) on
-              (checks_part e0 e1 w1 end g1) in
+          (checks_part e0 e1 w1 end g1) in
           let rows = λ (m : ModeDef). enables_at (offset_of w) m.enables in
           let enables = subst (Gives Told e1 e2 w2 None)
           (ap (λ isrs. enables_by isrs w1) (stands.enables ∙ ap (λ (m : ModeDef). isrs_of (rows m)) same)
-              ∙ sym (enables_are (rows (mode_of c w)) w1)) g2 in
+          ∙ sym (enables_are (rows (mode_of c w)) w1)) g2 in
           let activation = subst (Gives Told e4 e5 w5 None)
           (ap (λ (found : Option ℕ). activated_in c table.mode found w4) stands.activation
           ∙ ap (λ (m : ModeDef). activated_in c m (entry_at (offset_of w) m.activations) w4) same) g5 in
@@ -307,7 +307,7 @@ module _ {L : Type 0} {Told : L → List Event → L → Type 0} (telling : IsTe
       unfolding opening
       opens_first a b d v end z g h =
           subst (Gives Told a d v end) (sym (cond-true (eqb w.tick 0) _ _ (ap (λ n. eqb n 0) z)))
-              (gives_first telling a b d w v end _ _ w g h)
+          (gives_first telling a b d w v end _ _ w g h)
 
       pub opens_later : (a b : L) (v : World) (end : Outcome) → (w.tick ≡ 0 → ⊥)
           → Gives Told a b v end (chain (later_parts c s) w)
@@ -315,7 +315,7 @@ module _ {L : Type 0} {Told : L → List Event → L → Type 0} (telling : IsTe
       unfolding opening
       opens_later a b v end ne h =
           subst (Gives Told a b v end)
-              (sym (cond-false (eqb w.tick 0) _ _ (false_from_ne_true _ (λ e. ne (eqb-true w.tick 0 e))))) h
+          (sym (cond-false (eqb w.tick 0) _ _ (false_from_ne_true _ (λ e. ne (eqb-true w.tick 0 e))))) h
 
     -- ---- the instant
 
@@ -325,7 +325,7 @@ module _ {L : Type 0} {Told : L → List Event → L → Type 0} (telling : IsTe
       opened_tick =
           ap (λ (x : World). x.tick) g.world_is
           ∙ (led_on (AtStamp c s w.tick) (EndsAtTick c s w.tick) [] (opening c s w) (ap is_over (sym g.end_is))
-              (opening_at_tick c s w.tick w refl)).0
+          (opening_at_tick c s w.tick w refl)).0
 
       opened_named : Named c v
       opened_named = after (Named c) (opening c s w) a b v g (opening_named c s h.rules w [] n)
@@ -352,7 +352,7 @@ module _ {L : Type 0} {Told : L → List Event → L → Type 0} (telling : IsTe
     unfolding instant
     instant_over w v a b end last g is =
         gives_stop a b v (Some last) (opening c s w) (step c s) refl
-            (subst (λ o. Gives Told a b v o (opening c s w)) is g)
+        (subst (λ o. Gives Told a b v o (opening c s w)) is g)
 
     pub instant_on : (w v u : World) (a b d : L) (end last : Outcome) → Gives Told a b v end (opening c s w)
         → end ≡ None
@@ -360,7 +360,7 @@ module _ {L : Type 0} {Told : L → List Event → L → Type 0} (telling : IsTe
     unfolding instant
     instant_on w v u a b d end last g on h =
         gives_next telling a b d v u last (opening c s w) (step c s)
-            (subst (λ o. Gives Told a b v o (opening c s w)) on g) h
+        (subst (λ o. Gives Told a b v o (opening c s w)) on g) h
 
     -- after the tick the arrivals to come are those from the next tick on
     pub ticked_sources : (t : ℕ) (st next : RunState) (a b : L) → Gives Told a b next.world None (step c s st.world)

@@ -97,7 +97,7 @@ others_stay first before after vars e f =
 -- one more statement was played
 module _ {L : Type 0} {Told : L → List Event → L → Type 0} (telling : IsTelling Told) (at : ℕ) (hook : Owner)
     (body : List Stmt) (i : ℕ) (stmt : Stmt) (l : i < length body) (is : stmt ≡ get_or body i stmt)
-        (before after : Store)
+    (before after : Store)
     (env : after ≡ with_vars before (vars_by before.vars (out-Stmt stmt))) where
   vars_are : vars_by before.vars (out-Stmt stmt) ≡ after.vars
   vars_are = sym (ap (λ (x : Store). x.vars) env)

@@ -12,7 +12,7 @@ use Rattle.tt_world.specs.declared.config.OisrDef.{OisrDef}
 use Rattle.tt_world.specs.Rows.{no_task, no_isr, no_osek, no_oisr}
 use Rattle.tt_run.specs.State.{bodies_of}
 
--- a number after so many places
+-- a number after n places
 past : {X : Type 0} (xs ys : List X) (n k : ℕ) (d : X) → length xs ≡ n → get_or (xs ++ ys) (n + k) d ≡ get_or ys k d
 past xs ys n k d e = ap (λ m. get_or (xs ++ ys) (m + k) d) (sym e) ∙ get_or-append-add xs ys k d
 
@@ -33,7 +33,7 @@ module _ (c : ConfigParts) where
   pub task_program : (n : ℕ) → n < length c.tasks → program_body (bodies_of c) n ≡ (get_or c.tasks n no_task).body
   task_program n l =
       get_or_append_left tasks (isrs ++ (oseks ++ oisrs)) [] n
-          (rw (length-map c.tasks (λ (task : TaskDef). task.body)) l)
+      (rw (length-map c.tasks (λ (task : TaskDef). task.body)) l)
       ∙ get_or-map (λ (task : TaskDef). task.body) c.tasks n no_task [] l
 
   -- so has that of a time-triggered routine

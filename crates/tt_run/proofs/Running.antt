@@ -132,7 +132,7 @@ module _ {L : Type 0} {Told : L → List Event → L → Type 0} (telling : IsTe
           ap (λ x. (instant c s x).end) (sym a.world) ∙ sym g.end_is ∙ is in
           subst (λ (k : ℕ). EndsAs (Some last) v.tick (events_before c s (suc k))) at_last
           (subst (λ o. EndsAs o v.tick (events_before c s (suc v.tick))) outcome
-              (schedule_says c s v.tick a.going over))
+          (schedule_says c s v.tick a.going over))
 
       pub status_is : status_by last v.tick ≡ status_of (schedule c s)
       status_is = ended_status last v.tick (schedule c s) says

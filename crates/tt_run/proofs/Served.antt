@@ -47,7 +47,7 @@ least_length c (Some length) offset e h = let same = eqb-true length offset e in
 early : (c : ConfigParts) (row : Activation) → is_activation c row ≡ true → row.offset < c.round - c.adjust
 early c row e =
     let parts = and_parts (nat_lt row.task.0 (length c.tasks))
-        (nat_lt row.offset row.deadline && nat_le row.deadline (c.round - c.adjust)) e in
+    (nat_lt row.offset row.deadline && nat_le row.deadline (c.round - c.adjust)) e in
     let both = and_parts (nat_lt row.offset row.deadline) (nat_le row.deadline (c.round - c.adjust)) parts.1 in
     let before = ltb-true row.offset row.deadline both.0 in
     let upto = leb-true row.deadline (c.round - c.adjust) both.1 in omega arith
@@ -79,7 +79,7 @@ module _ {L : Type 0} {Told : L → List Event → L → Type 0} (telling : IsTe
         (λ (past : length w.jobs ≤ entry).
         let later = served.placed.later entry past l in
         let below = early c (row_of mode entry)
-            (list_all_get (is_activation c) mode.activations entry no_row rows.activations l) in
+        (list_all_get (is_activation c) mode.activations entry no_row rows.activations l) in
         absurd (omega arith))
         (cases_lt entry (length w.jobs))
 
@@ -128,7 +128,7 @@ module _ {L : Type 0} {Told : L → List Event → L → Type 0} (telling : IsTe
       ended_next on d u last h =
           subst (Gives Told a d u last) (sym over_parts)
           (gives_next telling a b d v u last _ (next_round s)
-              (subst (λ o. Gives Told a b v o (monitored c (is_at_end (offset_of w)) w)) on g) h)
+          (subst (λ o. Gives Told a b v o (monitored c (is_at_end (offset_of w)) w)) on g) h)
 
   -- checks after which the run goes on leave the world as it was
   pub checked_same : (c : ConfigParts) (is_due : Point → Bool) (w v : World) (a b : L)

@@ -36,7 +36,7 @@ MayDo now who [] r setup = Unit {0}
 MayDo now who (effect.Out value ∷ rest) r setup = Unit {0}
 MayDo now who (effect.Service call ∷ rest) r setup = MayCall now who call r setup
 
--- each body of so many has a statement
+-- each of the first n bodies has a statement
 abbrev pub HaveSome : (ℕ → List Stmt) → ℕ → Type 0
 HaveSome body count = (number : ℕ) → number < count → body number ≢ []
 

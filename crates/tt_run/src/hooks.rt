@@ -46,8 +46,7 @@ fn play_statement<R: Recorder + Drop>(
 }
 
 /// Plays the body of a hook.
-#[tactic(auto, using(crate::proofs::Playing::vars_more, crate::proofs::Playing::outs_more),
-    unfolding(tt_world::specs::Hooks::vars_after, tt_world::specs::Hooks::outs_of))]
+#[tactic(auto, using(crate::proofs::Playing::vars_more, crate::proofs::Playing::outs_more), unfolding(tt_world::specs::Hooks::vars_after, tt_world::specs::Hooks::outs_of))]
 fn play<R: Recorder + Drop>(at: Tick, hook: Owner, body: &Body, env: &mut Env, log: &mut Log<R>)
     requires { AreExpressionsShort body.now }
     ensures env { env.new ≡ record env.old { vars = vars_after env.old.vars body.now } }

@@ -52,8 +52,13 @@ impl<'a, R: Recorder + Drop> Log<'a, R> {
     /// Nothing was told yet.
     pub(crate) fn new(recorder: R, names: &'a Names) -> Log<'a, R>
         requires { IsTrue (R.ready recorder) }
-        ensures { result ≡ record { recorder = recorder; names = names.now; failed = false;
-            events = 0; activations = 0 } }
+        ensures { result ≡ record {
+          recorder = recorder;
+          names = names.now;
+          failed = false;
+          events = 0;
+          activations = 0;
+        } }
     {
         Log {
             recorder,

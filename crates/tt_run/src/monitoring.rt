@@ -18,8 +18,7 @@ use tt_world::{ConfigParts, RunEnd};
 /// Checks at a tick the activations of the entries at these places of the table's list of checks,
 /// up to below the second place, up to the first that is missed, and answers its task. The
 /// activation of an entry stands at the place of its number.
-#[tactic(auto, using(crate::proofs::Checking::entries_end),
-    unfolding(crate::specs::Checking::checked_entries))]
+#[tactic(auto, using(crate::proofs::Checking::entries_end), unfolding(crate::specs::Checking::checked_entries))]
 fn check<R: Recorder + Drop>(
     at: Tick,
     stack: &TtStack,
@@ -31,7 +30,7 @@ fn check<R: Recorder + Drop>(
     requires { to ≤ length (checks_of table.now) }
     ensures { Checks (Tells R.Recorder) log.old log.new result
         (checked_entries at table.now.mode stack.now.jobs
-            (slice_range (checks_of table.now) from to)) }
+        (slice_range (checks_of table.now) from to)) }
 {
     for place in from..to {
         let entry = table.check_at(place);
@@ -60,7 +59,7 @@ impl State {
         requires within { to ≤ length (checks_of table.now) }
         ensures gives { Gives (Tells R.Recorder) log.old log.new self.new.world result
             (monitored_entries config.now table.now.mode
-                (slice_range (checks_of table.now) from to) self.old.world) }
+            (slice_range (checks_of table.now) from to) self.old.world) }
         ensures beside { self.new.beside ≡ self.old.beside }
     {
         let task = check(self.tick, &self.stack, table, from, to, log)?;

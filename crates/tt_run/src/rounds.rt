@@ -22,8 +22,7 @@ use tt_world::{ConfigParts, RunEnd, ScriptParts};
 
 impl State {
     /// Tells the head of the run.
-    #[tactic(auto, using(crate::proofs::Chains::tells_two),
-        unfolding(tt_world::specs::Rounds::head))]
+    #[tactic(auto, using(crate::proofs::Chains::tells_two), unfolding(tt_world::specs::Rounds::head))]
     pub(crate) fn begin<R: Recorder + Drop>(&self, script: &ScriptParts, log: &mut Log<R>)
         ensures { Gives (Tells R.Recorder) log.old log.new self.now.world None
             (head script.now self.now.world) }
@@ -40,8 +39,7 @@ impl State {
     }
 
     /// The latch of the round's length, where the offset is that of the latch.
-    #[tactic(auto, using(crate::proofs::Served::no_change, crate::proofs::Telling::tells_none),
-        unfolding(tt_world::specs::Rounds::latch))]
+    #[tactic(auto, using(crate::proofs::Served::no_change, crate::proofs::Telling::tells_none), unfolding(tt_world::specs::Rounds::latch))]
     pub(crate) fn latch<R: Recorder + Drop>(&mut self, config: &ConfigParts, log: &mut Log<R>)
         requires round { self.old.beside.round ≡ config.now.round }
         requires adjust { self.old.beside.adjust ≡ config.now.adjust }
@@ -117,8 +115,7 @@ impl State {
     }
 
     /// The round's end, where the offset is the round's length.
-    #[tactic(auto, using(crate::proofs::Telling::tells_none),
-        unfolding(tt_world::specs::Rounds::round_end))]
+    #[tactic(auto, using(crate::proofs::Telling::tells_none), unfolding(tt_world::specs::Rounds::round_end))]
     pub(crate) fn end_round<R: Recorder + Drop>(
         &mut self,
         config: &ConfigParts,

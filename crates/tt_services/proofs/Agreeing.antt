@@ -63,16 +63,16 @@ readied_oseks : (c : ConfigParts) (w : World) (caller : Runner) (who : Owner) (l
     → (leaving (ready c task w) caller left).oseks ≡ lefts (slice_set sub.tasks task.0 (Some b))
 readied_oseks c w (runner.Isr isr) who left sub task b is runs idle oseks =
     ap (λ xs. slice_set xs task.0 (osek_body c task)) oseks ∙ ap (slice_set (lefts sub.tasks) task.0) (sym is)
-        ∙ sym (lefts_set sub.tasks task.0 (Some b))
+    ∙ sym (lefts_set sub.tasks task.0 (Some b))
 readied_oseks c w (runner.Job place) who left sub task b is runs idle oseks =
     ap (λ xs. slice_set xs task.0 (osek_body c task)) oseks ∙ ap (slice_set (lefts sub.tasks) task.0) (sym is)
-        ∙ sym (lefts_set sub.tasks task.0 (Some b))
+    ∙ sym (lefts_set sub.tasks task.0 (Some b))
 readied_oseks c w (runner.Oisr oisr) who left sub task b is runs idle oseks =
     ap (λ xs. slice_set xs task.0 (osek_body c task)) oseks ∙ ap (slice_set (lefts sub.tasks) task.0) (sym is)
-        ∙ sym (lefts_set sub.tasks task.0 (Some b))
+    ∙ sym (lefts_set sub.tasks task.0 (Some b))
 readied_oseks c w runner.Nobody who left sub task b is runs idle oseks =
     ap (λ xs. slice_set xs task.0 (osek_body c task)) oseks ∙ ap (slice_set (lefts sub.tasks) task.0) (sym is)
-        ∙ sym (lefts_set sub.tasks task.0 (Some b))
+    ∙ sym (lefts_set sub.tasks task.0 (Some b))
 readied_oseks c w (runner.Osek caller) (owner.Osek same) left sub task b is runs idle oseks =
     set_swap w.oseks task.0 caller.0 (osek_body c task) left (ready_differs sub.tasks caller.0 task.0 runs.1 idle)
     ∙ ap (λ xs. slice_set xs task.0 (osek_body c task)) oseks ∙ ap (slice_set (lefts sub.tasks) task.0) (sym is)
@@ -110,7 +110,7 @@ module _ (c : ConfigParts) (s : ScriptParts) (w : World) (caller : Runner) (who 
 
   switches : (mode : ModeNo)
       → Agrees caller (answers 0 (record w { wanted = mode }) left)
-          (record { result = 0; round = round.wanting mode r; subsystem = sub; ends = false })
+      (record { result = 0; round = round.wanting mode r; subsystem = sub; ends = false })
   switches mode = record {
     result = refl;
     ends = refl;
@@ -124,7 +124,7 @@ module _ (c : ConfigParts) (s : ScriptParts) (w : World) (caller : Runner) (who 
       → correction_of c.round c.adjust (offset_of w) global ≡ correction_of r.round r.adjust (w.tick - r.start) global
   correction_is global =
       ap (λ n. correction_of n c.adjust (w.tick - w.start) global) (sym h.length)
-          ∙ ap (λ n. correction_of r.round n (w.tick - w.start) global) (sym h.adjust)
+      ∙ ap (λ n. correction_of r.round n (w.tick - w.start) global) (sym h.adjust)
       ∙ ap (λ n. correction_of r.round r.adjust (w.tick - n) global) (sym h.start)
 
   syncs_by : (time : Option ℕ)
@@ -146,16 +146,24 @@ module _ (c : ConfigParts) (s : ScriptParts) (w : World) (caller : Runner) (who 
   time_is = ap (λ ts. slice_get ts w.times_used) (sym h.times) ∙ ap (slice_get r.times) (sym h.used)
 
   syncs : Agrees caller (synced c (slice_get s.times w.times_used) w left)
-      (record { result = sync_result (next_time r); round = round.synced w.tick (next_time r) r; subsystem = sub;
-          ends = false })
+      (record {
+        result = sync_result (next_time r);
+        round = round.synced w.tick (next_time r) r;
+        subsystem = sub;
+        ends = false;
+      })
   syncs = subst (λ t. Agrees caller (synced c t w left)
-      (record { result = sync_result (next_time r); round = round.synced w.tick (next_time r) r; subsystem = sub;
-      ends = false }))
+      (record {
+        result = sync_result (next_time r);
+        round = round.synced w.tick (next_time r) r;
+        subsystem = sub;
+        ends = false;
+      }))
       (sym time_is) (syncs_by (next_time r))
 
   readies : (task : OsekNo) → is_ready sub.tasks task.0 ≡ false
       → Agrees caller (answers 0 (ready c task w) left)
-          (record { result = 0; round = r; subsystem = readied (body task.0) task.0 sub; ends = false })
+      (record { result = 0; round = r; subsystem = readied (body task.0) task.0 sub; ends = false })
   readies task idle = record {
     result = refl;
     ends = refl;
@@ -167,12 +175,17 @@ module _ (c : ConfigParts) (s : ScriptParts) (w : World) (caller : Runner) (who 
 
   -- what is performed, by what is found of the task
   abbrev activation : (state : Bool) (task : ℕ) → Performed
-  activation state task = record { result = result_of state; round = r; subsystem =
-      if state then sub else readied (body task) task sub; ends = false }
+  activation state task = record {
+    result = result_of state;
+    round = r;
+    subsystem =
+        if state then sub else readied (body task) task sub;
+    ends = false;
+  }
 
   activation_if : (state : Bool) (task : ℕ)
       → (if state then record { result = 4; round = r; subsystem = sub; ends = false }
-          else record { result = 0; round = r; subsystem = readied (body task) task sub; ends = false })
+      else record { result = 0; round = r; subsystem = readied (body task) task sub; ends = false })
       ≡ activation state task
   activation_if true task = refl
   activation_if false task = refl
@@ -182,9 +195,9 @@ module _ (c : ConfigParts) (s : ScriptParts) (w : World) (caller : Runner) (who 
       (activation (is_ready sub.tasks task.0) task.0)
   activates task =
       subst (λ p. Agrees caller (if is_suspended w task then answers 0 (ready c task w) left else answers 4 w left) p)
-          (activation_if (is_ready sub.tasks task.0) task.0)
+      (activation_if (is_ready sub.tasks task.0) task.0)
       (by_ready caller (is_suspended w task) (is_ready sub.tasks task.0) (h.ready task)
-          (answers 0 (ready c task w) left) (answers 4 w left)
+      (answers 0 (ready c task w) left) (answers 4 w left)
       (record { result = 0; round = r; subsystem = readied (body task.0) task.0 sub; ends = false })
       (record { result = 4; round = r; subsystem = sub; ends = false }) (readies task) (λ busy. goes_on 4))
 
@@ -210,21 +223,21 @@ module _ (c : ConfigParts) (s : ScriptParts) (w : World) (p : OsekNo) (left : Li
       (record { result = 0; round = r; subsystem = suspended p.0 sub; ends = true })
   terminates = ends_as w [] (suspended p.0 sub) refl refl refl
       (sym (set_twice w.oseks p.0 left []) ∙ ap (λ xs. slice_set xs p.0 []) h.oseks
-          ∙ sym (lefts_set sub.tasks p.0 None))
+      ∙ sym (lefts_set sub.tasks p.0 None))
 
   chains_to : (task : OsekNo) → is_ready sub.tasks task.0 ≡ false
       → Agrees (runner.Osek p) (ends_with (ready c task w) [])
-          (record { result = 0; round = r; subsystem = suspended p.0 (readied (body task.0) task.0 sub); ends = true })
+      (record { result = 0; round = r; subsystem = suspended p.0 (readied (body task.0) task.0 sub); ends = true })
   chains_to task idle = ends_as (ready c task w) [] (suspended p.0 (readied (body task.0) task.0 sub)) refl refl refl
       (sym (set_twice (slice_set w.oseks task.0 (osek_body c task)) p.0 left [])
       ∙ ap (λ xs. slice_set xs p.0 [])
-          (readied_oseks c w (runner.Osek p) (owner.Osek p) left sub task (body task.0)
-          (h.bodies task) h.runs idle h.oseks)
+      (readied_oseks c w (runner.Osek p) (owner.Osek p) left sub task (body task.0)
+      (h.bodies task) h.runs idle h.oseks)
       ∙ sym (lefts_set (slice_set sub.tasks task.0 (Some (body task.0))) p.0 None))
 
   chains_self : (task : OsekNo) → p.0 ≡ task.0
       → Agrees (runner.Osek p) (ends_with w (osek_body c task))
-          (record { result = 0; round = r; subsystem = readied (body task.0) task.0 sub; ends = true })
+      (record { result = 0; round = r; subsystem = readied (body task.0) task.0 sub; ends = true })
   chains_self task same = ends_as w (osek_body c task) (readied (body task.0) task.0 sub) refl refl refl
       (sym (set_twice w.oseks p.0 left (osek_body c task)) ∙ ap (λ xs. slice_set xs p.0 (osek_body c task)) h.oseks
       ∙ ap (λ n. slice_set (lefts sub.tasks) n (osek_body c task)) same
@@ -234,7 +247,7 @@ module _ (c : ConfigParts) (s : ScriptParts) (w : World) (p : OsekNo) (left : Li
   chains_by : (task : OsekNo) (same found state : Bool) → found ≡ not state → (same ≡ true → p.0 ≡ task.0)
       → (state ≡ false → is_ready sub.tasks task.0 ≡ false)
       → Agrees (runner.Osek p) (if same then ends_with w (osek_body c task)
-          else (if found then ends_with (ready c task w) [] else answers 4 w left))
+      else (if found then ends_with (ready c task w) [] else answers 4 w left))
       (record {
         result = if same then 0 else result_of state;
         round = r;
@@ -272,11 +285,11 @@ agree c s w caller who left body r sub setup (call.Activate task) h may =
     activates c s w caller who left body r sub h task
 agree c s w caller who left body r sub setup (call.Chain task) h may =
     for_osek sub (λ k o. IsCall c s w k o left body r sub
-        → Agrees k (service c s k (call.Chain task) left w) (performed body w.tick o (call.Chain task) r sub))
+    → Agrees k (service c s k (call.Chain task) left w) (performed body w.tick o (call.Chain task) r sub))
     (λ p called. chains_by c s w p left body r sub called task (p.0 == task.0) (is_suspended w task)
-        (is_ready sub.tasks task.0) (called.ready task) (eqb-true p.0 task.0) (λ idle. idle))
+    (is_ready sub.tasks task.0) (called.ready task) (eqb-true p.0 task.0) (λ idle. idle))
     caller who h.runs may.0 h
 agree c s w caller who left body r sub setup call.Terminate h may =
     for_osek sub (λ k o. IsCall c s w k o left body r sub
-        → Agrees k (service c s k call.Terminate left w) (performed body w.tick o call.Terminate r sub))
+    → Agrees k (service c s k call.Terminate left w) (performed body w.tick o call.Terminate r sub))
     (λ p called. terminates c s w p left body r sub called) caller who h.runs may h

@@ -34,17 +34,17 @@ pub fn perform(
     requires sound { IsSound codes.now osek.old }
     ensures result { result.result
         ≡ (performed (task_body codes.now (setup_of osek.old)) now owner call round.old
-            (subsystem_of codes.now osek.old)).result }
+        (subsystem_of codes.now osek.old)).result }
     ensures ends { result.caller_ends
         ≡ (performed (task_body codes.now (setup_of osek.old)) now owner call round.old
-            (subsystem_of codes.now osek.old)).ends }
+        (subsystem_of codes.now osek.old)).ends }
     ensures shutdown { result.shutdown ≡ is_shutdown call }
     ensures round { round.new
         ≡ (performed (task_body codes.now (setup_of osek.old)) now owner call round.old
-            (subsystem_of codes.now osek.old)).round }
+        (subsystem_of codes.now osek.old)).round }
     ensures state { subsystem_of codes.now osek.new
         ≡ (performed (task_body codes.now (setup_of osek.old)) now owner call round.old
-            (subsystem_of codes.now osek.old)).subsystem }
+        (subsystem_of codes.now osek.old)).subsystem }
     ensures setup { setup_of osek.new ≡ setup_of osek.old }
     ensures sound { IsSound codes.now osek.new }
 {
@@ -88,7 +88,7 @@ fn chain(osek: &mut Osek, codes: &Codes, owner: Owner, task: OsekNo) -> Answer
     ensures shutdown { result.shutdown ≡ false }
     ensures state { subsystem_of codes.now osek.new
         ≡ chained (task_body codes.now (setup_of osek.old) task.0) (caller_of owner) task.0
-            (subsystem_of codes.now osek.old) }
+        (subsystem_of codes.now osek.old) }
     ensures setup { setup_of osek.new ≡ setup_of osek.old }
     ensures sound { IsSound codes.now osek.new }
 {

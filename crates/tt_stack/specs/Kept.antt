@@ -26,7 +26,7 @@ abbrev pub written : List (List Stmt) → List Left → List (List Stmt)
 written lefts [] = lefts
 written lefts (one ∷ rest) = written (slice_set lefts one.0 one.1) rest
 
--- nothing is left of so many but these
+-- nothing is left of any of the first n but these
 abbrev pub lefts_of : ℕ → List Left → List (List Stmt)
 lefts_of count given = written (replicate count []) given
 

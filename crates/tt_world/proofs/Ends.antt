@@ -112,7 +112,7 @@ tick_at c s zero g = refl
 tick_at c s (suc n) g = tick_next c s n (tick_at c s n (goes_on_less c s n g)) (g n (omega arith)) ∙ add-one n
 
 module _ (c : ConfigParts) (s : ScriptParts) (bounded : IsBounded c s) where
-  -- a run that has not ended before n has taken n ticks, and there are not so many
+  -- a run that has not ended before n has taken n ticks, and there are fewer than that
   before_end : (latched : Option ℕ) (offset : ℕ) → Stands Before c latched offset → offset ≤ c.round + c.adjust
   before_end None offset h = omega arith
   before_end (Some length) offset h = let l = h.0.1 in let m = h.1 in omega arith

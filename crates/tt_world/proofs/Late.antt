@@ -92,7 +92,7 @@ module _ (c : ConfigParts) (s : ScriptParts) where
   instant_late : (w : World) (es : List Event) → Late 0 c w → Holds (Late 0 c) es (instant c s w)
   instant_late w es p =
       instant_leads c s LateAt Anything opening_keeps (Alone (Late 0 c))
-          (step_holds c s (Late 1 c) (Late 1 c) (Late 0 c) step_keeps) w es p
+      (step_holds c s (Late 1 c) (Late 1 c) (Late 0 c) step_keeps) w es p
 
   first_late : Late 0 c (world_at c s 0)
   unfolding world_at

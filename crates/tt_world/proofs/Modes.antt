@@ -143,7 +143,7 @@ module _ (c : ConfigParts) (s : ScriptParts) (rules : IsConfig c) where
       ⊎_elim (λ (l : task.0 < length c.tasks).
       body_runnable c owner.Task _ (All-get_or (IsTask c) c.tasks task.0 no_task l rules.tasks).routine.is_body)
       (λ (g : length c.tasks ≤ task.0). subst (λ x. IsRunnable c owner.Task x.body)
-          (sym (get_or_past c.tasks task.0 no_task g)) (none_runnable c))
+      (sym (get_or_past c.tasks task.0 no_task g)) (none_runnable c))
       (cases_lt task.0 (length c.tasks))
 
   osek_named : (task : OsekNo) → IsRunnable c owner.Osek (osek_body c task)
@@ -151,7 +151,7 @@ module _ (c : ConfigParts) (s : ScriptParts) (rules : IsConfig c) where
       ⊎_elim (λ (l : task.0 < length c.oseks).
       body_runnable c owner.Osek _ (All-get_or (IsOsek c) c.oseks task.0 no_osek l rules.oseks).routine.is_body)
       (λ (g : length c.oseks ≤ task.0). subst (λ x. IsRunnable c owner.Osek x.body)
-          (sym (get_or_past c.oseks task.0 no_osek g)) (none_runnable c))
+      (sym (get_or_past c.oseks task.0 no_osek g)) (none_runnable c))
       (cases_lt task.0 (length c.oseks))
 
   routine_named : (source : Source) → IsRunnable c (kind_of (source_runner source)) (routine_of c source)
@@ -159,13 +159,13 @@ module _ (c : ConfigParts) (s : ScriptParts) (rules : IsConfig c) where
       ⊎_elim (λ (l : i.0 < length c.isrs).
       body_runnable c owner.Isr _ (All-get_or (IsIsr c) c.isrs i.0 no_isr l rules.isrs).routine.is_body)
       (λ (g : length c.isrs ≤ i.0). subst (λ x. IsRunnable c owner.Isr x.body) (sym (get_or_past c.isrs i.0 no_isr g))
-          (none_runnable c))
+      (none_runnable c))
       (cases_lt i.0 (length c.isrs))
   routine_named (OisrSource i) =
       ⊎_elim (λ (l : i.0 < length c.oisrs).
       body_runnable c owner.Oisr _ (All-get_or (IsOisr c) c.oisrs i.0 no_oisr l rules.oisrs).routine.is_body)
       (λ (g : length c.oisrs ≤ i.0). subst (λ x. IsRunnable c owner.Oisr x.body)
-          (sym (get_or_past c.oisrs i.0 no_oisr g)) (none_runnable c))
+      (sym (get_or_past c.oisrs i.0 no_oisr g)) (none_runnable c))
       (cases_lt i.0 (length c.oisrs))
 
   -- ---- services
@@ -207,8 +207,11 @@ module _ (c : ConfigParts) (s : ScriptParts) (rules : IsConfig c) where
         left = subst (λ kind. IsRunnable c kind (osek_body c task)) (sym (caller_kind r task e)) (osek_named task);
       })
       (λ _. cond_both (is_suspended w task) _ _ (NamedAnswer r)
-      (λ _. record { world = leaving_named c w (runner.Osek task) (osek_body c task) (osek_named task) n; left =
-          none_runnable c })
+      (λ _. record {
+        world = leaving_named c w (runner.Osek task) (osek_body c task) (osek_named task) n;
+        left =
+            none_runnable c;
+      })
       (λ _. record { world = n; left = t }))
   service_named r call.Terminate left w b n t = record { world = n; left = none_runnable c }
 
@@ -293,7 +296,7 @@ module _ (c : ConfigParts) (s : ScriptParts) (rules : IsConfig c) where
       (preceded (run_line w who) (runner_tick c s r who w).move) _
       (effected_named r state.effects who state.left _ es (effects_named w (left_of w r) (n.lefts r))
       (record { mode = n.mode; wanted = n.wanted; lefts = n.lefts })
-          (ticked_named (kind_of r) w (left_of w r) (n.lefts r)))
+      (ticked_named (kind_of r) w (left_of w r) (n.lefts r)))
       (λ v ds p. record { mode = p.mode; wanted = p.wanted; lefts = p.lefts })
 
   -- ---- the opening
@@ -308,7 +311,7 @@ module _ (c : ConfigParts) (s : ScriptParts) (rules : IsConfig c) where
       → EachLeft (IsRunnable c) (record w { start = w.tick; number = number; mode = mode; latched = None; jobs = [] })
   none_left w e number mode (runner.Job place) =
       subst (λ (x : Job). IsRunnable c owner.Task x.left) (sym (get_or_past [] place no_job (omega arith)))
-          (none_runnable c)
+      (none_runnable c)
   none_left w e number mode (runner.Isr i) = e (runner.Isr i)
   none_left w e number mode (runner.Oisr i) = e (runner.Oisr i)
   none_left w e number mode (runner.Osek i) = e (runner.Osek i)
@@ -361,7 +364,7 @@ module _ (c : ConfigParts) (s : ScriptParts) (rules : IsConfig c) where
       ⊎_elim
       (λ (l : place < length (w.jobs ++ y ∷ [])).
       ⊎_elim (λ (old : IsOldPlace w.jobs y place). subst (λ x. IsRunnable c owner.Task x.left) (sym old.1)
-          (e (runner.Job place)))
+      (e (runner.Job place)))
       (λ (new : IsNewPlace w.jobs y place). subst (λ x. IsRunnable c owner.Task x.left) (sym new.1) t)
       (place_of_more w.jobs y place l))
       (λ (g : length (w.jobs ++ y ∷ []) ≤ place). subst (λ (x : Job). IsRunnable c owner.Task x.left)
@@ -413,7 +416,7 @@ module _ (c : ConfigParts) (s : ScriptParts) (rules : IsConfig c) where
       → IsRunnable c owner.Osek (get_or (map (λ (task : OsekDef). if task.auto then task.body else []) c.oseks) i [])
   oseks_named i =
       subst (IsRunnable c owner.Osek)
-          (sym (get_or-map (λ (task : OsekDef). if task.auto then task.body else []) c.oseks i no_osek))
+      (sym (get_or-map (λ (task : OsekDef). if task.auto then task.body else []) c.oseks i no_osek))
       (⊎_elim (λ (l : i < length c.oseks). auto_named _ (All-get_or (IsOsek c) c.oseks i no_osek l rules.oseks))
       (λ (g : length c.oseks ≤ i). subst (λ (x : OsekDef). IsRunnable c owner.Osek (if x.auto then x.body else []))
       (sym (get_or_past c.oseks i no_osek g)) (none_runnable c)) (cases_lt i (length c.oseks)))
@@ -421,7 +424,7 @@ module _ (c : ConfigParts) (s : ScriptParts) (rules : IsConfig c) where
   none_of : (kind : OwnerKind) (n i : ℕ) → IsRunnable c kind (get_or (replicate {A = List Stmt} n []) i [])
   none_of kind n i =
       ⊎_elim (λ (l : i < n). subst (IsRunnable c kind) (sym (get_or-replicate {A = List Stmt} n i [] [] l))
-          (none_runnable c))
+      (none_runnable c))
       (λ (g : n ≤ i). subst (IsRunnable c kind) (sym
       (get_or_past (replicate {A = List Stmt} n []) i []
       (let e = length-replicate {A = List Stmt} n [] in omega arith))) (none_runnable c)) (cases_lt i n)

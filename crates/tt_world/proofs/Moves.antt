@@ -124,4 +124,4 @@ module _ {L : Type 0} {Told : L → List Event → L → Type 0} (telling : IsTe
       let k = gives_next a b d v w None (chain (map part (take i xs)) u) (chain (part x ∷ [])) g
       (one_part (part x) b d v w h) in
       subst (Gives Told a d w None)
-          (sym (ap (λ ps. chain ps u) f ∙ chain_both (map part (take i xs)) (part x ∷ []) u)) k
+      (sym (ap (λ ps. chain ps u) f ∙ chain_both (map part (take i xs)) (part x ∷ []) u)) k

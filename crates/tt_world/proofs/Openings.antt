@@ -94,7 +94,7 @@ module _ (c : ConfigParts) (s : ScriptParts) where
     activation_same v p =
         ap (λ m. followed m (chain [])) (activated_is v _)
         ∙ ap (λ (o : ℕ). followed (activated_in c (mode_of c v) (entry_at o (mode_of c v).activations) v) (chain []))
-            p.offset
+        p.offset
         ∙ ap (λ (m : ModeDef). followed (activated_in c m (entry_at (offset_of w) m.activations) v) (chain [])) p.mode
 
     accepted_same : (v : World) → Clock w v
@@ -107,7 +107,7 @@ module _ (c : ConfigParts) (s : ScriptParts) where
     arrived_same : (v : World) → Clock w v
         → chain (arrivals c s ∷ acceptances c ∷ activation c ∷ []) v
         ≡ chain (arrivals c s ∷ acceptances c ∷ activated_in c (mode_of c w)
-            (entry_at (offset_of w) (mode_of c w).activations) ∷ []) v
+        (entry_at (offset_of w) (mode_of c w).activations) ∷ []) v
     unfolding chain
     arrived_same v p = followed_same (Clock w) (arrivals c s v) _ _
         (arrivals_hold (Clock w) (ignores w) c s v [] p) accepted_same
@@ -116,21 +116,21 @@ module _ (c : ConfigParts) (s : ScriptParts) where
     unfolding enables
     enables_are v p =
         ap (λ (o : ℕ). enables_from o (mode_of c v) v) p.offset
-            ∙ ap (λ (m : ModeDef). enables_from (offset_of w) m v) p.mode
+        ∙ ap (λ (m : ModeDef). enables_from (offset_of w) m v) p.mode
 
     enabled_same : (v : World) → Clock w v
         → chain (enables c ∷ arrivals c s ∷ acceptances c ∷ activation c ∷ []) v
         ≡ chain (enables_from (offset_of w) (mode_of c w) ∷ arrivals c s ∷ acceptances c ∷ activated_in c
-            (mode_of c w) (entry_at (offset_of w) (mode_of c w).activations) ∷ []) v
+        (mode_of c w) (entry_at (offset_of w) (mode_of c w).activations) ∷ []) v
     unfolding chain
     enabled_same v p =
         followed_same (Clock w) (enables c v) _
-            (chain (arrivals c s ∷ acceptances c ∷ activated_in c (mode_of c w)
-            (entry_at (offset_of w) (mode_of c w).activations) ∷ []))
+        (chain (arrivals c s ∷ acceptances c ∷ activated_in c (mode_of c w)
+        (entry_at (offset_of w) (mode_of c w).activations) ∷ []))
         (enables_hold (Clock w) (ignores w) c v [] p) arrived_same
         ∙ ap (λ m. followed m (chain
-            (arrivals c s ∷ acceptances c ∷ activated_in c (mode_of c w)
-            (entry_at (offset_of w) (mode_of c w).activations) ∷ []))) (enables_are v p)
+        (arrivals c s ∷ acceptances c ∷ activated_in c (mode_of c w)
+        (entry_at (offset_of w) (mode_of c w).activations) ∷ []))) (enables_are v p)
 
     -- what is due is that of the offset and the mode at which the parts begin
     pub due_same : chain (due c s) w ≡ chain (due_from c s (offset_of w) (mode_of c w)) w
@@ -138,7 +138,7 @@ module _ (c : ConfigParts) (s : ScriptParts) where
     due_same =
         followed_same (Clock w) (monitored c (is_at (offset_of w)) w) _ _
         (monitored_holds (Clock w) c (is_at (offset_of w)) w [] (λ _. record { offset = refl; mode = refl }))
-            enabled_same
+        enabled_same
 
 -- ---- nothing is due
 

@@ -85,7 +85,7 @@ module _ (f : Job → ℕ) where
   are_below n [] h k e = absurd (false≢true e)
   are_below n (x ∷ xs) h k e =
       one_found k n (is_undone x) (f x) (keys xs) (are_below n xs (λ q l. h (suc q) (omega arith)) k)
-          (h 0 (omega arith)) e
+      (h 0 (omega arith)) e
 
   few_keys : (n : ℕ) (xs : List Job) → ((p q : ℕ) → p < q → q < length xs → is_undone (job_at xs p) ≡ true
       → is_undone (job_at xs q) ≡ true → f (job_at xs p) ≡ f (job_at xs q) → ⊥)
@@ -93,7 +93,7 @@ module _ (f : Job → ℕ) where
       → length (filter is_undone xs) ≤ n
   few_keys n xs apart below =
       subst (λ (k : ℕ). k ≤ n) (length_keys xs)
-          (length-le_from_distinct_below (keys xs) n (are_distinct xs apart) (are_below n xs below))
+      (length-le_from_distinct_below (keys xs) n (are_distinct xs apart) (are_below n xs below))
 
 some_left : (left : List Stmt) → 1 ≤ length left → is_done left ≡ false
 some_left [] l = absurd (omega arith)
@@ -112,7 +112,7 @@ module _ (c : ConfigParts) (w : World) (single : AreTasksSingle c w)
       subst (λ (k : ℕ). k ≤ length c.tasks) (length-filter is_undone w.jobs)
       (few_keys (λ (job : Job). (row_of (mode_of c w) job.entry).task.0) (length c.tasks) w.jobs
       (λ p q l m up uq same. let e =
-          single p q (unfinished_at p (omega arith) up) (unfinished_at q m uq) (ap task_no same) in omega arith)
+      single p q (unfinished_at p (omega arith) up) (unfinished_at q m uq) (ap task_no same) in omega arith)
       (λ q l u. exist q l))
     where
       task_no : ℕ → TaskNo
@@ -128,7 +128,7 @@ module _ (c : ConfigParts) (s : ScriptParts) (rules : IsConfig c) (w : World) (a
   task_exists i l =
       let row = row_of (mode_of c w) i in
       let here = list_all_get (is_activation c) (mode_of c w).activations i no_row
-          (mode_rows c w.mode.0 rules).activations l in
+      (mode_rows c w.mode.0 rules).activations l in
       ltb-true row.task.0 (length c.tasks) (and_parts (nat_lt row.task.0 (length c.tasks))
       (nat_lt row.offset row.deadline && nat_le row.deadline (c.round - c.adjust)) here).0
 
@@ -152,7 +152,7 @@ module _ (c : ConfigParts) (s : ScriptParts) (rules : IsConfig c) (w : World) (a
   has_body =
       let within = (row_found (offset_of w) entry (mode_of c w) found).0 in
       let task = All-get_or (IsTask c) c.tasks (row_of (mode_of c w) entry).task.0 no_task
-          (task_exists entry within) rules.tasks in
+      (task_exists entry within) rules.tasks in
       some_left (body_of c (row_of (mode_of c w) entry).task) task.routine.some
 
   -- before an activation there is room for one more

@@ -45,28 +45,79 @@ module _ (c : ConfigParts) (s : ScriptParts) (w : World) where
 
   left_now : (v : World) (r : Runner) (after : List Stmt) → Now v → Now (leaving v r after)
   left_now v (runner.Isr i) after p =
-      record { tick = p.tick; start = p.start; mode = p.mode; latched = p.latched; enabled = p.enabled; held = p.held;
-      oheld = p.oheld }
+      record {
+        tick = p.tick;
+        start = p.start;
+        mode = p.mode;
+        latched = p.latched;
+        enabled = p.enabled;
+        held = p.held;
+        oheld = p.oheld;
+      }
   left_now v (runner.Job q) after p =
-      record { tick = p.tick; start = p.start; mode = p.mode; latched = p.latched; enabled = p.enabled; held = p.held;
-      oheld = p.oheld }
+      record {
+        tick = p.tick;
+        start = p.start;
+        mode = p.mode;
+        latched = p.latched;
+        enabled = p.enabled;
+        held = p.held;
+        oheld = p.oheld;
+      }
   left_now v (runner.Oisr i) after p =
-      record { tick = p.tick; start = p.start; mode = p.mode; latched = p.latched; enabled = p.enabled; held = p.held;
-      oheld = p.oheld }
+      record {
+        tick = p.tick;
+        start = p.start;
+        mode = p.mode;
+        latched = p.latched;
+        enabled = p.enabled;
+        held = p.held;
+        oheld = p.oheld;
+      }
   left_now v (runner.Osek i) after p =
-      record { tick = p.tick; start = p.start; mode = p.mode; latched = p.latched; enabled = p.enabled; held = p.held;
-      oheld = p.oheld }
+      record {
+        tick = p.tick;
+        start = p.start;
+        mode = p.mode;
+        latched = p.latched;
+        enabled = p.enabled;
+        held = p.held;
+        oheld = p.oheld;
+      }
   left_now v runner.Nobody after p = p
 
   step_now : StepKeeps c s Now Now (Still w)
   step_now = record {
     left = λ v after p _. left_now v (runner_of c v) after p;
-    free = λ v _ _ _ _ _ p. record { tick = p.tick; start = p.start; mode = p.mode; latched = p.latched; enabled =
-        p.enabled; held = p.held; oheld = p.oheld };
-    synced = λ v _ p. record { tick = p.tick; start = p.start; mode = p.mode; latched = p.latched; enabled =
-        p.enabled; held = p.held; oheld = p.oheld };
-    over = λ v _ p. record { tick = ap (λ t. t + 1) p.tick; start = p.start; mode = p.mode; latched = p.latched;
-        enabled = p.enabled; held = p.held; oheld = p.oheld };
+    free = λ v _ _ _ _ _ p. record {
+      tick = p.tick;
+      start = p.start;
+      mode = p.mode;
+      latched = p.latched;
+      enabled =
+          p.enabled;
+      held = p.held;
+      oheld = p.oheld;
+    };
+    synced = λ v _ p. record {
+      tick = p.tick;
+      start = p.start;
+      mode = p.mode;
+      latched = p.latched;
+      enabled =
+          p.enabled;
+      held = p.held;
+      oheld = p.oheld;
+    };
+    over = λ v _ p. record {
+      tick = ap (λ t. t + 1) p.tick;
+      start = p.start;
+      mode = p.mode;
+      latched = p.latched;
+      enabled = p.enabled;
+      held = p.held;
+      oheld = p.oheld;
+    };
   }
 
   pub step_still : is_over (step c s w).end ≡ false → Still w (step c s w).world
@@ -110,7 +161,7 @@ somebody_accepts w r left x undone e =
     let done = (and_parts (is_enabled w x) _ parts.1).1 in
     absurd (true≢false (sym done ∙ ap is_done same ∙ undone)))
     (λ (same : left_of (leaving w r left) (source_runner x) ≡ left_of w (source_runner x)). sym
-        (ap (by_left w x) same) ∙ now)
+    (ap (by_left w x) same) ∙ now)
     (leaving_cases w r (source_runner x) left)
 
 leaves_accepted : (w : World) (r : Runner) (left : List Stmt) (x : Source) → (is_somebody r && is_done left) ≡ false
@@ -124,8 +175,14 @@ leaves_accepted w runner.Nobody left x undone e = e
 -- other variables and cursors, and what a service leaves
 same_accepted : (w : World) (vars : List ℤ) (cursors : List ℕ) (wanted : ModeNo) (pending : ℤ) (used : ℕ)
     (oseks : List (List Stmt)) (x : Source)
-    → is_accepted (record w { vars = vars; cursors = cursors; wanted = wanted; pending = pending; times_used = used;
-        oseks = oseks }) x ≡ is_accepted w x
+    → is_accepted (record w {
+      vars = vars;
+      cursors = cursors;
+      wanted = wanted;
+      pending = pending;
+      times_used = used;
+      oseks = oseks;
+    }) x ≡ is_accepted w x
 same_accepted w vars cursors wanted pending used oseks (IsrSource i) = refl
 same_accepted w vars cursors wanted pending used oseks (OisrSource i) = refl
 
@@ -153,9 +210,9 @@ module _ (c : ConfigParts) (s : ScriptParts) where
       λ f.
       sym (ap (λ u. is_accepted u x) h.is ∙ same_accepted w vars cursors h.wanted h.pending h.used h.oseks x)
       ∙ leaves_accepted answer.world r answer.left x
-          (neither (is_somebody r) answer.ends (is_done answer.left) undone) f in
+      (neither (is_somebody r) answer.ends (is_done answer.left) undone) f in
       cond_both (is_shutdown k) _ _
-          (λ (m : Moved). is_over m.end ≡ false → is_accepted m.world x ≡ true → is_accepted w x ≡ true)
+      (λ (m : Moved). is_over m.end ≡ false → is_accepted m.world x ≡ true → is_accepted w x ≡ true)
       (λ _ over f. cc) (λ _ _ f. accepted f) on e
 
   ticked : (over : Bool) (m : Moved) (who : Owner) (ended : Bool) (x : Source) → is_over m.end ≡ over

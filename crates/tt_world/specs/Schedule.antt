@@ -96,7 +96,7 @@ unfoldable pub last_from : ConfigParts → ScriptParts → (more from : ℕ) →
 last_from c s zero from = from
 last_from c s (suc more) from = if ends_at c s from then from else last_from c s more (from + 1)
 
--- no run takes more ticks: so many rounds, each of which the greatest correction makes longer
+-- no run takes more ticks: all rounds, each of which the greatest correction makes longer
 abbrev pub most_ticks : ConfigParts → ScriptParts → ℕ
 most_ticks c s = s.rounds * (c.round + c.adjust)
 

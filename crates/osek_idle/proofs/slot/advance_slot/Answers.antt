@@ -10,9 +10,9 @@ pub returns-in-Some-clause-others : goal.returns-in-Some-clause-others
 returns-in-Some-clause-others g c =
     let here : slice_index_or (frames c.args.slots.now.items) c.args.number None ≡ Some c.in-Some.frame =
     ap (λ xs. slice_index_or (frames xs) c.args.number None) (sym c.as_slice.ensures.value) ∙ sym c.frame_at.ensures
-        ∙ c.in-Some.is in
+    ∙ c.in-Some.is in
     others_stay c.args.codes.now c.args.slots.now.items c.set_frame.new.slots.items c.args.number c.in-Some.frame
-        c.advance-progress.new.frame here c.set_frame.ensures.frames
+    c.advance-progress.new.frame here c.set_frame.ensures.frames
 
 pub returns-in-Some-clause-ticks : goal.returns-in-Some-clause-ticks
 returns-in-Some-clause-ticks g c =
@@ -21,10 +21,10 @@ returns-in-Some-clause-ticks g c =
     let new = c.advance-progress.new.env in
     let here : slice_index_or (frames c.args.slots.now.items) c.args.number None ≡ Some c.in-Some.frame =
     ap (λ xs. slice_index_or (frames xs) c.args.number None) (sym c.as_slice.ensures.value) ∙ sym c.frame_at.ensures
-        ∙ c.in-Some.is in
+    ∙ c.in-Some.is in
     ap (λ l. state_of l new.vars new.cursors (option_to_list c.advance-progress.result.effect))
     (new_left codes c.args.slots.now.items c.set_frame.new.slots.items c.args.number c.in-Some.frame
-        c.advance-progress.new.frame here c.set_frame.ensures.frames)
+    c.advance-progress.new.frame here c.set_frame.ensures.frames)
     ∙ c.advance-progress.ensures.ticks
     ∙ ap (λ l. ticks (supply_of env.demands env.values) c.args.k (state_of l env.vars env.cursors []))
     (sym (left_is codes c.args.slots.now.items c.args.number c.in-Some.frame here))
@@ -33,8 +33,8 @@ pub returns-in-Some-clause-ended : goal.returns-in-Some-clause-ended
 returns-in-Some-clause-ended g c =
     let here : slice_index_or (frames c.args.slots.now.items) c.args.number None ≡ Some c.in-Some.frame =
     ap (λ xs. slice_index_or (frames xs) c.args.number None) (sym c.as_slice.ensures.value) ∙ sym c.frame_at.ensures
-        ∙ c.in-Some.is in
+    ∙ c.in-Some.is in
     let left = new_left c.args.codes.now c.args.slots.now.items c.set_frame.new.slots.items c.args.number
-        c.in-Some.frame c.advance-progress.new.frame here
+    c.in-Some.frame c.advance-progress.new.frame here
     c.set_frame.ensures.frames in
     subst (λ l. IsTrue c.advance-progress.result.ended ↔ (l ≡ [])) (sym left) c.advance-progress.ensures.ended

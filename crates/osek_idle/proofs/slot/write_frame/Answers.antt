@@ -10,4 +10,4 @@ returns-then-place-slots-clause-priorities c = slots_set c.args.slots.now c.from
 pub returns-then-place-slots-clause-frames : goal.returns-then-place-slots-clause-frames
 returns-then-place-slots-clause-frames c =
     frames_set c.args.slots.now c.from-place.result _
-        ∙ ap (λ n. slice_set (frames c.args.slots.now) n c.args.frame) c.from-place.ensures
+    ∙ ap (λ n. slice_set (frames c.args.slots.now) n c.args.frame) c.from-place.ensures

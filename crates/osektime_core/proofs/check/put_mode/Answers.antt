@@ -14,6 +14,6 @@ loop-entry-preserved c =
 pub returns : goal.returns
 returns c =
     let count : c.loop-entry.entry ≡ length c.args.table.now.mode.activations =
-        omega (arith, c.entries-entry-end.ensures) in
+    omega (arith, c.entries-entry-end.ensures) in
     entries_all c.args.config.now c.args.mode c.args.table.now c.loop-entry.entry c.args.text.now.items _
     c.requires.table count c.loop-entry.invariant

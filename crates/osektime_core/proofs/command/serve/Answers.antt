@@ -12,7 +12,7 @@ returns-clause-complete g c = λ calm_input calm_output ample.
     let written : c.respond.result ≢ WriteFault = λ fault. calm_output (c.respond.ensures.responds.cause fault) in
     let is : command_of c.args.words.now ≡ Some c.in-Some.command = search rules in
     told_answer c.args.words.now c.in-Some.command _ _ _ _ c.in-Ok.bytes.items c.respond.result is
-        c.in-Ok.ensures.bytes c.in-Ok.ensures.fits
+    c.in-Ok.ensures.bytes c.in-Ok.ensures.fits
     (rw (← c.deref.ensures.value) (c.respond.ensures.responds.answered ample written))
 
 -- the bytes that were taken are those that were left

@@ -13,8 +13,8 @@ loop-place-preserved c =
     let line = λ (entry : ℕ). check_line names c.args.point (row_of table.mode entry) in
     let put : c.put.new.text.items ≡ c.loop-place.text.items ++ line c.check_at.result =
     c.in_ok-put.ensures ∙ ap (λ (l : List ℕ). c.loop-place.text.items ++ l)
-        (c.check_line.ensures ∙ ap (λ (row : Activation). check_line names c.args.point row)
-        c.activation-row.ensures) in
+    (c.check_line.ensures ∙ ap (λ (row : Activation). check_line names c.args.point row)
+    c.activation-row.ensures) in
     record {
       text = text_more line c.args.text.now.items _ _
           (checks_of table) c.args.from c.loop-place.place c.check_at.result c.loop-place.auto.place

@@ -13,8 +13,8 @@ loop-place-preserved c =
     record {
       text =
           text_more line c.args.text.now.items _ _
-              (enables_of c.args.table.now) c.args.from c.loop-place.place c.enable_at.result c.loop-place.auto.place
-              c.enable_at.ensures
+          (enables_of c.args.table.now) c.args.from c.loop-place.place c.enable_at.result c.loop-place.auto.place
+          c.enable_at.ensures
           c.loop-place.invariant.text put;
       within = omega arith;
     }

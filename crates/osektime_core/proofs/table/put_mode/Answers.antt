@@ -13,9 +13,9 @@ returns c =
     let same = c.parts-parts.ensures.same in
     let end = c.end_checks-from in
     let past = ap (λ (p : ConfigParts). (p.round - p.adjust) + 1) same
-        ∙ ap (λ (t : TableRows). t.limit + 1) (sym c.in_ok-table.ensures) in
+    ∙ ap (λ (t : TableRows). t.limit + 1) (sym c.in_ok-table.ensures) in
     on_ok_weaker c.put_checks.result
     (mode_joined config c.args.mode table c.parts-parts.result.now.names _ c.args.text.now.items _ _ _
-        (ap (λ (p : ConfigParts). p.names) same)
+    (ap (λ (p : ConfigParts). p.names) same)
     c.in_ok-table.ensures (checks_at_end table _ _ _ past end.ensures.from end.ensures.to)
-        (search rules) c.in_ok-put_offsets.ensures) c.put_checks.ensures
+    (search rules) c.in_ok-put_offsets.ensures) c.put_checks.ensures

@@ -15,8 +15,8 @@ loop-next-preserved c =
     record {
       text =
           lines_on c.args.names.now table.mode table.limit c.in-Some.offset c.loop-next.next c.next_after-next.result
-              c.args.text.now.items _ _ c.in-Some.is
+          c.args.text.now.items _ _ c.in-Some.is
           c.loop-next.invariant.within c.loop-next.invariant.text c.in_ok-put_offset.ensures
-              c.next_after-next.ensures.ahead c.next_after-next.ensures.free;
+          c.next_after-next.ensures.ahead c.next_after-next.ensures.free;
       within = next_within table.limit c.in-Some.offset c.next_after-next.result c.next_after-next.ensures.ahead;
     }

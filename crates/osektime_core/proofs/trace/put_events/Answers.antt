@@ -14,10 +14,10 @@ pub loop-event-preserved : goal.loop-event-preserved
 loop-event-preserved g c =
     let within : c.loop-event.event-index < length c.args.events.now = search rules in
     let more : text_of c.args.names.now (take (c.loop-event.event-index + 1) c.args.events.now)
-        ≡ text_of c.args.names.now (take c.loop-event.event-index c.args.events.now) ++ c.as_bytes.result.now =
+    ≡ text_of c.args.names.now (take c.loop-event.event-index c.args.events.now) ++ c.as_bytes.result.now =
     text_more c.args.names.now c.args.events.now c.loop-event.event-index _ within
     ∙ ap (λ (l : List ℕ). text_of c.args.names.now (take c.loop-event.event-index c.args.events.now) ++ l)
-        (sym (c.as_bytes.ensures.bytes ∙ c.line_of-line.ensures.line)) in
+    (sym (c.as_bytes.ensures.bytes ∙ c.line_of-line.ensures.line)) in
     record {
       passes = passes_more _ c.as_bytes.result.now more c.loop-event.invariant.passes c.in-Ok.ensures.ok;
       never_falls = search rules;
@@ -27,10 +27,10 @@ pub returns-in-Err-clause-part : goal.returns-in-Err-clause-part
 returns-in-Err-clause-part g c =
     let within : c.loop-event.event-index < length c.args.events.now = search rules in
     let more : text_of c.args.names.now (take (c.loop-event.event-index + 1) c.args.events.now)
-        ≡ text_of c.args.names.now (take c.loop-event.event-index c.args.events.now) ++ c.as_bytes.result.now =
+    ≡ text_of c.args.names.now (take c.loop-event.event-index c.args.events.now) ++ c.as_bytes.result.now =
     text_more c.args.names.now c.args.events.now c.loop-event.event-index _ within
     ∙ ap (λ (l : List ℕ). text_of c.args.names.now (take c.loop-event.event-index c.args.events.now) ++ l)
-        (sym (c.as_bytes.ensures.bytes ∙ c.line_of-line.ensures.line)) in
+    (sym (c.as_bytes.ensures.bytes ∙ c.line_of-line.ensures.line)) in
     part_of_text _ _ c.args.names.now c.args.events.now c.loop-event.event-index
     (passes_part _ _ c.as_bytes.result.now more c.loop-event.invariant.passes c.in-Err.ensures.part)
 
@@ -38,5 +38,5 @@ pub returns-in-Err-send-clause-part : goal.returns-in-Err-send-clause-part
 returns-in-Err-send-clause-part g c =
     let all : c.loop-event.event-index ≡ length c.args.events.now = search rules in
     passes_end_part _ (text_of c.args.names.now c.args.events.now)
-        (sym (text_all c.args.names.now c.args.events.now c.loop-event.event-index all))
+    (sym (text_all c.args.names.now c.args.events.now c.loop-event.event-index all))
     c.loop-event.invariant.passes c.in-Err-send.ensures.part

@@ -19,5 +19,5 @@ after c offset deadline point.RoundEnd before within from = omega arith
 pub returns : goal.returns
 returns _ c mode rules entry l =
     let parts = deadline_parts c (row_of mode entry)
-        (list_all_get (is_activation c) mode.activations entry no_row rules.activations l) in
+    (list_all_get (is_activation c) mode.activations entry no_row rules.activations l) in
     after c _ _ (point_at mode entry) parts.0 parts.1 (point_is_from mode (row_of mode entry))

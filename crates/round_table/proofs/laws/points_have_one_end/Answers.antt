@@ -10,4 +10,4 @@ pub returns : goal.returns
 returns _ c mode rules entry other l m here end =
     let limit = c.round - c.adjust in
     one_end limit mode (mode_within c mode rules) entry other l m (ap (is_at limit) here ∙ eq-eqb limit limit refl)
-        (ap is_round_end end)
+    (ap is_round_end end)

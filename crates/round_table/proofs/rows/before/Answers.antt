@@ -8,5 +8,5 @@ pub returns : goal.returns
 returns g c =
     cut_from (λ row. nat_lt (g.T.Row.at row) c.args.offset) c.args.rows.now _ c.partition_point.ensures.bound
     (IsPartitionPoint-from_clause
-        (λ row. nat_lt (g.T.Row.at row) c.args.offset) c.args.rows.now _ c.partition_point.ensures.partitioned
+    (λ row. nat_lt (g.T.Row.at row) c.args.offset) c.args.rows.now _ c.partition_point.ensures.partitioned
     (IsPartitionedBy-ltb g.T.Row.at c.args.rows.now c.args.offset c.requires) (λ a r f k. search rules))

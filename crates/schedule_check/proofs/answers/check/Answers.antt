@@ -13,7 +13,7 @@ late_entry-requires c =
     let end = c.len-number-end.ensures ∙ ap (λ (p : ConfigParts). length p.modes) c.parts.ensures.same in
     let l : n < length config.modes = omega arith in
     is_table config n c.get.result.now l
-        (table_is config n c.get.result.now c.args.tables.now c.requires l c.get.ensures)
+    (table_is config n c.get.result.now c.args.tables.now c.requires l c.get.ensures)
 
 pub returns-in-Some : goal.returns-in-Some
 returns-in-Some c =

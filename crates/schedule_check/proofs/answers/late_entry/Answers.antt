@@ -18,7 +18,7 @@ returns-then-is_none c =
     let n = c.entries-entry-end.ensures in
     let lt = c.loop-entry-test.true in
     sym (least_is (λ entry. is_none
-        (response c.args.config.now c.args.table.now.mode (row_of c.args.table.now.mode entry)))
+    (response c.args.config.now c.args.table.now.mode (row_of c.args.table.now.mode entry)))
     0 _ c.loop-entry.entry (omega arith) (omega arith)
     (none_here c.response.result c.is_none.result c.is_none.ensures c.if-is_none.true _ c.response.ensures)
     (λ j a b. c.loop-entry.invariant j b))
@@ -29,5 +29,5 @@ returns c =
     let n = c.entries-entry-end.ensures in
     let ge = c.loop-entry-test.false in
     sym (least_none (λ entry. is_none
-        (response c.args.config.now c.args.table.now.mode (row_of c.args.table.now.mode entry)))
+    (response c.args.config.now c.args.table.now.mode (row_of c.args.table.now.mode entry)))
     0 _ (λ j a b. c.loop-entry.invariant j (omega arith)))

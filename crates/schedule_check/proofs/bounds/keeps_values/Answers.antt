@@ -16,7 +16,7 @@ returns-then-not-are_at_most c =
     let l : n < length demands = subst (λ (xs : List Demand). n < length xs) demands-are c.loop-number-test.true in
     let k : n < length values = (let same = c.requires.values in omega arith) in
     let kept = kept_here demands values n _ c.as_slice-demands.result.now c.index-values-number.result
-        c.as_slice.result.now
+    c.as_slice.result.now
     c.are_at_most.result demands-are c.loop-number-test.true k
     (c.index-values-number.is ∙ ap (λ (xs : List (List ℕ)). get_or xs n c.index-values-number.result) values-are)
     c.as_slice.ensures c.are_at_most.ensures in
@@ -32,7 +32,7 @@ loop-number-preserved c =
     let l : n < length demands = subst (λ (xs : List Demand). n < length xs) demands-are c.loop-number-test.true in
     let k : n < length values = (let same = c.requires.values in omega arith) in
     let kept = kept_here demands values n _ c.as_slice-demands.result.now c.index-values-number.result
-        c.as_slice.result.now
+    c.as_slice.result.now
     c.are_at_most.result demands-are c.loop-number-test.true k
     (c.index-values-number.is ∙ ap (λ (xs : List (List ℕ)). get_or xs n c.index-values-number.result) values-are)
     c.as_slice.ensures c.are_at_most.ensures in

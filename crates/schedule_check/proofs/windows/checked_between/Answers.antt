@@ -9,7 +9,7 @@ overflow_add-sum c =
     let table = c.args.table.now in
     let weight = c.weight_of-sum.ensures.exact ∙ ap w c.activation.ensures in
     let more = checked_more w table c.loop-place.place c.check_at.result c.weight_of-sum.result c.check_at.ensures.at
-        weight in
+    weight in
     let so_far = c.loop-place.invariant.sum in
     let test = c.loop-place-test.true in
     let less = checked_less w table (c.loop-place.place + 1) c.args.to (omega arith) in
@@ -22,7 +22,7 @@ loop-place-preserved c =
     let table = c.args.table.now in
     let weight = c.weight_of-sum.ensures.exact ∙ ap w c.activation.ensures in
     let more = checked_more w table c.loop-place.place c.check_at.result c.weight_of-sum.result c.check_at.ensures.at
-        weight in
+    weight in
     let so_far = c.loop-place.invariant.sum in
     let order = c.loop-place.invariant.order in
     record { order = omega arith; sum = omega arith }

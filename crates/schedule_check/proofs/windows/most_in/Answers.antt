@@ -11,7 +11,7 @@ use Rattle.schedule_check.proofs.windows.most_in.Goals as goal
 pub overflow_add-opened : goal.overflow_add-opened
 overflow_add-opened c =
     let few = few_rows c.args.parts.now c.requires.rules c.args.table.now c.requires.table
-        (weight_of c.args.measure c.args.parts.now) in
+    (weight_of c.args.measure c.args.parts.now) in
     let rows = ap (λ (xs : List Activation). length xs) c.activations-row-items.ensures in
     let test = c.loop-row-test.true in
     let bounded = c.loop-row.invariant.bounded in
@@ -41,7 +41,7 @@ checked_between-closed-requires-clause-order c =
     let row = item_is parts c.requires.rules table c.requires.table w j _ c.activations-row-items.result.now
     c.activations-row-items.ensures test in
     let next = next_is parts c.requires.rules table c.requires.table w j _ c.due-next.result row
-        c.due-next.ensures.exact in
+    c.due-next.ensures.exact in
     let early = c.loop-row.invariant.early j (omega arith) l in
     omega arith
 
@@ -57,7 +57,7 @@ checked_between-closed-requires-clause-small c =
     let row = item_is parts c.requires.rules table c.requires.table w j _ c.activations-row-items.result.now
     c.activations-row-items.ensures test in
     let next = next_is parts c.requires.rules table c.requires.table w j _ c.due-next.result row
-        c.due-next.ensures.exact in
+    c.due-next.ensures.exact in
     let whole = step parts c.requires.rules table c.requires.table w j _ c.loop-row.opened c.weight_of-opened.result
     c.due-next.result.checks_to l row c.loop-row.invariant.opened c.weight_of-opened.ensures.exact next in
     let few = few_rows parts c.requires.rules table c.requires.table w in
@@ -77,7 +77,7 @@ overflow_add-closed c =
     let row = item_is parts c.requires.rules table c.requires.table w j _ c.activations-row-items.result.now
     c.activations-row-items.ensures test in
     let next = next_is parts c.requires.rules table c.requires.table w j _ c.due-next.result row
-        c.due-next.ensures.exact in
+    c.due-next.ensures.exact in
     let whole = step parts c.requires.rules table c.requires.table w j _ c.loop-row.opened c.weight_of-opened.result
     c.due-next.result.checks_to l row c.loop-row.invariant.opened c.weight_of-opened.ensures.exact next in
     let few = few_rows parts c.requires.rules table c.requires.table w in
@@ -99,7 +99,7 @@ overflow_sub-opened c =
     let row = item_is parts c.requires.rules table c.requires.table w j _ c.activations-row-items.result.now
     c.activations-row-items.ensures test in
     let next = next_is parts c.requires.rules table c.requires.table w j _ c.due-next.result row
-        c.due-next.ensures.exact in
+    c.due-next.ensures.exact in
     let whole = step parts c.requires.rules table c.requires.table w j _ c.loop-row.opened c.weight_of-opened.result
     c.due-next.result.checks_to l row c.loop-row.invariant.opened c.weight_of-opened.ensures.exact next in
     let few = few_rows parts c.requires.rules table c.requires.table w in
@@ -121,7 +121,7 @@ loop-row-preserved c =
     let row = item_is parts c.requires.rules table c.requires.table w j _ c.activations-row-items.result.now
     c.activations-row-items.ensures test in
     let next = next_is parts c.requires.rules table c.requires.table w j _ c.due-next.result row
-        c.due-next.ensures.exact in
+    c.due-next.ensures.exact in
     let whole = step parts c.requires.rules table c.requires.table w j _ c.loop-row.opened c.weight_of-opened.result
     c.due-next.result.checks_to l row c.loop-row.invariant.opened c.weight_of-opened.ensures.exact next in
     let few = few_rows parts c.requires.rules table c.requires.table w in
@@ -157,4 +157,4 @@ returns-clause-exact c =
     ∙ ap (largest (λ j. open_at (weight_of c.args.measure c.args.parts.now) c.args.parts.now c.args.table.now.mode
     (row_of c.args.table.now.mode j).offset)) end
     ∙ most_here c.args.parts.now c.requires.rules c.args.table.now c.requires.table
-        (weight_of c.args.measure c.args.parts.now)
+    (weight_of c.args.measure c.args.parts.now)

@@ -30,7 +30,7 @@ loop-number-preserved c =
           c.loop-number.invariant.most
           (c.most_in.ensures.exact
           ∙ ap (λ (p : ConfigParts). most_in (weight_of c.args.measure p) p c.get.result.now.mode)
-              c.parts-parts.ensures.same
+          c.parts-parts.ensures.same
           ∙ ap (λ (t : TableRows). most_in w config t.mode) table);
       small = omega arith;
     }

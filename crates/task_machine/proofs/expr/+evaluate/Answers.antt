@@ -29,13 +29,13 @@ pub returns-in-Some-Apply-clause-value : goal.returns-in-Some-Apply-clause-value
 returns-in-Some-Apply-clause-value m c = λ e q h.
     let is : Some (t.Apply c.in-Some-Apply.op) ≡ term_in (slice_get c.args.code.now c.args.place) = cc in
     let r : AtOperator c.args.code.now c.args.vars.now (c.args.place + 1) c.in-Some-Apply.op
-        (value_of c.args.vars.now e) q =
+    (value_of c.args.vars.now e) q =
     begins c.args.code.now c.args.vars.now e c.args.place q h _ is in
     let first = c.evaluate-left.ensures.value r.a r.middle r.first in
     let second = c.evaluate-right.ensures.value r.b q
-        (subst (λ k. Stands c.args.code.now k (expr_code r.b) q) (sym first.1) r.second) in
+    (subst (λ k. Stands c.args.code.now k (expr_code r.b) q) (sym first.1) r.second) in
     let x : to_z w32 (of_z w32 c.evaluate-left.result.0) ≡ value_of c.args.vars.now r.a = search (rules, first.0) in
     let y : to_z w32 (of_z w32 c.evaluate-right.result.0) ≡ value_of c.args.vars.now r.b = search (rules, second.0) in
     let z : c.apply.result ≡ value_of c.args.vars.now e =
-        applied c.in-Some-Apply.op _ _ _ _ _ _ c.apply.ensures x y r.is in
+    applied c.in-Some-Apply.op _ _ _ _ _ _ c.apply.ensures x y r.is in
     (search (rules, z), second.1)

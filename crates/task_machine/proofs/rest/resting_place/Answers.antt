@@ -14,4 +14,4 @@ pub returns-else-work-eq0 : goal.returns-else-work-eq0
 returns-else-work-eq0 c = λ d list left.
     let at = c.loop-passed.invariant d list left in
     work_begun c.args.code.now c.args.counters.now at.0 c.loop-passed.place c.work_at-work.result list
-        c.work_at-work.ensures.work (omega arith) at.1
+    c.work_at-work.ensures.work (omega arith) at.1

@@ -6,16 +6,21 @@ use Rattle.task_machine.proofs.ticks.advance.Goals as goal
 pub take_ticks-effect-requires-clause-within : goal.take_ticks-effect-requires-clause-within
 take_ticks-effect-requires-clause-within g c =
     subst (λ n. c.args.k ≤ max 1 n)
-        (sym (begun_is_front c.args.codes.now c.args.frame.now c.requires.sound)) c.requires.within
+    (sym (begun_is_front c.args.codes.now c.args.frame.now c.requires.sound)) c.requires.within
 
 pub returns : goal.returns
 returns g c =
-    let stored : Store = record { vars = c.env.inside.vars; cursors = c.env.inside.cursors; demands =
-        c.env.inside.demands; values = c.env.inside.values } in
+    let stored : Store = record {
+      vars = c.env.inside.vars;
+      cursors = c.env.inside.cursors;
+      demands =
+          c.env.inside.demands;
+      values = c.env.inside.values;
+    } in
     let done = outcome c.args.codes.now c.instrs-code.result.now c.args.frame.now c.take_ticks-effect.new.frame
-        c.take_ticks-effect.new.vars
+    c.take_ticks-effect.new.vars
     c.take_ticks-effect.new.cursors c.take_ticks-effect.result c.args.k stored c.args.env.now c.env.view_is
-        c.instrs-code.ensures.layout
+    c.instrs-code.ensures.layout
     c.take_ticks-effect.ensures.program c.requires.sound c.requires.left c.take_ticks-effect.ensures.ticks in
     record {
       sound = done.sound;

@@ -15,7 +15,7 @@ returns-then-given-eq0-clause-ticks c = λ l vars at.
     let left = rests_left code cs l p r in
     taken_zero code cs supply l vars c.args.cursors.now r.depth p left c.take-given.result c.take-given.new.cursors _ _
     (step_take code cs supply l vars c.args.cursors.now r.depth p left c.args.demand _ _ c.requires.here
-        c.take-given.ensures.given c.take-given.ensures.used)
+    c.take-given.ensures.given c.take-given.ensures.used)
     c.if-given-eq0.true (λ m later. c.settle.ensures.at r.depth m later)
 
 pub returns-else-given-eq0-clause-ticks : goal.returns-else-given-eq0-clause-ticks
@@ -28,5 +28,5 @@ returns-else-given-eq0-clause-ticks c = λ l vars at.
     let left = rests_left code cs l p r in
     taken_some code cs supply l vars c.args.cursors.now r.depth p left c.take-given.result c.take-given.new.cursors _ _
     (step_take code cs supply l vars c.args.cursors.now r.depth p left c.args.demand _ _ c.requires.here
-        c.take-given.ensures.given c.take-given.ensures.used)
+    c.take-given.ensures.given c.take-given.ensures.used)
     c.if-given-eq0.false refl refl refl at.ended

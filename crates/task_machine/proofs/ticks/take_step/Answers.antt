@@ -13,7 +13,7 @@ returns-in-Set c = λ l supply cursors r some other.
     let ev = valued code c.args.place c.args.vars.now _ _ _ z c.evaluate-value.ensures.value in
     moved_step code c.args.counters.now _ _ _ _ _ _ _ c.silent-in-Set.ensures.place c.silent-in-Set.ensures.effect
     (step_set code c.args.counters.now supply l c.args.vars.now cursors r.depth c.args.place
-        (rests_left code c.args.counters.now l c.args.place r)
+    (rests_left code c.args.counters.now l c.args.place r)
     c.in-Set.var _ c.evaluate-value.result.1 _ g ev c.assign.ensures)
 
 pub returns-in-Out : goal.returns-in-Out
@@ -23,7 +23,7 @@ returns-in-Out c = λ l supply cursors r some other.
     let z : to_z w32 (of_z w32 c.evaluate-value-in-Out.result.0) ≡ c.evaluate-value-in-Out.result.0 = search rules in
     let ev = valued code c.args.place c.args.vars.now _ _ _ z c.evaluate-value-in-Out.ensures.value in
     step_out code c.args.counters.now supply l c.args.vars.now cursors r.depth c.args.place
-        (rests_left code c.args.counters.now l c.args.place r)
+    (rests_left code c.args.counters.now l c.args.place r)
     _ c.evaluate-value-in-Out.result.1 g ev
 
 pub overflow_add-after : goal.overflow_add-after
@@ -70,11 +70,11 @@ returns-then-value-eq0 c = λ l supply cursors r some other.
     let g : slice_get code c.args.place ≡ Some (i.If c.in-If.passed) = cc in
     let zero : c.evaluate-value-in-If.result.0 ≡ pos 0 = search rules in
     moved_step code c.args.counters.now _ _ _ _ _ _ _ c.silent-then-value-eq0.ensures.place
-        c.silent-then-value-eq0.ensures.effect
+    c.silent-then-value-eq0.ensures.effect
     (step_if_zero code c.args.counters.now supply l c.args.vars.now cursors r.depth c.args.place
-        (rests_left code c.args.counters.now l c.args.place r)
+    (rests_left code c.args.counters.now l c.args.place r)
     c.in-If.passed c.evaluate-value-in-If.result.0 c.evaluate-value-in-If.result.1 g
-        c.evaluate-value-in-If.ensures.value zero)
+    c.evaluate-value-in-If.ensures.value zero)
 
 pub returns-else-value-eq0 : goal.returns-else-value-eq0
 returns-else-value-eq0 c = λ l supply cursors r some other.
@@ -82,11 +82,11 @@ returns-else-value-eq0 c = λ l supply cursors r some other.
     let g : slice_get code c.args.place ≡ Some (i.If c.in-If.passed) = cc in
     let other : c.evaluate-value-in-If.result.0 ≢ pos 0 = search rules in
     moved_step code c.args.counters.now _ _ _ _ _ _ _ c.silent-else-value-eq0.ensures.place
-        c.silent-else-value-eq0.ensures.effect
+    c.silent-else-value-eq0.ensures.effect
     (step_if_other code c.args.counters.now supply l c.args.vars.now cursors r.depth c.args.place
-        (rests_left code c.args.counters.now l c.args.place r)
+    (rests_left code c.args.counters.now l c.args.place r)
     c.in-If.passed c.evaluate-value-in-If.result.0 c.evaluate-value-in-If.result.1 g
-        c.evaluate-value-in-If.ensures.value other)
+    c.evaluate-value-in-If.ensures.value other)
 
 pub returns-in-Repeat : goal.returns-in-Repeat
 returns-in-Repeat c = λ l supply cursors r some other.
@@ -94,10 +94,10 @@ returns-in-Repeat c = λ l supply cursors r some other.
     let g : slice_get code c.args.place ≡ Some (i.Repeat c.in-Repeat.counter c.in-Repeat.turns) = cc in
     let small = (c.requires.each c.args.place (i.Repeat c.in-Repeat.counter c.in-Repeat.turns) g).1 in
     let within : c.in-Repeat.counter < length c.args.counters.now =
-        omega (arith, small, c.silent-in-Repeat.array_long) in
+    omega (arith, small, c.silent-in-Repeat.array_long) in
     moved_step code _ _ _ _ _ _ _ _ c.silent-in-Repeat.ensures.place c.silent-in-Repeat.ensures.effect
     (step_repeat code c.args.counters.now supply l c.args.vars.now cursors r.depth c.args.place
-        (rests_left code c.args.counters.now l c.args.place r)
+    (rests_left code c.args.counters.now l c.args.place r)
     c.in-Repeat.turns c.in-Repeat.counter _ g within refl)
 
 pub returns-then-left-gt0 : goal.returns-then-left-gt0
@@ -106,25 +106,25 @@ returns-then-left-gt0 c = λ l supply cursors r some other.
     let g : slice_get code c.args.place ≡ Some (i.Again c.in-Again.counter c.in-Again.back) = cc in
     let small = (c.requires.each c.args.place (i.Again c.in-Again.counter c.in-Again.back) g).1 in
     let within : c.in-Again.counter < length c.args.counters.now =
-        omega (arith, small, c.silent-then-left-gt0.array_long) in
+    omega (arith, small, c.silent-then-left-gt0.array_long) in
     let more : slice_index c.args.counters.now c.in-Again.counter
-        ≡ suc (slice_index c.args.counters.now c.in-Again.counter - 1) = omega (arith, c.if-left-gt0.true) in
+    ≡ suc (slice_index c.args.counters.now c.in-Again.counter - 1) = omega (arith, c.if-left-gt0.true) in
     moved_step code _ _ _ _ _ _ _ _ c.silent-then-left-gt0.ensures.place c.silent-then-left-gt0.ensures.effect
     (step_again code c.args.counters.now supply l c.args.vars.now cursors r.depth c.args.place
-        (rests_left code c.args.counters.now l c.args.place r)
+    (rests_left code c.args.counters.now l c.args.place r)
     c.in-Again.back c.in-Again.counter _ _ g within more refl)
 
 pub returns-else-left-gt0 : goal.returns-else-left-gt0
 returns-else-left-gt0 c = λ l supply cursors r some other.
     let g : slice_get c.args.code.now c.args.place ≡ Some (i.Again c.in-Again.counter c.in-Again.back) = cc in
     absurd (never_done c.args.code.now c.args.counters.now l c.args.place c.in-Again.back c.in-Again.counter r g
-        (omega (arith, c.if-left-gt0.false)))
+    (omega (arith, c.if-left-gt0.false)))
 
 pub returns-in-Service : goal.returns-in-Service
 returns-in-Service c = λ l supply cursors r some other.
     let g : slice_get c.args.code.now c.args.place ≡ Some (i.Service c.in-Service.call) = cc in
     step_service c.args.code.now c.args.counters.now supply l c.args.vars.now cursors r.depth c.args.place
-        (rests_left c.args.code.now c.args.counters.now l c.args.place r) c.in-Service.call g
+    (rests_left c.args.code.now c.args.counters.now l c.args.place r) c.in-Service.call g
 
 pub returns-in-None : goal.returns-in-None
 returns-in-None c = λ l supply cursors r some other.

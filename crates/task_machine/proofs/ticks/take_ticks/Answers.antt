@@ -11,7 +11,7 @@ returns-in-Some-clause-ticks c = λ l at some.
     let supply = supply_of c.args.demands.now c.args.values.now in
     let one : c.args.k ≡ 1 = omega (arith, c.requires.some, c.requires.within, c.if-frame-gt0.false) in
     advanced_one c.args.code.now c.draw.new.frame c.args.vars.now c.draw.new.cursors None supply c.args.k
-        (begin l c.args.vars.now c.args.cursors.now) one
+    (begin l c.args.vars.now c.args.cursors.now) one
     (c.draw.ensures.ticks l c.args.vars.now at)
 
 pub returns-in-None-clause-ticks : goal.returns-in-None-clause-ticks
@@ -25,7 +25,7 @@ returns-in-None-clause-ticks c = λ l at some.
     let rests : Rests code f.counters l f.place 0 = subst (λ w. Rests code f.counters l f.place w) none at.rests in
     let step = c.take_step-step.ensures l supply c.args.cursors.now rests some other in
     advanced_one code c.settle.new.frame c.take_step-step.new.vars c.args.cursors.now c.take_step-step.result.effect
-        supply c.args.k
+    supply c.args.k
     (begin l c.args.vars.now c.args.cursors.now) one
     (settled code _ _ c.settle.new.frame c.take_step-step.new.vars c.args.cursors.now c.take_step-step.result.effect _
-        step c.settle.ensures.at)
+    step c.settle.ensures.at)

@@ -10,5 +10,5 @@ returns-clause-text g c =
 pub returns-clause-never_falls : goal.returns-clause-never_falls
 returns-clause-never_falls g c =
     records_never_falls (to_sink g.O.Sink.written g.O.Sink.faults) c.args.names.now c.args.recorder.now
-        c.args.events.now
+    c.args.events.now
     c.note_all.new.recorder c.note_all.result c.note_all.ensures

@@ -14,14 +14,14 @@ config_parts-requires c = bodies_are_fit c.args.rows.now c.args.document c.requi
 pub new-config-requires : goal.new-config-requires
 new-config-requires c =
     config_fits c.args.rows.now c.args.document c.requires.elaborated c.in_ok-config_parts.field-0 c.requires.sound
-        c.requires.few c.requires.kept c.in_ok-config_parts.ensures
+    c.requires.few c.requires.kept c.in_ok-config_parts.ensures
 
 pub new-script-requires : goal.new-script-requires
 new-script-requires c =
     script_fits c.args.rows.now c.args.document c.requires.elaborated c.new-config.result c.in_ok-script.script
-        c.requires.sound c.requires.kept
+    c.requires.sound c.requires.kept
     (c.new-config.ensures ∙ c.in_ok-config_parts.ensures)
-        (c.in_ok-script.ensures ∙ ap (λ ns. script_with (parts ns) c.args.document.said) c.as_slice.ensures)
+    (c.in_ok-script.ensures ∙ ap (λ ns. script_with (parts ns) c.args.document.said) c.as_slice.ensures)
 
 pub returns-clause-config : goal.returns-clause-config
 returns-clause-config c = config_is c.args.rows.now c.args.document c.requires.elaborated c.new-config.result
@@ -31,12 +31,12 @@ pub returns-clause-script : goal.returns-clause-script
 returns-clause-script c =
     script_is c.args.rows.now c.args.document c.requires.elaborated c.new-script.result
     (c.new-script.ensures ∙ c.in_ok-script.ensures
-        ∙ ap (λ ns. script_with (parts ns) c.args.document.said) c.as_slice.ensures)
+    ∙ ap (λ ns. script_with (parts ns) c.args.document.said) c.as_slice.ensures)
 
 pub returns-clause-script_rules : goal.returns-clause-script_rules
 returns-clause-script_rules c =
     script_fits c.args.rows.now c.args.document c.requires.elaborated c.new-config.result c.new-script.result
-        c.requires.sound c.requires.kept
+    c.requires.sound c.requires.kept
     (c.new-config.ensures ∙ c.in_ok-config_parts.ensures)
-        (c.new-script.ensures ∙ c.in_ok-script.ensures
-        ∙ ap (λ ns. script_with (parts ns) c.args.document.said) c.as_slice.ensures)
+    (c.new-script.ensures ∙ c.in_ok-script.ensures
+    ∙ ap (λ ns. script_with (parts ns) c.args.document.said) c.as_slice.ensures)

@@ -11,11 +11,11 @@ pub returns-in-Some-round_broken : goal.returns-in-Some-round_broken
 returns-in-Some-round_broken c =
     let d = document_of c.args.rows.now in
     first_two d c.in-Some-round_broken.broken (sym c.in_default.is ∙ c.in_ok-broken.ensures d refl)
-        (c.in-Some-round_broken.ensures d (sym c.requires))
+    (c.in-Some-round_broken.ensures d (sym c.requires))
 
 pub returns : goal.returns
 returns c =
     let d = document_of c.args.rows.now in
     c.in_ok-broken-2.ensures d (sym c.requires)
-        ∙ first_rest d (sym c.in_default.is ∙ c.in_ok-broken.ensures d refl)
-        (c.in_default-round_broken.ensures d (sym c.requires))
+    ∙ first_rest d (sym c.in_default.is ∙ c.in_ok-broken.ensures d refl)
+    (c.in_default-round_broken.ensures d (sym c.requires))

@@ -19,7 +19,7 @@ bodies_broken-requires c =
     let d = document_of c.args.rows.now in
     let bodies = sym (c.as_slice-bodies.ensures ∙ ap (λ (e : Elaborated). e.bodies) c.requires.elaborated) in
     elaborated_tellable c.args.rows.now c.args.document.now c.as_slice-bodies.result.now c.requires.elaborated
-        c.as_slice-bodies.ensures c.requires.short c.requires.formed c.requires.nested
+    c.as_slice-bodies.ensures c.requires.short c.requires.formed c.requires.nested
     (sym c.in_default.is ∙ c.in_ok-broken.ensures d refl bodies)
 
 pub returns-in-Some-bodies_broken : goal.returns-in-Some-bodies_broken
@@ -28,7 +28,7 @@ returns-in-Some-bodies_broken c =
     let bodies = sym (c.as_slice-bodies.ensures ∙ ap (λ (e : Elaborated). e.bodies) c.requires.elaborated) in
     later_two d c.in-Some-bodies_broken.broken (sym c.in_default.is ∙ c.in_ok-broken.ensures d refl bodies)
     (c.in-Some-bodies_broken.ensures d refl (sym (ap (λ (e : Elaborated). e.names) c.requires.elaborated))
-        (sym (ap (λ (e : Elaborated). e.demands) c.requires.elaborated)) bodies)
+    (sym (ap (λ (e : Elaborated). e.demands) c.requires.elaborated)) bodies)
 
 pub returns-in-Some-2 : goal.returns-in-Some-2
 returns-in-Some-2 c =
@@ -36,13 +36,13 @@ returns-in-Some-2 c =
     let bodies = sym (c.as_slice-bodies.ensures ∙ ap (λ (e : Elaborated). e.bodies) c.requires.elaborated) in
     later_three d c.in-Some-2.broken (sym c.in_default.is ∙ c.in_ok-broken.ensures d refl bodies)
     (c.in_default-bodies_broken.ensures d refl (sym (ap (λ (e : Elaborated). e.names) c.requires.elaborated))
-        (sym (ap (λ (e : Elaborated). e.demands) c.requires.elaborated)) bodies)
+    (sym (ap (λ (e : Elaborated). e.demands) c.requires.elaborated)) bodies)
     (sym c.in-Some-2.is
     ∙ c.in_ok-broken-2.ensures d
-        (sym (c.limit_of-limit.ensures ∙ ap (λ (e : Elaborated). limit_of e.declared) c.requires.elaborated))
+    (sym (c.limit_of-limit.ensures ∙ ap (λ (e : Elaborated). limit_of e.declared) c.requires.elaborated))
     (sym (c.count_of-modes.ensures
-        ∙ ap (λ ns. count_of Kind.Mode (parts ns))
-        (c.as_slice.ensures ∙ ap (λ (e : Elaborated). e.declared.names) c.requires.elaborated)))
+    ∙ ap (λ ns. count_of Kind.Mode (parts ns))
+    (c.as_slice.ensures ∙ ap (λ (e : Elaborated). e.declared.names) c.requires.elaborated)))
     (sym (c.as_slice-2.ensures ∙ ap (λ (e : Elaborated). e.said.entries) c.requires.elaborated)))
 
 pub returns : goal.returns
@@ -50,14 +50,14 @@ returns c =
     let d = document_of c.args.rows.now in
     let bodies = sym (c.as_slice-bodies.ensures ∙ ap (λ (e : Elaborated). e.bodies) c.requires.elaborated) in
     c.in_ok-broken-3.ensures d (sym (ap (λ (e : Elaborated). e.declared.first) c.requires.elaborated))
-        (sym (ap (λ (e : Elaborated). e.said) c.requires.elaborated))
+    (sym (ap (λ (e : Elaborated). e.said) c.requires.elaborated))
     ∙ later_rest d (sym c.in_default.is ∙ c.in_ok-broken.ensures d refl bodies)
     (c.in_default-bodies_broken.ensures d refl (sym (ap (λ (e : Elaborated). e.names) c.requires.elaborated))
-        (sym (ap (λ (e : Elaborated). e.demands) c.requires.elaborated)) bodies)
+    (sym (ap (λ (e : Elaborated). e.demands) c.requires.elaborated)) bodies)
     (sym c.in_default-2.is
     ∙ c.in_ok-broken-2.ensures d
-        (sym (c.limit_of-limit.ensures ∙ ap (λ (e : Elaborated). limit_of e.declared) c.requires.elaborated))
+    (sym (c.limit_of-limit.ensures ∙ ap (λ (e : Elaborated). limit_of e.declared) c.requires.elaborated))
     (sym (c.count_of-modes.ensures
-        ∙ ap (λ ns. count_of Kind.Mode (parts ns))
-        (c.as_slice.ensures ∙ ap (λ (e : Elaborated). e.declared.names) c.requires.elaborated)))
+    ∙ ap (λ ns. count_of Kind.Mode (parts ns))
+    (c.as_slice.ensures ∙ ap (λ (e : Elaborated). e.declared.names) c.requires.elaborated)))
     (sym (c.as_slice-2.ensures ∙ ap (λ (e : Elaborated). e.said.entries) c.requires.elaborated)))

@@ -10,6 +10,6 @@ pub loop-at-preserved : goal.loop-at-preserved
 loop-at-preserved g c = λ place answers.
     let x = c.at-item.result in
     by_number-more c.args.count place c.args.located.now c.loop-at.at-index x c.loop-at.lists c.put.new.self
-        c.place_of.result c.loop-at-test.true c.at-item.is
+    c.place_of.result c.loop-at-test.true c.at-item.is
     (c.loop-at.invariant place answers)
-        (answers x.part c.place_of.result (says_at g.F.Fn c.place_of.ensures refl)) c.in_ok-put.ensures
+    (answers x.part c.place_of.result (says_at g.F.Fn c.place_of.ensures refl)) c.in_ok-put.ensures

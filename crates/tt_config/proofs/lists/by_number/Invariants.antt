@@ -8,4 +8,4 @@ use Rattle.tt_config.proofs.lists.by_number.Given as goal
 abbrev pub invariant-loop-at : goal.invariant-loop-at
 invariant-loop-at g l =
     (place : g.row.T.Denot → Option (ℕ × g.row.U.Denot)) → Answers g.F.Fn l.place_of place
-        → l.lists ≡ by_number l.count place (parts (take l.at-index l.located))
+    → l.lists ≡ by_number l.count place (parts (take l.at-index l.located))

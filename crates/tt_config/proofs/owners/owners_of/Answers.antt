@@ -12,8 +12,8 @@ put_owner-requires c =
     let given = c.into_iter-at-iterator.ensures.into_iter_gives in
     let items = c.into_vec-at-items.result.items in
     let t = YieldsList-turn (YieldsList-from_vec {s = c.into_iter-at-iterator.result} items given.0
-        (given.1 ∙ c.into_vec-at-items.result.ok.0)) c.loop-at.yielded c.loop-at.at-iterator c.loop-at.yielded_by
-        c.next.result c.next.new.self c.in-Some.at c.in-Some.is c.next.ensures.steps in
+    (given.1 ∙ c.into_vec-at-items.result.ok.0)) c.loop-at.yielded c.loop-at.at-iterator c.loop-at.yielded_by
+    c.next.result c.next.new.self c.in-Some.at c.in-Some.is c.next.ensures.steps in
     let fits = λ (x : At BodyPart). IsFit c.args.demands.now x.part in
     subst fits (sym t.1) (each_index fits items (length c.loop-at.yielded) c.in-Some.at t.0
-        (subst (AreFit c.args.demands.now) (sym c.into_vec-at-items.ensures) c.requires))
+    (subst (AreFit c.args.demands.now) (sym c.into_vec-at-items.ensures) c.requires))

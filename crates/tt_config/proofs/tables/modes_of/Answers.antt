@@ -8,4 +8,4 @@ use Rattle.tt_config.proofs.tables.modes_of.Goals as goal
 pub returns : goal.returns
 returns c =
     c.in_ok-tables.ensures ∙ ap (map mode_of_entries) (c.in_ok-lists.ensures entry_place (search rules))
-        ∙ tables c.args.modes (parts c.args.entries.now)
+    ∙ tables c.args.modes (parts c.args.entries.now)

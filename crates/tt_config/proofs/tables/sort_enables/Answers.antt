@@ -21,8 +21,8 @@ pub returns-in-Ok : goal.returns-in-Ok
 returns-in-Ok c =
     let rows = c.args.rows.now.items in
     stable_sort before (ranks_by {R = compare}
-        (then_total (on_total (λ (t : ℕ × ℕ). t.0) nat_cmp_total) (on_total (λ (t : ℕ × ℕ). t.1) nat_cmp_total))
-        place) rows _
+    (then_total (on_total (λ (t : ℕ × ℕ). t.0) nat_cmp_total) (on_total (λ (t : ℕ × ℕ). t.1) nat_cmp_total))
+    place) rows _
     (c.in-Ok.ensures.sorted place (answers_always _ _ _ (λ f a r g h. search rules)))
     (c.in-Ok.ensures.stable place (answers_always _ _ _ (λ f a r g h. search rules)))
     ∙ ascending_alike before is_enabled_earlier (λ a b. is_lt-ordering_then a.offset b.offset a.isr.0 b.isr.0) rows

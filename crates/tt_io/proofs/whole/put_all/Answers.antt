@@ -8,7 +8,7 @@ moves_front : (all done rest : List ℕ) (n : ℕ) → all ≡ done ++ rest
     → all ≡ (done ++ take n rest) ++ take (length rest - n) (drop n rest)
 moves_front all done rest n split =
     split ∙ ap (λ l. done ++ l) (sym (take-append-drop n rest)) ∙ sym (append_assoc done (take n rest) (drop n rest))
-        ∙ ap (λ l. (done ++ take n rest) ++ l) (sym (take_rest rest n))
+    ∙ ap (λ l. (done ++ take n rest) ++ l) (sym (take_rest rest n))
 
 some_is_left : (all done rest : List ℕ) → all ≡ done ++ rest → 0 < length rest → all ≡ [] → ⊥
 some_is_left all done rest split some none =

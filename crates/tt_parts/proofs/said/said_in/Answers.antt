@@ -7,7 +7,7 @@ loop-row-preserved c =
     let names = c.args.names.now in
     let before = c.loop-row.invariant in
     let more = λ (A : Type 0). put-more
-        {A = A} c.args.rows.now c.loop-row.row-index c.row-item.result c.loop-row-test.true c.row-item.is in (
+    {A = A} c.args.rows.now c.loop-row.row-index c.row-item.result c.loop-row-test.true c.row-item.is in (
       more _ var_in _ _ _ before.0 c.var_in.ensures c.in_ok-put.ensures,
       more _ demand_in _ _ _ before.1 c.demand_in.ensures c.in_ok-put-2.ensures,
       more _ (entry_in names) _ _ _ before.2 c.entry_in.ensures c.in_ok-put-3.ensures,

@@ -8,7 +8,7 @@ abbrev pub invariant-loop-row : goal.invariant-loop-row
 invariant-loop-row l =
     let above = take l.row-index l.rows in (
     (l.vars ≡ each_at var_in above) × (l.demands ≡ each_at demand_in above)
-        × (l.entries ≡ each_at (entry_in l.names) above)
+    × (l.entries ≡ each_at (entry_in l.names) above)
     × (l.starts ≡ each_at (start_in l.names) above) × (l.counts ≡ each_at rounds_in above)
     × (l.values ≡ each_at (value_in l.names) above)
     × (l.arrivals ≡ each_at (arrival_in l.names) above) × (l.times ≡ each_at time_in above)

@@ -10,6 +10,6 @@ pub returns-in-AtNonstringent-clause-text : goal.returns-in-AtNonstringent-claus
 returns-in-AtNonstringent-clause-text g c =
     let P : Row → Type 0 = λ row.
     Puts c.put_activation-in-AtNonstringent.result (g.O.Sink.written c.args.sink.now)
-        (g.O.Sink.written c.put_activation-in-AtNonstringent.new.sink)
+    (g.O.Sink.written c.put_activation-in-AtNonstringent.new.sink)
     c.args.buffer.now c.put_activation-in-AtNonstringent.new.buffer (flat_map spaced_item (drop 1 (items_of row))) in
     subst P (sym c.in-AtNonstringent.is) c.put_activation-in-AtNonstringent.ensures.text

@@ -13,6 +13,6 @@ loop-part-preserved g c = record {
 pub returns-in_err-put_part-clause-text : goal.returns-in_err-put_part-clause-text
 returns-in_err-put_part-clause-text g c =
     puts_err c.from_residual.result (g.O.Sink.written c.args.sink.now)
-        (g.O.Sink.written c.put_part.new.sink) c.args.buffer.now c.put_part.new.buffer _ c.from_residual.ensures.0
+    (g.O.Sink.written c.put_part.new.sink) c.args.buffer.now c.put_part.new.buffer _ c.from_residual.ensures.0
     (put_part c.loop-part.invariant.put c.loop-part-test.true
-        (g.O.Sink.written c.put_part.new.sink) c.part-item.result c.part-item.is c.in_err-put_part.ensures.text)
+    (g.O.Sink.written c.put_part.new.sink) c.part-item.result c.part-item.is c.in_err-put_part.ensures.text)

@@ -13,6 +13,6 @@ loop-row-preserved g c = record {
 pub returns-in_err-put_row-clause-text : goal.returns-in_err-put_row-clause-text
 returns-in_err-put_row-clause-text g c =
     puts_err c.from_residual.result (g.O.Sink.written c.args.sink.now)
-        (g.O.Sink.written c.put_row.new.sink) c.args.buffer.now c.put_row.new.buffer _ c.from_residual.ensures.0
+    (g.O.Sink.written c.put_row.new.sink) c.args.buffer.now c.put_row.new.buffer _ c.from_residual.ensures.0
     (put_part c.loop-row.invariant.put c.loop-row-test.true
-        (g.O.Sink.written c.put_row.new.sink) c.row-item.result c.row-item.is c.in_err-put_row.ensures.text)
+    (g.O.Sink.written c.put_row.new.sink) c.row-item.result c.row-item.is c.in_err-put_row.ensures.text)

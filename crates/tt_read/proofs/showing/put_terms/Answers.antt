@@ -13,6 +13,6 @@ loop-term-preserved g c = record {
 pub returns-in_err-put_term-clause-text : goal.returns-in_err-put_term-clause-text
 returns-in_err-put_term-clause-text g c =
     puts_err c.from_residual.result (g.O.Sink.written c.args.sink.now)
-        (g.O.Sink.written c.put_term.new.sink) c.args.buffer.now c.put_term.new.buffer _ c.from_residual.ensures.0
+    (g.O.Sink.written c.put_term.new.sink) c.args.buffer.now c.put_term.new.buffer _ c.from_residual.ensures.0
     (put_part c.loop-term.invariant.put c.loop-term-test.true
-        (g.O.Sink.written c.put_term.new.sink) c.term-item.result c.term-item.is c.in_err-put_term.ensures.text)
+    (g.O.Sink.written c.put_term.new.sink) c.term-item.result c.term-item.is c.in_err-put_term.ensures.text)

@@ -8,5 +8,5 @@ returns-clause-text g c =
     let waited = c.args.buffer.now in
     let word = c.args.word.now in
     puts_then c.in_ok-put.ensures.ok c.put-2.result (g.O.Sink.written c.put-2.new.sink) waited c.put-2.new.self word
-        (spaced word) (sym (append_assoc waited (32 ∷ []) word))
+    (spaced word) (sym (append_assoc waited (32 ∷ []) word))
     (puts_from c.put-2.result _ _ c.put.new.self c.put-2.new.self word c.put-2.ensures.ok c.put-2.ensures.part)

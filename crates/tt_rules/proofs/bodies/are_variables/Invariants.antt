@@ -8,4 +8,4 @@ use Rattle.tt_rules.proofs.bodies.are_variables.Given as goal
 abbrev pub invariant-loop-term : goal.invariant-loop-term
 invariant-loop-term l =
     list_all (is_declared l.names) (flat_map used_by_term (drop l.term-index l.terms))
-        ≡ list_all (is_declared l.names) (flat_map used_by_term l.terms)
+    ≡ list_all (is_declared l.names) (flat_map used_by_term l.terms)

@@ -9,4 +9,4 @@ pub is_light-requires : goal.is_light-requires
 is_light-requires c =
     subst (λ (x : At BodyPart). IsTellable c.args.demands.now x.part.body) (sym c.at-item.is)
     (each_index (λ (x : At BodyPart). IsTellable c.args.demands.now x.part.body) c.args.bodies.now c.loop-at.at-index
-        c.at-item.result c.loop-at-test.true c.requires)
+    c.at-item.result c.loop-at-test.true c.requires)

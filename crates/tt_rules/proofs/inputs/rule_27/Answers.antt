@@ -10,7 +10,7 @@ loop-at-init c = record { above = []; has = λ q. rw c.new-latest.ensures.empty 
 pub loop-at-preserved : goal.loop-at-preserved
 loop-at-preserved c =
     noted-more (get same_pair c.loop-at.latest) _ c.loop-at.least _ c.args.arrivals.now c.loop-at.at-index _ _
-        c.loop-at-test.true c.loop-at.invariant
+    c.loop-at-test.true c.loop-at.invariant
     c.in_ok-is_after.ensures.after c.in_ok-is_after.ensures.latest c.with_line_unless-least.ensures
 
 pub returns : goal.returns

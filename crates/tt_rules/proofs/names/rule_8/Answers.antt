@@ -13,10 +13,10 @@ loop-kind-init c =
       refl,
       ap (λ o. lesser_of o (least_line (flat_map (lines_past d) kinds)))
           (c.missing_of-found.ensures (is_of_kind Kind.Mode) (search rules)
-              ∙ ap (λ xs. least_line (breaking d.first Present (filter_at (is_of_kind Kind.Mode) xs)))
-              c.as_slice-names.ensures)
+          ∙ ap (λ xs. least_line (breaking d.first Present (filter_at (is_of_kind Kind.Mode) xs)))
+          c.as_slice-names.ensures)
           ∙ sym (least_line-append (breaking d.first Present (filter_at (is_of_kind Kind.Mode) d.names))
-              (flat_map (lines_past d) kinds)),
+          (flat_map (lines_past d) kinds)),
     )
 
 pub loop-kind-preserved : goal.loop-kind-preserved

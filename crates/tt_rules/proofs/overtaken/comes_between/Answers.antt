@@ -10,7 +10,7 @@ pub returns-then-deadline-offset : goal.returns-then-deadline-offset
 returns-then-deadline-offset c =
     let key : Key = (c.args.mode, c.args.task, c.args.offset) in
     sym (none_passes (comes_between_key key c.args.deadline) c.args.keys.now.keys
-        (λ other. comes_between-none key c.args.deadline other c.if-deadline-offset.true))
+    (λ other. comes_between-none key c.args.deadline other c.if-deadline-offset.true))
 
 pub range-between-requires : goal.range-between-requires
 range-between-requires c = key-upto c.args.mode c.args.task c.args.offset c.args.deadline c.if-deadline-offset.false
@@ -22,5 +22,5 @@ returns c =
     ∙ first-some (λ (key : Bor Key). key.now) c.next.result c.range-between.result c.next.new.self c.next.ensures.steps
     ∙ ap (λ keys. nat_lt 0 (length keys)) (c.range-between.ensures.between tt)
     ∙ sym (some-filter (range_contains key_cmp (Included (key.0, key.1, key.2 + 1))
-        (Excluded (key.0, key.1, c.args.deadline))) (comes_between_key key c.args.deadline) c.args.keys.now.keys
-        (range-between key c.args.deadline))
+    (Excluded (key.0, key.1, c.args.deadline))) (comes_between_key key c.args.deadline) c.args.keys.now.keys
+    (range-between key c.args.deadline))

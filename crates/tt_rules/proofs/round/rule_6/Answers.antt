@@ -13,7 +13,7 @@ returns c =
     let inside = c.failing.ensures d.first (λ most. nat_le (4 * most) round) (search rules) in
     c.least.ensures
     ∙ ap (λ l. least_of (l ∷ []))
-        (inside ∙ ap (λ xs. least_line (breaking d.first (Every (λ most. nat_le (4 * most) round)) xs))
-        c.as_slice.ensures)
+    (inside ∙ ap (λ xs. least_line (breaking d.first (Every (λ most. nat_le (4 * most) round)) xs))
+    c.as_slice.ensures)
     ∙ sym (least-each d.first (rule_6 round) d.adjusts)
     ∙ ap (λ r. least_line (breaking_one d.first (rule_6 r) d.adjusts)) c.round_of-round.ensures

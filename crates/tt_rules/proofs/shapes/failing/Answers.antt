@@ -13,7 +13,7 @@ loop-at-preserved g c = λ passes answers.
     let passed = answers x.part c.test.result (says_at g.F.Fn c.test.ensures refl) in
     least-step (passes x.part) x.line c.loop-at.least c.with_line_unless-least.result (failing passes (drop (k + 1) xs))
     (c.with_line_unless-least.ensures
-        ∙ ap (λ b. lesser_of c.loop-at.least (least_line (line_unless b x.line []))) passed)
+    ∙ ap (λ b. lesser_of c.loop-at.least (least_line (line_unless b x.line []))) passed)
     ∙ sym (ap (λ ls. lesser_of c.loop-at.least (least_line ls))
-        (at_element (failing passes) xs k x c.loop-at-test.true c.at-item.is))
+    (at_element (failing passes) xs k x c.loop-at-test.true c.at-item.is))
     ∙ c.loop-at.invariant passes answers

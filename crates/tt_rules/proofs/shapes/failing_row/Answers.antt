@@ -17,7 +17,7 @@ loop-row-preserved g c = λ passes answers.
     let passed = answers x.row c.test.result (says_at g.F.Fn c.test.ensures refl) in
     least-step (passes x.row) x.line c.loop-row.least c.with_line_unless-least.result (rest (drop (k + 1) rows))
     (c.with_line_unless-least.ensures
-        ∙ ap (λ b. lesser_of c.loop-row.least (least_line (line_unless b x.line []))) passed)
+    ∙ ap (λ b. lesser_of c.loop-row.least (least_line (line_unless b x.line []))) passed)
     ∙ sym (ap (λ ls. lesser_of c.loop-row.least (least_line ls))
-        (at_drop_more rest rows k x c.loop-row-test.true ∙ ap (λ r. rest (r ∷ drop (k + 1) rows)) (sym c.row-item.is)))
+    (at_drop_more rest rows k x c.loop-row-test.true ∙ ap (λ r. rest (r ∷ drop (k + 1) rows)) (sym c.row-item.is)))
     ∙ c.loop-row.invariant passes answers

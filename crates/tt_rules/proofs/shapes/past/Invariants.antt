@@ -6,4 +6,4 @@ use Rattle.tt_rules.proofs.shapes.past.Given as goal
 abbrev pub invariant-loop-at : goal.invariant-loop-at
 invariant-loop-at g l =
     lesser_of l.least (least_line (drop l.left (lines (drop l.at-index l.parts))))
-        ≡ least_line (drop l.most (lines l.parts))
+    ≡ least_line (drop l.most (lines l.parts))

@@ -53,16 +53,16 @@ loop-at-preserved g c = λ key answers.
     let is_of : c.key_of.result ≡ key x.part = answers x.part c.key_of.result (says_at g.F.Fn c.key_of.ensures refl) in
     let new : c.in_ok-is_new.is_new ≡ is_new same above x.part =
     c.in_ok-is_new.ensures.new ∙ ap (λ o. not (passes_key (contains eq c.loop-at.seen) o)) is_of
-        ∙ ap not (known eq key (contains eq c.loop-at.seen) above before.1 (key x.part)) in (
+    ∙ ap not (known eq key (contains eq c.loop-at.seen) above before.1 (key x.part)) in (
       x.part ∷ above,
       (λ q. c.in_ok-is_new.ensures.seen q ∙ ap (λ o. is_key eq q o || contains eq c.loop-at.seen q) is_of
           ∙ ap (λ b. is_key eq q (key x.part) || b) (before.1 q)),
       least-step (is_new same above x.part) x.line c.loop-at.least c.with_line_unless-least.result
           (repeating same (x.part ∷ above) (drop (k + 1) xs))
           (c.with_line_unless-least.ensures
-              ∙ ap (λ b. lesser_of c.loop-at.least (least_line (line_unless b x.line []))) new)
+          ∙ ap (λ b. lesser_of c.loop-at.least (least_line (line_unless b x.line []))) new)
           ∙ sym (ap (λ ls. lesser_of c.loop-at.least (least_line ls))
-              (at_element (repeating same above) xs k x c.loop-at-test.true c.at-item.is))
+          (at_element (repeating same above) xs k x c.loop-at-test.true c.at-item.is))
           ∙ before.2,
     )
 
@@ -71,6 +71,6 @@ returns g c = λ first key answers.
     let before = c.loop-at.invariant key answers in
     sym (lesser_of-none c.loop-at.least)
     ∙ sym (ap (λ ls. lesser_of c.loop-at.least (least_line ls))
-        (at_drop_all (repeating (same_by g.K.PartialEq.eq key) before.0) c.args.parts.now c.loop-at.at-index
-        c.loop-at-test.false))
+    (at_drop_all (repeating (same_by g.K.PartialEq.eq key) before.0) c.args.parts.now c.loop-at.at-index
+    c.loop-at-test.false))
     ∙ before.2

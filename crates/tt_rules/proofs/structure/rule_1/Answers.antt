@@ -12,10 +12,10 @@ headed : (rows rest : List NumberedRow) (first : NumberedRow) → rows ≡ first
     → lines_1 rows ≡ breaking 1 (Every (λ other. not (is_header other))) (rows_at rest)
 headed rows rest first is header =
     ap lines_1 is ∙ ap (λ (b : Bool). if b then breaking 1 (Every (λ other. not (is_header other))) (rows_at rest)
-        else first.line ∷ []) header
+    else first.line ∷ []) header
 
 pub returns-then-is_header : goal.returns-then-is_header
 returns-then-is_header c =
     c.failing_row.ensures 1 (λ row. not (is_header row)) (search rules)
     ∙ sym (ap least_line (headed c.args.rows.now c.in-Some.rest.now c.in-Some.first.now c.in-Some.ensures.cases.0
-        (sym c.is_header.ensures ∙ c.if-is_header.true)))
+    (sym c.is_header.ensures ∙ c.if-is_header.true)))

@@ -13,5 +13,5 @@ returns c =
     let before = c.loop-row.invariant in
     sym (lesser_of-none c.loop-row.least)
     ∙ sym (ap (λ ls. lesser_of c.loop-row.least (least_line ls))
-        (at_drop_all (lines_3_from before.0) c.args.rows.now c.loop-row.row-index c.loop-row-test.false))
+    (at_drop_all (lines_3_from before.0) c.args.rows.now c.loop-row.row-index c.loop-row-test.false))
     ∙ before.3

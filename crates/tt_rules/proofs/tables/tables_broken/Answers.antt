@@ -9,17 +9,17 @@ pub returns : goal.returns
 returns c = λ d limit modes entries.
     let xs = d.said.entries in
     let early = sym (ap (λ n. least_line (lines_18 n xs)) limit
-        ∙ ap (λ ys. least_line (lines_18 c.args.limit ys)) entries) in
+    ∙ ap (λ ys. least_line (lines_18 c.args.limit ys)) entries) in
     let later = sym (ap (λ n. least_line (lines_19 n xs)) limit
-        ∙ ap (λ ys. least_line (lines_19 c.args.limit ys)) entries) in
+    ∙ ap (λ ys. least_line (lines_19 c.args.limit ys)) entries) in
     let ended = sym (ap (λ n. least_line (lines_20 n xs)) limit
-        ∙ ap (λ ys. least_line (lines_20 c.args.limit ys)) entries) in
+    ∙ ap (λ ys. least_line (lines_20 c.args.limit ys)) entries) in
     let few = sym (ap (λ n. least_line (lines_24 n xs)) modes
-        ∙ ap (λ ys. least_line (lines_24 c.args.modes ys)) entries) in
+    ∙ ap (λ ys. least_line (lines_24 c.args.modes ys)) entries) in
     c.first_some.ensures
     ∙ first-least 18
     (c.rule_18.result ∷ c.rule_19.result ∷ c.rule_20.result ∷ c.in_ok-places.places ∷ c.in_ok-sources.sources
-        ∷ c.in_ok-apart.apart ∷ c.rule_24.result ∷ [])
+    ∷ c.in_ok-apart.apart ∷ c.rule_24.result ∷ [])
     table_rules d (
       c.rule_18.ensures ∙ early,
       (

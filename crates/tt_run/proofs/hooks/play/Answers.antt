@@ -22,7 +22,7 @@ loop-stmt-preserved g c =
     record {
       vars = invariant.vars
           ∙ vars_left (telling g.R.Recorder) c.args.at c.args.hook c.args.body.now i stmt within is c.loop-stmt.env
-              c.play_statement.new.env env;
+          c.play_statement.new.env env;
       others = others_stay c.args.env.now c.loop-stmt.env c.play_statement.new.env _ invariant.others env;
       told = outs_left (telling g.R.Recorder) c.args.at c.args.hook c.args.body.now i stmt within is c.loop-stmt.env
           c.play_statement.new.env env

@@ -17,7 +17,7 @@ loop-number-preserved c =
             isrs = subst (λ (b : BusySources). MarkedTo (c.loop-number.number + 1) c.args.stack.now.isrs b.isrs)
                 (sym next)
                 (one_marked _ _ _ (let few = c.requires.few in omega arith)
-                    (done ∙ w.if-not-is_isr_done.true) c.loop-number.invariant.isrs);
+                (done ∙ w.if-not-is_isr_done.true) c.loop-number.invariant.isrs);
             oisrs = ap (λ (b : BusySources). b.oisrs) next ∙ c.loop-number.invariant.oisrs;
           }
       | else-not-is_isr_done w ↦

@@ -17,7 +17,7 @@ loop-number-preserved c =
           record {
             oisrs = λ codes settled.
                 subst (λ (b : BusySources). MarkedTo (c.loop-number.number + 1)
-                    (lefts (subsystem_of codes c.args.osek.now).routines) b.oisrs) (sym next)
+                (lefts (subsystem_of codes c.args.osek.now).routines) b.oisrs) (sym next)
                 (one_marked _ _ _ (let few = c.requires.few in omega arith)
                 (left_where _ _ settled.routines (sym (c.unfinished.ensures codes) ∙ w.if-unfinished.true))
                 (c.loop-number.invariant.oisrs codes settled));
@@ -27,9 +27,9 @@ loop-number-preserved c =
           record {
             oisrs = λ codes settled.
                 subst (λ (b : BusySources). MarkedTo (c.loop-number.number + 1)
-                    (lefts (subsystem_of codes c.args.osek.now).routines) b.oisrs) (sym w.busy-is)
+                (lefts (subsystem_of codes c.args.osek.now).routines) b.oisrs) (sym w.busy-is)
                 (not_marked _ _ _ (none_where _ _ settled.routines
-                    (sym (c.unfinished.ensures codes) ∙ w.if-unfinished.false))
+                (sym (c.unfinished.ensures codes) ∙ w.if-unfinished.false))
                 (c.loop-number.invariant.oisrs codes settled));
             isrs = ap (λ (b : BusySources). b.isrs) w.busy-is ∙ c.loop-number.invariant.isrs;
           }

@@ -9,10 +9,10 @@ use Rattle.tt_run.proofs.monitoring.check.Goals as goal
 pub returns-then-not-met : goal.returns-then-not-met
 returns-then-not-met g c =
     missed_last (telling g.R.Recorder) _ _ _
-        (checks_of c.args.table.now) c.loop-place.place c.args.to c.check_at-entry.result
+    (checks_of c.args.table.now) c.loop-place.place c.args.to c.check_at-entry.result
     c.loop-place-test.true c.check_at-entry.ensures.at c.activation.result c.activation.ensures c.is_job_done-met.result
     c.is_job_done-met.ensures c.args.log.now c.loop-place.log c.tell.new.self _ c.loop-place.invariant.told
-        c.tell.ensures
+    c.tell.ensures
     c.if-not-met.true c.loop-place.invariant.missed
 
 pub loop-place-preserved : goal.loop-place-preserved
@@ -23,16 +23,16 @@ loop-place-preserved g c =
       told = met_events (telling g.R.Recorder) _ _ _
           (checks_of c.args.table.now) c.loop-place.place c.args.to c.check_at-entry.result
           c.loop-place-test.true c.check_at-entry.ensures.at c.activation.result c.activation.ensures
-              c.is_job_done-met.result
+          c.is_job_done-met.result
           c.is_job_done-met.ensures c.args.log.now c.loop-place.log c.tell.new.self all c.loop-place.invariant.told
-              c.tell.ensures
+          c.tell.ensures
           c.if-not-met.false;
       missed = c.loop-place.invariant.missed
           ∙ met_missed (telling g.R.Recorder) _ _ _
-              (checks_of c.args.table.now) c.loop-place.place c.args.to c.check_at-entry.result
+          (checks_of c.args.table.now) c.loop-place.place c.args.to c.check_at-entry.result
           c.loop-place-test.true c.check_at-entry.ensures.at c.activation.result c.activation.ensures
-              c.is_job_done-met.result
+          c.is_job_done-met.result
           c.is_job_done-met.ensures c.args.log.now c.loop-place.log c.tell.new.self all c.loop-place.invariant.told
-              c.tell.ensures
+          c.tell.ensures
           c.if-not-met.false;
     }

@@ -11,5 +11,7 @@ abbrev pub invariant-loop-place : goal.invariant-loop-place
 invariant-loop-place g l =
     let all = checked_entries l.at l.table.mode l.stack.jobs (slice_range (checks_of l.table) l.from l.to) in
     let left = checked_entries l.at l.table.mode l.stack.jobs (slice_range (checks_of l.table) l.place l.to) in
-    record { told : SoFar (Tells g.R.Recorder) l.fn.log all.events l.log left.events;
-        missed : all.missed ≡ left.missed }
+    record {
+      told : SoFar (Tells g.R.Recorder) l.fn.log all.events l.log left.events;
+      missed : all.missed ≡ left.missed;
+    }

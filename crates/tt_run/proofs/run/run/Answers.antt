@@ -27,7 +27,7 @@ instants-init g c = record {
 pub pass-requires-clause-can : goal.pass-requires-clause-can
 pass-requires-clause-can g c =
     can_pass (telling g.R.Recorder) c.args.config.now c.args.script.now c.instants.state c.args.log.now c.instants.log
-        c.requires.config
+    c.requires.config
     c.requires.script c.instants.invariant.at c.instants.invariant.fixed c.instants.invariant.sources
 
 pub returns-in-Some : goal.returns-in-Some
@@ -37,25 +37,25 @@ returns-in-Some g c =
       told = all_told (telling g.R.Recorder) c.args.config.now c.args.script.now c.args.log.now c.instants.state.world
           c.pass.new.self.world
           c.instants.log c.pass.new.log _ c.instants.invariant.at c.pass.ensures.gives c.in-Some.end c.in-Some.is
-              bounded;
+          bounded;
       status = ap (status_by c.in-Some.end) c.tick-tick.ensures
           ∙ status_is (telling g.R.Recorder) c.args.config.now c.args.script.now c.args.log.now c.instants.state.world
-              c.pass.new.self.world
+          c.pass.new.self.world
           c.instants.log c.pass.new.log _ c.instants.invariant.at c.pass.ensures.gives c.in-Some.end c.in-Some.is
-              bounded;
+          bounded;
       tick = c.tick-tick.ensures
           ∙ stamp_is (telling g.R.Recorder) c.args.config.now c.args.script.now c.args.log.now c.instants.state.world
-              c.pass.new.self.world
+          c.pass.new.self.world
           c.instants.log c.pass.new.log _ c.instants.invariant.at c.pass.ensures.gives c.in-Some.end c.in-Some.is
-              bounded;
+          bounded;
     }
 
 pub instants-preserved : goal.instants-preserved
 instants-preserved g c =
     let next = tick_next (telling g.R.Recorder) c.args.config.now c.args.script.now c.args.log.now
-        c.instants.state.world
+    c.instants.state.world
     c.pass.new.self.world c.instants.log c.pass.new.log _ c.instants.invariant.at c.pass.ensures.gives
-        c.in_default.is in
+    c.in_default.is in
     record {
       at = at_next (telling g.R.Recorder) c.args.config.now c.args.script.now c.args.log.now c.instants.state.world
           c.pass.new.self.world
@@ -70,10 +70,10 @@ pub instants-smaller : goal.instants-smaller
 instants-smaller g c =
     nearer (most_ticks c.args.config.now c.args.script.now) c.instants.state.world.tick c.pass.new.self.world.tick
     (few_ticks c.args.config.now c.args.script.now
-        (are_bounded _ _ c.requires.config c.requires.script) c.instants.state.world.tick
+    (are_bounded _ _ c.requires.config c.requires.script) c.instants.state.world.tick
     c.instants.invariant.at.going)
     (tick_next (telling g.R.Recorder) c.args.config.now c.args.script.now c.args.log.now c.instants.state.world
-        c.pass.new.self.world
+    c.pass.new.self.world
     c.instants.log c.pass.new.log _ c.instants.invariant.at c.pass.ensures.gives c.in_default.is)
 
 pub returns-then-failed : goal.returns-then-failed
@@ -84,7 +84,7 @@ returns-then-failed g c =
       rest = schedule_rest c.args.config.now c.args.script.now (c.instants.state.world.tick + 1);
       split = schedule_split c.args.config.now c.args.script.now bounded (c.instants.state.world.tick + 1)
           (going_next (telling g.R.Recorder) c.args.config.now c.args.script.now c.args.log.now c.instants.state.world
-              c.pass.new.self.world
+          c.pass.new.self.world
           c.instants.log c.pass.new.log _ c.instants.invariant.at c.pass.ensures.gives c.in_default.is);
       told = told_next (telling g.R.Recorder) c.args.config.now c.args.script.now c.args.log.now
           c.instants.state.world c.pass.new.self.world

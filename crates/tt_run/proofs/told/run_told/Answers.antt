@@ -16,5 +16,5 @@ returns g c =
     c.new-log.ensures c.run-last.ensures in
     subst (λ s. Ran r b c.args.recorder s c.answer-answer.result) (sym c.into_recorder.ensures)
     (told_run r b c.args.recorder c.run-last.new.log c.run-last.result ran c.answer-answer.result
-        c.answer-answer.ensures.value
+    c.answer-answer.ensures.value
     c.answer-answer.ensures.ready)

@@ -8,4 +8,4 @@ pub returns-in-Osek-clause-state : goal.returns-in-Osek-clause-state
 returns-in-Osek-clause-state c =
     let codes = c.args.codes.now in
     c.terminate.ensures.state codes
-        ∙ ap (λ who. suspended (caller_of who) (subsystem_of codes c.args.osek.now)) (sym c.in-Osek.is)
+    ∙ ap (λ who. suspended (caller_of who) (subsystem_of codes c.args.osek.now)) (sym c.in-Osek.is)

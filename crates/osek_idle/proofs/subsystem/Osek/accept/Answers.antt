@@ -13,8 +13,13 @@ returns-clause-state c =
     let osek = c.args.self.now in
     let old = states codes (frames osek.routines.items) in
     let number : c.number_after-program.result ≡ osek.first + (length (priorities osek.tasks.items) + c.args.oisr.0) =
-    omega (arith, length-map osek.tasks.items (λ (slot : Slot). slot.priority), c.number_after-program.ensures,
-        c.number_after-first.ensures, c.len.ensures.value) in
+    omega (
+      arith,
+      length-map osek.tasks.items (λ (slot : Slot). slot.priority),
+      c.number_after-program.ensures,
+      c.number_after-first.ensures,
+      c.len.ensures.value,
+    ) in
     with_routines _ _ _ (states_are codes (frames c.set_frame.new.slots.items)
-        (frames osek.routines.items) c.args.oisr.0 (Some c.start.result) c.set_frame.ensures.frames
+    (frames osek.routines.items) c.args.oisr.0 (Some c.start.result) c.set_frame.ensures.frames
     ∙ ap (λ l. slice_set old c.args.oisr.0 (Some l)) (c.start.ensures.whole.left ∙ ap (body_of codes) number))

@@ -13,7 +13,7 @@ returns-then-is_ready-clause-state c =
     let s = subsystem_of c.args.codes.now c.args.self.now in
     let body = task_body c.args.codes.now (setup_of c.args.self.now) c.args.task.0 in
     chosen_first s (readied body c.args.task.0 s) _ c.is_ready.result
-        (c.is_ready.ensures c.args.codes.now) c.if-is_ready.true
+    (c.is_ready.ensures c.args.codes.now) c.if-is_ready.true
 
 pub returns-clause-result : goal.returns-clause-result
 returns-clause-result c = ok _ c.is_ready.result (c.is_ready.ensures c.args.codes.now) c.if-is_ready.false
@@ -23,4 +23,4 @@ returns-clause-state c =
     let s = subsystem_of c.args.codes.now c.args.self.now in
     let body = task_body c.args.codes.now (setup_of c.args.self.now) c.args.task.0 in
     c.make_ready.ensures.state ∙ chosen_second s (readied body c.args.task.0 s) _ c.is_ready.result
-        (c.is_ready.ensures c.args.codes.now) c.if-is_ready.false
+    (c.is_ready.ensures c.args.codes.now) c.if-is_ready.false

@@ -8,7 +8,7 @@ pub returns-then-is_ready-clause-result : goal.returns-then-is_ready-clause-resu
 returns-then-is_ready-clause-result c =
     let ready = is_ready (subsystem_of c.args.codes.now c.args.self.now).tasks c.args.task.0 in
     limit ready c.is_ready.result (c.is_ready.ensures c.args.codes.now) c.if-is_ready.true
-        ∙ other_task 0 (result_of ready) c.args.caller.0 c.args.task.0 c.if-caller-task.false
+    ∙ other_task 0 (result_of ready) c.args.caller.0 c.args.task.0 c.if-caller-task.false
 
 pub returns-then-is_ready-clause-state : goal.returns-then-is_ready-clause-state
 returns-then-is_ready-clause-state c =
@@ -16,15 +16,15 @@ returns-then-is_ready-clause-state c =
     let body = task_body c.args.codes.now (setup_of c.args.self.now) c.args.task.0 in
     let ready = is_ready s.tasks c.args.task.0 in
     chosen_first s (suspended c.args.caller.0 (readied body c.args.task.0 s)) ready c.is_ready.result
-        (c.is_ready.ensures c.args.codes.now) c.if-is_ready.true
+    (c.is_ready.ensures c.args.codes.now) c.if-is_ready.true
     ∙ other_task (readied body c.args.task.0 s)
-        (chained_to body c.args.caller.0 c.args.task.0 s) c.args.caller.0 c.args.task.0 c.if-caller-task.false
+    (chained_to body c.args.caller.0 c.args.task.0 s) c.args.caller.0 c.args.task.0 c.if-caller-task.false
 
 pub returns-clause-result : goal.returns-clause-result
 returns-clause-result c =
     let ready = is_ready (subsystem_of c.args.codes.now c.args.self.now).tasks c.args.task.0 in
     ok ready c.is_ready.result (c.is_ready.ensures c.args.codes.now) c.if-is_ready.false
-        ∙ other_task 0 (result_of ready) c.args.caller.0 c.args.task.0 c.if-caller-task.false
+    ∙ other_task 0 (result_of ready) c.args.caller.0 c.args.task.0 c.if-caller-task.false
 
 pub returns-clause-state : goal.returns-clause-state
 returns-clause-state c =
@@ -33,6 +33,6 @@ returns-clause-state c =
     let ready = is_ready s.tasks c.args.task.0 in
     c.suspend.ensures.state c.args.codes.now ∙ ap (suspended c.args.caller.0) c.make_ready-2.ensures.state
     ∙ chosen_second s (suspended c.args.caller.0 (readied body c.args.task.0 s)) ready c.is_ready.result
-        (c.is_ready.ensures c.args.codes.now) c.if-is_ready.false
+    (c.is_ready.ensures c.args.codes.now) c.if-is_ready.false
     ∙ other_task (readied body c.args.task.0 s)
-        (chained_to body c.args.caller.0 c.args.task.0 s) c.args.caller.0 c.args.task.0 c.if-caller-task.false
+    (chained_to body c.args.caller.0 c.args.task.0 s) c.args.caller.0 c.args.task.0 c.if-caller-task.false

@@ -10,6 +10,6 @@ returns-clause-state c =
     let codes = c.args.codes.now in
     let old = states codes (frames c.args.self.now.tasks.items) in
     with_tasks _ _ _ (states_are codes (frames c.set_frame.new.slots.items)
-        (frames c.args.self.now.tasks.items) c.args.task.0 (Some c.start.result) c.set_frame.ensures.frames
+    (frames c.args.self.now.tasks.items) c.args.task.0 (Some c.start.result) c.set_frame.ensures.frames
     ∙ ap (λ l. slice_set old c.args.task.0 (Some l))
-        (c.start.ensures.whole.left ∙ ap (body_of codes) c.number_after-program.ensures))
+    (c.start.ensures.whole.left ∙ ap (body_of codes) c.number_after-program.ensures))

@@ -10,14 +10,14 @@ returns-in-Some c = λ codes.
     let tasks = c.args.self.now.tasks.items in
     sym (picked_is codes c.args.self.now
     ∙ ap (λ r. routine_first r (highest (priorities tasks) (ready_numbers (frames tasks))))
-        (sym c.top_routine.ensures ∙ c.in-Some.is))
+    (sym c.top_routine.ensures ∙ c.in-Some.is))
 
 pub returns-in-Some-top_task : goal.returns-in-Some-top_task
 returns-in-Some-top_task c = λ codes.
     let tasks = c.args.self.now.tasks.items in
     sym (picked_is codes c.args.self.now
     ∙ ap (λ r. routine_first r (highest (priorities tasks) (ready_numbers (frames tasks))))
-        (sym c.top_routine.ensures ∙ c.in-None.is)
+    (sym c.top_routine.ensures ∙ c.in-None.is)
     ∙ ap (λ t. routine_first None t) (sym c.top_task.ensures ∙ c.in-Some-top_task.is))
 
 pub returns-in-None-top_task : goal.returns-in-None-top_task
@@ -25,5 +25,5 @@ returns-in-None-top_task c = λ codes.
     let tasks = c.args.self.now.tasks.items in
     sym (picked_is codes c.args.self.now
     ∙ ap (λ r. routine_first r (highest (priorities tasks) (ready_numbers (frames tasks))))
-        (sym c.top_routine.ensures ∙ c.in-None.is)
+    (sym c.top_routine.ensures ∙ c.in-None.is)
     ∙ ap (λ t. routine_first None t) (sym c.top_task.ensures ∙ c.in-None-top_task.is))

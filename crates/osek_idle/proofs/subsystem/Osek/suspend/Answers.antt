@@ -6,4 +6,4 @@ use Rattle.osek_idle.proofs.subsystem.Osek.suspend.Goals as goal
 pub returns-clause-state : goal.returns-clause-state
 returns-clause-state c = λ codes.
     with_tasks _ _ _ (states_are codes (frames c.set_frame.new.slots.items)
-        (frames c.args.self.now.tasks.items) c.args.task.0 None c.set_frame.ensures.frames)
+    (frames c.args.self.now.tasks.items) c.args.task.0 None c.set_frame.ensures.frames)

@@ -15,5 +15,5 @@ returns c =
     c.offset_at.ensures ∙ option_map_id _ ∙ ap (λ xs. slice_get xs place) c.deref.ensures.value
     ∙ least_at c.args.from (offsets_in c.args.self.now) offsets place
     (subst (λ (m : ModeDef). IsPermutation (offsets_in m) offsets) c.self.view_is c.self.invariant.all)
-        c.self.invariant.ascending
+    c.self.invariant.ascending
     (subst (λ (xs : List ℕ). IsCut (λ x. nat_lt x c.args.from) xs place) c.deref-2.ensures.value c.before-2.ensures)

@@ -13,7 +13,7 @@ pub loop-offset-smaller : goal.loop-offset-smaller
 loop-offset-smaller c =
     let now = c.loop-offset.invariant in
     fewer c.args.self.now c.next_offset.ensures.order now.0 c.loop-offset.places now.1 c.in-Some.offset
-        (sym c.in-Some.ensures.next)
+    (sym c.in-Some.ensures.next)
     c.places_after-after.result c.places_after-after.ensures
 
 pub loop-offset-preserved : goal.loop-offset-preserved
@@ -21,15 +21,15 @@ loop-offset-preserved c =
     let now = c.loop-offset.invariant in
     let place = c.in-Some.offset in
     let pushed : c.push.new.self.items
-        ≡ c.loop-offset.points.items ++ record { offset = place; due = c.due_between-due.result } ∷ [] =
-        search rules in (
+    ≡ c.loop-offset.points.items ++ record { offset = place; due = c.due_between-due.result } ∷ [] =
+    search rules in (
       suc place,
       c.places_after-after.ensures,
       pushed
           ∙ ap (λ (due : Due). c.loop-offset.points.items ++ record { offset = place; due = due } ∷ [])
-              c.due_between-due.ensures
+          c.due_between-due.ensures
           ∙ one_more c.args.self.now c.next_offset.ensures.order now.0 c.loop-offset.places now.1 place
-              (sym c.in-Some.ensures.next)
+          (sym c.in-Some.ensures.next)
           c.places_after-after.result c.places_after-after.ensures 0 c.loop-offset.points.items now.2,
     )
 
@@ -37,5 +37,5 @@ pub returns : goal.returns
 returns c limit within =
     let now = c.loop-offset.invariant in
     now.2 ∙ complete c.args.self.now c.next_offset.ensures.order now.0 c.loop-offset.places now.1 limit
-        (past_free limit c.args.self.now.mode within)
+    (past_free limit c.args.self.now.mode within)
     (sym c.in_default.is ∙ c.next_offset.ensures.next)

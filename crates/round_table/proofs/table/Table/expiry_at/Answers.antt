@@ -13,10 +13,10 @@ returns-clause-due c =
     let table = c.args.self.now in
     let own = kept c.self.view_is c.self.invariant in
     let there = c.item.ensures ∙ ap (λ (points : List ExpiryPoint). slice_get points c.args.place)
-        (c.deref.ensures.value ∙ own.expiry_are) in
+    (c.deref.ensures.value ∙ own.expiry_are) in
     IfSome_then c.item.result
     (if_found (λ (point : ExpiryPoint). point.due ≡ due_at point.offset table)
-        (expiry_points table) c.args.place c.item.result there (points_due table))
+    (expiry_points table) c.args.place c.item.result there (points_due table))
     (λ point is. is_due table own.rows point.offset point.due is)
 
 pub returns-clause-next : goal.returns-clause-next
@@ -25,4 +25,4 @@ returns-clause-next c offset cursor =
     let own = kept c.self.view_is c.self.invariant in
     cursor_next table (past table own.rows) c.args.place offset cursor c.item.result
     (c.item.ensures ∙ ap (λ (points : List ExpiryPoint). slice_get points c.args.place)
-        (c.deref.ensures.value ∙ own.expiry_are))
+    (c.deref.ensures.value ∙ own.expiry_are))

@@ -9,7 +9,7 @@ returns-in-Some-2 c =
     is_due table rows c.args.offset c.nothing_before.result
     (c.nothing_before.ensures
     ∙ none_before table rows c.place_before.result c.args.offset c.in-Some.point
-        (c.in-Some.ensures.next c.args.offset c.place_before.ensures) c.if-point-offset.false)
+    (c.in-Some.ensures.next c.args.offset c.place_before.ensures) c.if-point-offset.false)
 
 pub returns-in-None : goal.returns-in-None
 returns-in-None c =

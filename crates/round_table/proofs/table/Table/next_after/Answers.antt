@@ -8,7 +8,7 @@ pub returns-clause-ahead : goal.returns-clause-ahead
 returns-clause-ahead c =
     let least : c.offset_at.result ≡ next_after c.args.offset c.args.self.now = search rules in
     subst (λ (found : Option ℕ). IfSome found (λ next. (c.args.offset < next) × (next ≤ c.args.self.now.limit)))
-        (sym least)
+    (sym least)
     (next_ahead c.args.self.now (kept c.self.view_is c.self.invariant).rows c.args.offset)
 
 pub returns-clause-free : goal.returns-clause-free

@@ -19,14 +19,14 @@ invariant_of-result c =
     let due = c.as_slice-due.result.now in
     let are = subst (AreChecks mode) (sym c.as_slice-due.ensures.value) c.in_ok-checks.ensures.due in
     kept (copied mode _ _ c.args.limit (c.in_ok-copied.ensures ∙ c.as_slice.ensures)
-        (c.in_ok-copied-2.ensures ∙ c.as_slice-2.ensures))
+    (c.in_ok-copied-2.ensures ∙ c.as_slice-2.ensures))
     (record {
       rows = c.requires;
       points_are = c.in_ok-checks.ensures.points;
       checks_are =
           checks_are table c.requires due are _ _
           (c.in_ok-entries_then.ensures ∙ ap (λ (ends : List ℕ). entries_in due ++ ends) c.deref.ensures.value)
-              c.in_ok-checks.ensures.ends;
+          c.in_ok-checks.ensures.ends;
       end_is = end_is table c.requires due are;
       expiry_are = c.in_ok-expiry.ensures c.args.limit c.requires;
     })

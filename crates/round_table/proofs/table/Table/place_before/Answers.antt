@@ -11,12 +11,12 @@ pub before-requires : goal.before-requires
 before-requires c =
     let table = kept c.self.view_is c.self.invariant in
     subst (IsNonDecreasingBy (λ (point : ExpiryPoint). point.offset)) (sym (c.deref.ensures.value ∙ table.expiry_are))
-        (points_rise c.args.self.now)
+    (points_rise c.args.self.now)
 
 pub returns : goal.returns
 returns c =
     let table = kept c.self.view_is c.self.invariant in
     cursor_at c.args.self.now (past c.args.self.now table.rows) c.before-2.result c.args.offset
     (subst (λ (points : List ExpiryPoint). IsCut
-        (λ (point : ExpiryPoint). nat_lt point.offset c.args.offset) points c.before-2.result)
+    (λ (point : ExpiryPoint). nat_lt point.offset c.args.offset) points c.before-2.result)
     (c.deref.ensures.value ∙ table.expiry_are) c.before-2.ensures)

@@ -5,5 +5,5 @@ use Rattle.task_machine.proofs.frame.Frame.start.Goals as goal
 pub returns-clause-whole : goal.returns-clause-whole
 returns-clause-whole c =
     started c.args.codes.now c.instrs.result.now
-        (0 ∷ 0 ∷ 0 ∷ 0 ∷ []) c.settle.new.frame c.args.program c.instrs.ensures.layout c.requires
+    (0 ∷ 0 ∷ 0 ∷ 0 ∷ []) c.settle.new.frame c.args.program c.instrs.ensures.layout c.requires
     c.settle.ensures.program c.settle.ensures.at

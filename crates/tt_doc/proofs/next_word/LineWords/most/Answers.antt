@@ -4,5 +4,9 @@ use Rattle.tt_doc.proofs.next_word.LineWords.most.Goals as goal
 
 pub returns : goal.returns
 returns c =
-    omega (arith, words_by_spaces c.self.inside.rest.now, ap (length {A = List ℕ}) c.self.view_is,
-        c.count_spaces.ensures)
+    omega (
+      arith,
+      words_by_spaces c.self.inside.rest.now,
+      ap (length {A = List ℕ}) c.self.view_is,
+      c.count_spaces.ensures,
+    )

@@ -30,7 +30,7 @@ sources-preserved g c =
     let noted = subst (λ (e : Event). Tells g.R.Recorder c.sources.log (e ∷ []) c.tell.new.self)
     (c.arrival.ensures ∙ sym (ap (λ t. arrival_event t c.in-Some.arrived) tick)) c.tell.ensures in
     let more = arriving_more (telling g.R.Recorder) c.args.config.now c.args.script.now _ _ c.tell.new.self
-        c.args.self.now.world st.world gates _ c.in-Some.arrived c.requires.script
+    c.args.self.now.world st.world gates _ c.in-Some.arrived c.requires.script
     c.sources.invariant.at c.in-Some.ensures.value refl noted in
     record {
       at = subst (λ (z : RunState). Arriving
@@ -45,18 +45,18 @@ sources-preserved g c =
 pub sources-smaller : goal.sources-smaller
 sources-smaller g c =
     subst (λ (z : RunState). left_in (window_in z) < left_in (window_in c.sources.self))
-        (sym c.take_arrival.ensures.state)
+    (sym c.take_arrival.ensures.state)
     (fewer_left c.sources.self.world.tick (window_in c.sources.self) c.in-Some.arrived c.in-Some.ensures.value)
 
 pub returns-clause-gives : goal.returns-clause-gives
 returns-clause-gives g c =
     let st = c.sources.self in
     let end = arriving_end (telling g.R.Recorder) c.args.config.now c.args.script.now _ _ _ _ _ _ c.requires.script
-        c.sources.invariant.at c.in_default.ensures.value refl in
+    c.sources.invariant.at c.in_default.ensures.value refl in
     subst (λ (w : World). Gives (Tells g.R.Recorder) c.args.log.now c.sources.log w None
-        (arrivals c.args.config.now c.args.script.now c.args.self.now.world))
+    (arrivals c.args.config.now c.args.script.now c.args.self.now.world))
     (sym (ap (λ (z : RunState). z.world) c.take_arrival.ensures.state ∙ ap (with_window st.world) end.same
-        ∙ c.sources.invariant.at.seen)) end.gives
+    ∙ c.sources.invariant.at.seen)) end.gives
 
 pub returns-clause-fixed : goal.returns-clause-fixed
 returns-clause-fixed g c = ap (λ (z : RunState). fixed_in z.beside) c.take_arrival.ensures.state
@@ -65,15 +65,15 @@ returns-clause-fixed g c = ap (λ (z : RunState). fixed_in z.beside) c.take_arri
 pub returns-clause-sources : goal.returns-clause-sources
 returns-clause-sources g c =
     let end = arriving_end (telling g.R.Recorder) c.args.config.now c.args.script.now _ _ _ _ _ _ c.requires.script
-        c.sources.invariant.at c.in_default.ensures.value refl in
+    c.sources.invariant.at c.in_default.ensures.value refl in
     subst (AreSourcesOf c.args.config.now)
-        (sym (ap window_in c.take_arrival.ensures.state ∙ end.same)) c.sources.invariant.at.are
+    (sym (ap window_in c.take_arrival.ensures.state ∙ end.same)) c.sources.invariant.at.are
 
 pub returns-clause-left : goal.returns-clause-left
 returns-clause-left g c =
     let end = arriving_end (telling g.R.Recorder) c.args.config.now c.args.script.now _ _ _ _ _ _ c.requires.script
-        c.sources.invariant.at c.in_default.ensures.value refl in
+    c.sources.invariant.at c.in_default.ensures.value refl in
     subst (λ t. AreLeftFrom c.args.config.now c.args.script.now (t + 1) (window_in c.take_arrival.new.self))
-        c.sources.invariant.tick
+    c.sources.invariant.tick
     (subst (AreLeftFrom c.args.config.now c.args.script.now (c.sources.self.world.tick + 1))
-        (sym (ap window_in c.take_arrival.ensures.state ∙ end.same)) end.left)
+    (sym (ap window_in c.take_arrival.ensures.state ∙ end.same)) end.left)

@@ -28,15 +28,15 @@ invariant_of-self-in-Oisr c =
     let n = c.in-Oisr.oisr.0 in
     let config = c.args.config.now in
     let is_for = subst (λ (z : RunState). IsFor config c.args.script.now z.beside)
-        (sym c.self.view_is) c.requires.fixed in
+    (sym c.self.view_is) c.requires.fixed in
     let exists = subst (λ (o : Owner). CanBegin config o c.args.self.now.world) c.in-Oisr.is c.requires.can in
     let state = subst (λ (codes : List (List Stmt)). subsystem_of codes next
-        ≡ oisr_begun (routine_body codes (setup_of osek) n) n (subsystem_of codes osek))
+    ≡ oisr_begun (routine_body codes (setup_of osek) n) n (subsystem_of codes osek))
     c.codes.ensures c.accept-in-Oisr.ensures.state in (
       subst (λ (codes : List (List Stmt)). IsSound codes next) c.codes.ensures c.accept-in-Oisr.ensures.sound,
       subst IsSettled (sym state)
           (settled_begun _ n _ (λ none. oisr_some config c.requires.rules n exists
-              (sym (oisr_begins config c.args.script.now st.beside is_for n exists) ∙ none))
+          (sym (oisr_begins config c.args.script.now st.beside is_for n exists) ∙ none))
           c.self.invariant.1),
     )
 
@@ -47,11 +47,11 @@ returns-in-Isr-clause-world c =
     let isr = c.in-Isr.isr in
     let config = c.args.config.now in
     let is_for = subst (λ (z : RunState). IsFor config c.args.script.now z.beside)
-        (sym c.self.view_is) c.requires.fixed in
+    (sym c.self.view_is) c.requires.fixed in
     let can = subst (λ (o : Owner). CanBegin config o c.args.self.now.world) c.in-Isr.is c.requires.can in
     ap (λ (s : Stacked). (the_view (record inside { stack = s })).world) c.accept.ensures
     ∙ ap (λ (left : List Stmt). leaving st.world (runner.Isr isr) left)
-        (isr_begins config c.args.script.now st.beside is_for isr.0 can.0)
+    (isr_begins config c.args.script.now st.beside is_for isr.0 can.0)
     ∙ ap (λ (o : Owner). begun config o st.world) (sym c.in-Isr.is)
     ∙ ap (λ (z : RunState). begun config c.args.source z.world) c.self.view_is
 
@@ -63,15 +63,15 @@ returns-in-Oisr-clause-world c =
     let oisr = c.in-Oisr.oisr in
     let config = c.args.config.now in
     let is_for = subst (λ (z : RunState). IsFor config c.args.script.now z.beside)
-        (sym c.self.view_is) c.requires.fixed in
+    (sym c.self.view_is) c.requires.fixed in
     let exists = subst (λ (o : Owner). CanBegin config o c.args.self.now.world) c.in-Oisr.is c.requires.can in
     let state = subst (λ (codes : List (List Stmt)). subsystem_of codes next
     ≡ oisr_begun (routine_body codes (setup_of osek) oisr.0) oisr.0 (subsystem_of codes osek)) c.codes.ensures
-        c.accept-in-Oisr.ensures.state in
+    c.accept-in-Oisr.ensures.state in
     ap (λ (s : Subsystem). with_osek st.world s) state
     ∙ ap (λ (l : List (List Stmt)). with_oisrs st.world l)
-        (lefts_begun _ oisr.0 (subsystem_of c.self.inside.stack.codes osek))
+    (lefts_begun _ oisr.0 (subsystem_of c.self.inside.stack.codes osek))
     ∙ ap (λ (left : List Stmt). leaving st.world (runner.Oisr oisr) left)
-        (oisr_begins config c.args.script.now st.beside is_for oisr.0 exists)
+    (oisr_begins config c.args.script.now st.beside is_for oisr.0 exists)
     ∙ ap (λ (o : Owner). begun config o st.world) (sym c.in-Oisr.is)
     ∙ ap (λ (z : RunState). begun config c.args.source z.world) c.self.view_is

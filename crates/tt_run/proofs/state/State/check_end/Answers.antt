@@ -10,8 +10,8 @@ pub returns-clause-gives : goal.returns-clause-gives
 returns-clause-gives g c =
     let w = c.args.self.now.world in
     let due = c.end_checks-from.ensures.checks
-        ∙ ap (λ n. entries_due (is_at_end n) c.args.table.now.mode) c.offset.ensures in
+    ∙ ap (λ n. entries_due (is_at_end n) c.args.table.now.mode) c.offset.ensures in
     let least = least_length c.args.config.now w.latched _ c.requires.over c.requires.served.timed.stands in
     end_given (telling g.R.Recorder) Latched c.args.config.now c.args.script.now c.args.table.now w c.requires.served
-        c.requires.table
+    c.requires.table
     c.args.log.now c.monitor.new.log c.monitor.new.self.world c.monitor.result _ c.monitor.ensures.gives least due

@@ -9,15 +9,15 @@ use Rattle.tt_run.proofs.state.State.do_due.Goals as goal
 pub returns-in-Some-clause-gives : goal.returns-in-Some-clause-gives
 returns-in-Some-clause-gives g c =
     due_over (telling g.R.Recorder) c.args.config.now c.args.script.now c.args.table.now c.args.self.now.world
-        c.requires.served
+    c.requires.served
     c.requires.table c.args.due c.requires.stands _ _ _ _ c.in-Some.end c.monitor.ensures.gives c.in-Some.is
 
 pub arrive_all-requires-clause-sources : goal.arrive_all-requires-clause-sources
 arrive_all-requires-clause-sources g c =
     let kept = enabled (telling g.R.Recorder) c.args.config.now c.args.script.now c.args.table.now
-        c.args.self.now.world c.requires.served
+    c.args.self.now.world c.requires.served
     c.requires.table c.args.due c.requires.stands c.monitor.new.self.world c.enable_all.new.self.world _ _ _ _ _
-        c.monitor.ensures.gives
+    c.monitor.ensures.gives
     c.in_default.is c.enable_all.ensures.gives in
     (has_sources (telling g.R.Recorder) c.args.config.now c.args.script.now c.args.self.now c.enable_all.new.self
     (c.enable_all.ensures.beside ∙ c.monitor.ensures.beside) kept c.requires.sources).sources
@@ -25,9 +25,9 @@ arrive_all-requires-clause-sources g c =
 pub arrive_all-requires-clause-left : goal.arrive_all-requires-clause-left
 arrive_all-requires-clause-left g c =
     let kept = enabled (telling g.R.Recorder) c.args.config.now c.args.script.now c.args.table.now
-        c.args.self.now.world c.requires.served
+    c.args.self.now.world c.requires.served
     c.requires.table c.args.due c.requires.stands c.monitor.new.self.world c.enable_all.new.self.world _ _ _ _ _
-        c.monitor.ensures.gives
+    c.monitor.ensures.gives
     c.in_default.is c.enable_all.ensures.gives in
     (has_sources (telling g.R.Recorder) c.args.config.now c.args.script.now c.args.self.now c.enable_all.new.self
     (c.enable_all.ensures.beside ∙ c.monitor.ensures.beside) kept c.requires.sources).left
@@ -35,39 +35,39 @@ arrive_all-requires-clause-left g c =
 pub activate_entry-requires : goal.activate_entry-requires
 activate_entry-requires g c =
     activates c.args.config.now c.args.script.now c.requires.served.rules c.args.table.now c.args.self.now.world
-        c.requires.table
+    c.requires.table
     c.accept_all.new.self
     (ap fixed_in c.accept_all.ensures.beside ∙ c.arrive_all.ensures.fixed
-        ∙ ap fixed_in (c.enable_all.ensures.beside ∙ c.monitor.ensures.beside)
+    ∙ ap fixed_in (c.enable_all.ensures.beside ∙ c.monitor.ensures.beside)
     ∙ c.requires.fixed)
     (before_activation (telling g.R.Recorder) c.args.config.now c.args.script.now c.args.table.now
-        c.args.self.now.world c.requires.served
+    c.args.self.now.world c.requires.served
     c.requires.table c.args.due c.requires.stands _ _ _ _ _ _ _ _ _ _ c.monitor.ensures.gives c.in_default.is
-        c.enable_all.ensures.gives
+    c.enable_all.ensures.gives
     c.arrive_all.ensures.gives c.accept_all.ensures.gives)
     c.args.due c.requires.stands
 
 pub returns-clause-gives : goal.returns-clause-gives
 returns-clause-gives g c =
     due_all (telling g.R.Recorder) c.args.config.now c.args.script.now c.args.table.now c.args.self.now.world
-        c.requires.served
+    c.requires.served
     c.requires.table c.args.due c.requires.stands _ _ _ _ _ _ _ _ _ _ _ _ c.monitor.ensures.gives c.in_default.is
     c.enable_all.ensures.gives c.arrive_all.ensures.gives c.accept_all.ensures.gives c.activate_entry.ensures.gives
 
 pub returns-clause-opened : goal.returns-clause-opened
 returns-clause-opened g c = λ _.
     let kept = enabled (telling g.R.Recorder) c.args.config.now c.args.script.now c.args.table.now
-        c.args.self.now.world c.requires.served
+    c.args.self.now.world c.requires.served
     c.requires.table c.args.due c.requires.stands c.monitor.new.self.world c.enable_all.new.self.world _ _ _ _ _
-        c.monitor.ensures.gives
+    c.monitor.ensures.gives
     c.in_default.is c.enable_all.ensures.gives in
     let left = subst (λ t. AreLeftFrom c.args.config.now c.args.script.now (t + 1) (window_in c.arrive_all.new.self))
-        kept.tick
+    kept.tick
     c.arrive_all.ensures.left in
     is_opened (telling g.R.Recorder) c.args.config.now c.args.script.now c.args.self.now.world.tick
-        c.args.table.now.mode
+    c.args.table.now.mode
     c.args.due.activation c.accept_all.new.self c.activate_entry.new.self _ _ c.activate_entry.ensures.beside
-        c.activate_entry.ensures.gives
+    c.activate_entry.ensures.gives
     c.accept_all.ensures.sources
     (left_kept (telling g.R.Recorder) c.args.config.now c.args.script.now _ c.arrive_all.new.self c.accept_all.new.self
     c.accept_all.ensures.beside left)

@@ -15,9 +15,9 @@ pub returns-clause-gives : goal.returns-clause-gives
 returns-clause-gives g c =
     let w = (the_view c.self.inside).world in
     let gives = subst (λ (e : Store). Gives
-        (Tells g.R.Recorder) c.play.new.log c.shut_down.new.log c.shut_down.new.self.world
+    (Tells g.R.Recorder) c.play.new.log c.shut_down.new.log c.shut_down.new.self.world
     (Some c.shut_down.result) (shuts_down c.args.config.now (Some (ending.Missed c.args.task)) (with_env w e)))
-        c.play.ensures.env
+    c.play.ensures.env
     c.shut_down.ensures.gives in
     subst (λ (z : RunState). Gives (Tells g.R.Recorder) c.args.log.now c.shut_down.new.log c.shut_down.new.self.world
     (Some c.shut_down.result) (misses c.args.config.now c.args.task z.world)) c.self.view_is

@@ -15,6 +15,6 @@ returns-clause-gives g c =
     let checks = subst (λ (z : RunState). Checks (Tells g.R.Recorder) c.args.log.now c.check.new.log c.check.result
     (checked_entries z.world.tick c.args.table.now.mode z.world.jobs entries)) c.self.view_is c.check.ensures in
     missed_gives (telling g.R.Recorder) c.args.config.now w c.miss.new.self.world c.args.log.now c.check.new.log
-        c.miss.new.log
+    c.miss.new.log
     c.check.result c.in_ok-task.task (Some c.miss.result) (checked_entries w.tick c.args.table.now.mode w.jobs entries)
     checks c.in_ok-task.was c.miss.ensures.gives

@@ -29,7 +29,7 @@ invariant_of-result c =
       subst (λ (ks : List (List Stmt)). IsSound ks c.new-osek.result) (sym codes) c.new-osek.ensures.sound,
       subst (λ (ks : List (List Stmt)). IsSettled (subsystem_of ks c.new-osek.result)) (sym codes)
           (subst IsSettled (sym c.new-osek.ensures.state)
-              (first_settled c.args.config.now c.parts-parts.ensures.rules)),
+          (first_settled c.args.config.now c.parts-parts.ensures.rules)),
     )
 
 pub returns : goal.returns
@@ -41,7 +41,7 @@ returns c =
     let isrs = ap length c.as_slice-5.ensures ∙ ap (λ (p : ConfigParts). length p.isrs) same in
     let codes : c.new-3.result.codes ≡ c.in_ok-codes.codes = ap (λ (k : Stacked). k.codes) c.new-3.ensures in
     first_view config script c.requires c.new-2.result c.in_ok-env.env c.new-3.result c.new-4.result
-        (setup_of c.new-osek.result)
+    (setup_of c.new-osek.result)
     (subsystem_of c.new-3.result.codes c.new-osek.result)
     (c.new-2.ensures ∙ ap (first_round config script.start script.rounds) (c.in_ok-times.ensures ∙ c.as_slice.ensures))
     (c.in_ok-env.ensures ∙ ap (λ (p : ConfigParts). record {
@@ -74,9 +74,9 @@ returns c =
     }) (c.as_slice-6.ensures ∙ ap (λ (p : ConfigParts). p.isrs) same))
     (c.new-4.ensures
     ∙ ap (λ (lists : List (List ℕ)). new_window (record { isrs = lists; oisrs = c.in_ok-oisrs.oisrs }))
-        (c.in_ok-isrs.ensures ∙ c.as_slice-2.ensures)
+    (c.in_ok-isrs.ensures ∙ c.as_slice-2.ensures)
     ∙ ap (λ (lists : List (List ℕ)). new_window (record { isrs = script.arrivals.isrs; oisrs = lists }))
-        (c.in_ok-oisrs.ensures ∙ c.as_slice-3.ensures))
+    (c.in_ok-oisrs.ensures ∙ c.as_slice-3.ensures))
     (c.new-osek.ensures.setup
     ∙ ap (λ (n : ℕ). setup_for config (n + length c.as_slice-5.result.now)) tasks
     ∙ ap (λ (n : ℕ). setup_for config (length config.tasks + n)) isrs)

@@ -18,4 +18,4 @@ pub returns-clause-gives : goal.returns-clause-gives
 returns-clause-gives g c =
     opens_first (telling g.R.Recorder) c.args.config.now c.args.script.now c.args.self.now.world _ _ _ _ _
     (ap (λ (z : RunState). z.world.tick) (sym c.self.view_is) ∙ c.if-self-ne0.false) c.begin.ensures
-        c.open_due.ensures.gives
+    c.open_due.ensures.gives

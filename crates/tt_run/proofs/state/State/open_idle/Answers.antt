@@ -7,13 +7,13 @@ use Rattle.tt_run.proofs.state.State.open_idle.Goals as goal
 pub returns-then-ahead-clause-gives : goal.returns-then-ahead-clause-gives
 returns-then-ahead-clause-gives g c =
     opens_accepting (telling g.R.Recorder) c.args.config.now c.args.script.now c.args.self.now c.requires.can
-        c.args.ahead.next
+    c.args.ahead.next
     c.requires.foresees.next c.requires.idle _ _ _ c.accept_all.ensures.gives
 
 pub returns-then-ahead-clause-opened : goal.returns-then-ahead-clause-opened
 returns-then-ahead-clause-opened g c =
     let h = idle_sources (telling g.R.Recorder) c.args.config.now c.args.script.now c.args.self.now c.requires.can
-        c.args.ahead.next
+    c.args.ahead.next
     c.requires.foresees.next c.requires.idle in
     record {
       sources = record {
@@ -28,13 +28,13 @@ returns-then-ahead-clause-opened g c =
 pub returns-then-ahead-clause-ahead : goal.returns-then-ahead-clause-ahead
 returns-then-ahead-clause-ahead g c =
     ahead_accepted (telling g.R.Recorder) c.args.config.now c.args.script.now c.args.self.now c.accept_all.new.self
-        c.args.ahead.next _ _
+    c.args.ahead.next _ _
     c.accept_all.ensures.beside c.accept_all.ensures.gives c.requires.foresees.next
 
 pub returns-else-ahead-clause-gives : goal.returns-else-ahead-clause-gives
 returns-else-ahead-clause-gives g c =
     opens_idle (telling g.R.Recorder) c.args.config.now c.args.script.now c.args.self.now c.requires.can
-        c.args.ahead.next
+    c.args.ahead.next
     c.requires.foresees.next c.requires.idle _ (c.requires.foresees.none c.if-ahead.false)
 
 pub returns-else-ahead-clause-opened : goal.returns-else-ahead-clause-opened
@@ -48,4 +48,4 @@ returns-else-ahead-clause-opened g c = record {
 pub returns-else-ahead-clause-ahead : goal.returns-else-ahead-clause-ahead
 returns-else-ahead-clause-ahead g c =
     ahead_idle (telling g.R.Recorder) c.args.config.now c.args.script.now c.args.self.now c.args.ahead.next
-        c.requires.foresees.next
+    c.requires.foresees.next

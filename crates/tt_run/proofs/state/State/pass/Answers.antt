@@ -17,24 +17,24 @@ pub take_tick-ticked-requires : goal.take_tick-ticked-requires
 take_tick-ticked-requires g c =
     let can = c.requires.can in
     can_tick (telling g.R.Recorder) c.args.config.now c.args.script.now c.args.self.now.world
-        c.open_ahead.new.self.world _ _
+    c.open_ahead.new.self.world _ _
     (subst (λ (o : Outcome). Gives
-        (Tells g.R.Recorder) c.args.log.now c.open_ahead.new.log c.open_ahead.new.self.world o
+    (Tells g.R.Recorder) c.args.log.now c.open_ahead.new.log c.open_ahead.new.self.world o
     (opening c.args.config.now c.args.script.now c.args.self.now.world)) c.in_default.is c.open_ahead.ensures.gives)
     can.served can.named c.open_ahead.new.self refl (c.open_ahead.ensures.fixed ∙ can.fixed) can.tick
 
 pub returns-clause-gives : goal.returns-clause-gives
 returns-clause-gives g c =
     instant_on (telling g.R.Recorder) c.args.config.now c.args.script.now c.args.self.now.world _ _ _ _ _ _ _
-        c.open_ahead.ensures.gives
+    c.open_ahead.ensures.gives
     c.in_default.is c.take_tick-ticked.ensures.gives
 
 pub returns-clause-sources : goal.returns-clause-sources
 returns-clause-sources g c = λ on.
     ticked_sources (telling g.R.Recorder) c.args.config.now c.args.script.now _ c.open_ahead.new.self
-        c.take_tick-ticked.new.self _ _
+    c.take_tick-ticked.new.self _ _
     (subst (λ (o : Outcome). Gives
-        (Tells g.R.Recorder) c.open_ahead.new.log c.take_tick-ticked.new.log c.take_tick-ticked.new.self.world o
+    (Tells g.R.Recorder) c.open_ahead.new.log c.take_tick-ticked.new.log c.take_tick-ticked.new.self.world o
     (step c.args.config.now c.args.script.now c.open_ahead.new.self.world)) (sym on) c.take_tick-ticked.ensures.gives)
     c.take_tick-ticked.ensures.beside (c.open_ahead.ensures.opened (sym c.in_default.is)).sources
 
@@ -42,16 +42,16 @@ pub returns-clause-foresees : goal.returns-clause-foresees
 returns-clause-foresees g c = λ on.
     let can = c.requires.can in
     let opened = subst (λ (o : Outcome). Gives
-        (Tells g.R.Recorder) c.args.log.now c.open_ahead.new.log c.open_ahead.new.self.world o
+    (Tells g.R.Recorder) c.args.log.now c.open_ahead.new.log c.open_ahead.new.self.world o
     (opening c.args.config.now c.args.script.now c.args.self.now.world)) c.in_default.is c.open_ahead.ensures.gives in
     foresees (telling g.R.Recorder) c.args.config.now c.args.script.now c.open_ahead.new.self
-        c.take_tick-ticked.new.self
+    c.take_tick-ticked.new.self
     c.open_ahead.new.ahead.next c.take_tick-ticked.result.ended _ _ c.take_tick-ticked.ensures.beside
     (opened_timed (telling g.R.Recorder) c.args.config.now c.args.script.now c.args.self.now.world
-        c.open_ahead.new.self.world _ _ opened
+    c.open_ahead.new.self.world _ _ opened
     can.served can.named).started
     (subst (λ (o : Outcome). Gives
-        (Tells g.R.Recorder) c.open_ahead.new.log c.take_tick-ticked.new.log c.take_tick-ticked.new.self.world o
+    (Tells g.R.Recorder) c.open_ahead.new.log c.take_tick-ticked.new.log c.take_tick-ticked.new.self.world o
     (step c.args.config.now c.args.script.now c.open_ahead.new.self.world)) (sym on) c.take_tick-ticked.ensures.gives)
     c.take_tick-ticked.ensures.ended (c.open_ahead.ensures.opened (sym c.in_default.is)).none
     (c.open_ahead.ensures.ahead (sym c.in_default.is))

@@ -13,7 +13,7 @@ pub returns-clause-gives : goal.returns-clause-gives
 returns-clause-gives g c =
     let w = (the_view c.self.inside).world in
     subst (λ (z : RunState). Gives (Tells g.R.Recorder) c.args.log.now c.tell-2.new.self (with_env w c.play.new.env)
-        (Some c.args.end)
+    (Some c.args.end)
     (shuts_down c.args.config.now (Some c.args.end) z.world)) c.self.view_is
     (record {
       world_is = ap (with_env w) c.play.ensures.env;
