@@ -5,4 +5,6 @@ pub mod Answer
 pub use Rattle.tt_io.specs.Count
 pub use Rattle.tt_io.specs.Known
 pub mod CheckText
+pub mod BulkText
+pub mod LoadText
 pub mod NoMiss

@@ -1,7 +1,6 @@
 //! The text of the schedule check, made whole in memory.
 
 ghost use Rattle.std.specs.Prelude.{◌≡◌, ◌++◌, ◌∷◌, ◌<◌, length, IfOk, OnOk};
-ghost use Rattle.tt_base.specs.Names.{name_of};
 ghost use Rattle.trace_text.specs.Lines.{spaced};
 ghost use Rattle.tt_world.specs.Rows.{mode_at, row_of};
 ghost use Rattle.tt_world.specs.ConfigRules.{IsConfig};
@@ -10,31 +9,12 @@ ghost use Rattle.round_table.specs.TableRows.{table_of, tables_of};
 ghost use Rattle.schedule_check.specs.Responses.{answer_of};
 ghost use Rattle.osektime_core.specs.CheckText.{answer_line, bounds_line, check_text, response_line, response_words, responses_text};
 
-use crate::table::put_bytes;
-use itoa::{Buffer, Integer};
+use crate::text::{put_bytes, put_digits, put_name};
 use round_table::{Table, Tables};
 use schedule_check::{CheckAnswer, demand, kept, response};
 use std::alloc::Global;
-use tt_base::{Declared, Memory, ModeNo, Names};
+use tt_base::{Declared, Memory, ModeNo};
 use tt_world::{Config, Script};
-
-/// Appends a number in decimal.
-fn put_digits<I: Integer>(text: &mut Vec<u8>, number: I) -> Result<(), Memory>
-    ensures { OnOk result (text.new.items ≡ text.old.items ++ I.text number) }
-{
-    let mut buffer = Buffer::new();
-    put_bytes(text, buffer.format(number).as_bytes())
-}
-
-/// Appends the name of a declared thing, nothing where it has none.
-fn put_name(text: &mut Vec<u8>, names: &Names, which: Declared) -> Result<(), Memory>
-    ensures { OnOk result (text.new.items ≡ text.old.items ++ name_of names.now which) }
-{
-    match names.get(which) {
-        Some(name) => put_bytes(text, name.as_bytes()),
-        None => Ok(()),
-    }
-}
 
 /// Appends the words on the response end of an activation, each with a space in front of it.
 fn put_response(

@@ -2,16 +2,20 @@
 //! the status.
 #![tactic(auto)]
 
+mod bulk;
 mod check;
 mod command;
 mod document;
+mod load;
 mod refusal;
 mod status;
 mod table;
 mod table_lines;
+mod text;
 mod trace;
 mod words;
 
+pub use bulk::bulk_document;
 pub use command::{MOST_BYTES, serve};
 pub use status::Status;
 pub use words::{Command, Words};

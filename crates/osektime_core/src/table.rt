@@ -5,21 +5,12 @@ ghost use Rattle.round_table.specs.DueRows.{checks_of, enables_of};
 ghost use Rattle.osektime_core.specs.TableText.{activation_lines, check_lines, enable_lines, lines_at, mode_text, table_text, texts_below};
 
 use crate::table_lines::{activation_line, check_line, enable_line, mode_line};
+use crate::text::put_bytes;
 use round_table::Table;
 use std::alloc::Global;
 use trace_text::Line;
 use tt_base::{Memory, ModeNo, Names};
 use tt_world::{Config, Point};
-
-/// Appends bytes.
-pub(crate) fn put_bytes(text: &mut Vec<u8>, bytes: &[u8]) -> Result<(), Memory>
-    ensures { OnOk result (text.new.items ≡ text.old.items ++ bytes.now) }
-{
-    match text.extend_from_slice(bytes) {
-        Ok(()) => Ok(()),
-        Err(_) => Err(Memory),
-    }
-}
 
 /// Appends a line.
 fn put(text: &mut Vec<u8>, line: &Line) -> Result<(), Memory>

@@ -4,7 +4,7 @@ use Rattle.std.proofs.lemmas.Result.{on_ok_weaker}
 use Rattle.tt_base.specs.declared.names.NameEntry.{NameEntry}
 use Rattle.tt_base.specs.declared.names.Declared.{Declared}
 use Rattle.tt_base.specs.Names.{get_name, name_of}
-use Rattle.osektime_core.proofs.check.put_name.Goals as goal
+use Rattle.osektime_core.proofs.text.put_name.Goals as goal
 
 -- the text of a thing's name, by what looking it up gives
 found : (names : List NameEntry) (which : Declared) (looked_up : Option (List ℕ)) → looked_up ≡ get_name names which

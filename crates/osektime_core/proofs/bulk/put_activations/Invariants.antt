@@ -1,0 +1,8 @@
+use Rattle.std.proofs.Common.{◌≡◌, ◌++◌}
+use Rattle.osektime_core.specs.BulkText.{activation_row}
+use Rattle.osektime_core.specs.TableText.{texts_below}
+use Rattle.osektime_core.proofs.bulk.put_activations.Given as goal
+
+-- the rows so far
+abbrev pub invariant-loop-task : goal.invariant-loop-task
+invariant-loop-task l = l.text.items ≡ l.fn.text.items ++ texts_below (activation_row l.fn.round) l.task
