@@ -128,8 +128,12 @@ rows_length n round arrivals few is all =
     let arriving : length (texts_below (arrival_row round) arrivals) ≤ arrivals * 20 =
     length_of_texts (arrival_row round) 20 arrivals (λ r l. arrival_length round r (omega (arith, ticks r l))) in
     let first : length (first_rows round) ≤ 40 = first_length round (omega arith) in
-    omega (arith, fixed_length, length_of_six (first_rows round) (texts_below task_rows n) isr_rows
-    (texts_below (activation_row round) n) start_rows (texts_below (arrival_row round) arrivals))
+    omega (
+      arith,
+      fixed_length,
+      length_of_six (first_rows round) (texts_below task_rows n) isr_rows
+          (texts_below (activation_row round) n) start_rows (texts_below (arrival_row round) arrivals),
+    )
 
 -- the document is short enough to be read
 pub bulk_is_short : (number : ℕ) → length (bulk_text number) ≤ 2 ^ 20

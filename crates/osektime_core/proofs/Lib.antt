@@ -1,5 +1,7 @@
 pub mod Told
-pub mod EventLines
 pub mod TablePlaces
 pub mod TableTexts
 pub mod CheckTexts
+pub mod BulkTexts
+pub mod LoadTexts
+pub mod Traces

@@ -1,34 +1,99 @@
--- The answer to the bytes that a source told.
-use Rattle.std.proofs.Common.{◌≡◌, ℕ, ◌^◌, ◌≤◌, List, Option, Some, None, false, nat_lt, cond, length, ap, sym, ◌∙◌, subst, arith}
+-- The answer to the bytes of the document of some words, where they are told.
+use Rattle.std.proofs.Common.{◌≡◌, ◌≢◌, ℕ, ◌^◌, ◌≤◌, List, Option, Some, None, false, nat_lt, cond, length, refl, ap, sym, ◌∙◌, subst, arith}
+use Rattle.std.specs.Prelude.{IfSome}
 use Rattle.std.proofs.lemmas.Bool.Decides.{nat_tests}
-use Rattle.std.specs.Io.KnownBytes.{Appends}
 use Rattle.tt_io.specs.Known.{WasAll}
 use Rattle.tt_read.specs.Document.{document_of}
 use Rattle.osektime_core.specs.declared.words.Command.{Command}
-use Rattle.osektime_core.specs.declared.status.Status.{Status}
+use Rattle.osektime_core.specs.declared.words.Command.TheVariants.{Trace, Show, Table, Check, Load, Bulk}
 use Rattle.osektime_core.specs.declared.status.Status.TheVariants.{TooLong}
 use Rattle.osektime_core.specs.Words.{command_of}
-use Rattle.osektime_core.specs.Answer.{Answer, silent, document_answer, words_answer, answer_of, IsAnswered}
+use Rattle.osektime_core.specs.BulkText.{bulk_text}
+use Rattle.osektime_core.specs.Answer.{Answer, IsReading, answer_of, bytes_answer, command_answer, document_answer, document_by, document_for, silent, words_answer}
 
-pub answer_is : (words : List (List ℕ)) (command : Command) (bytes : List ℕ) → command_of words ≡ Some command
-    → length bytes ≤ 2 ^ 20
-    → answer_of words bytes ≡ document_answer command (document_of bytes)
-answer_is words command bytes is fits =
+-- ---- commands that read, and `bulk`
+
+-- a command that is not `bulk` reads
+pub reads_unless_bulk : (command : Command) → ((number : ℕ) → command ≢ Bulk number) → IsReading (Some command)
+reads_unless_bulk Trace other = tt
+reads_unless_bulk Show other = tt
+reads_unless_bulk Table other = tt
+reads_unless_bulk Check other = tt
+reads_unless_bulk Load other = tt
+reads_unless_bulk (Bulk number) other = absurd (other number refl)
+
+-- it answers the bytes that it reads
+reading_answer : (command : Command) (bytes : List ℕ) → IsReading (Some command)
+    → command_answer command bytes ≡ bytes_answer command bytes
+reading_answer Trace bytes reads = refl
+reading_answer Show bytes reads = refl
+reading_answer Table bytes reads = refl
+reading_answer Check bytes reads = refl
+reading_answer Load bytes reads = refl
+reading_answer (Bulk number) bytes reads = absurd reads
+
+-- they are those that the source has left
+reading_document : (command : Command) (left : Option (List ℕ)) → IsReading (Some command)
+    → document_by (Some command) left ≡ left
+reading_document Trace left reads = refl
+reading_document Show left reads = refl
+reading_document Table left reads = refl
+reading_document Check left reads = refl
+reading_document Load left reads = refl
+reading_document (Bulk number) left reads = absurd reads
+
+-- ---- the answer to few bytes
+
+few_bytes : (command : Command) (bytes : List ℕ) → length bytes ≤ 2 ^ 20
+    → bytes_answer command bytes ≡ document_answer command (document_of bytes)
+few_bytes command bytes fits =
     let short : nat_lt (2 ^ 20) (length bytes) ≡ false = grind (arith, nat_tests) in
-    ap (λ c. words_answer c bytes) is ∙ ap
-    (λ b. cond b (silent TooLong) (document_answer command (document_of bytes))) short
+    ap (λ b. cond b (silent TooLong) (document_answer command (document_of bytes))) short
 
-pub told_answer : (words : List (List ℕ)) (command : Command) (left after w0 w1 : Option (List ℕ)) (bytes : List ℕ)
-    (status : Status)
-    → command_of words ≡ Some command → WasAll left after bytes → length bytes ≤ 2 ^ 20
-    → (status ≡ (document_answer command (document_of bytes)).status)
-    × Appends w0 w1 (document_answer command (document_of bytes)).text
-    → IsAnswered words left status w0 w1
-told_answer words command None after w0 w1 bytes status is all fits answered = tt
-told_answer words command (Some told) after w0 w1 bytes status is all fits answered =
-    let same : answer_of words told ≡ document_answer command (document_of bytes) = ap (answer_of words) all.0
-    ∙ answer_is words command bytes is fits in (
-      answered.0 ∙ sym (ap (λ (a : Answer). a.status) same),
-      subst (Appends w0 w1)
-          (sym (ap (λ (a : Answer). a.text) same)) answered.1,
-    )
+-- of a command that reads
+answer_is : (words : List (List ℕ)) (command : Command) (bytes : List ℕ) → command_of words ≡ Some command
+    → IsReading (Some command) → length bytes ≤ 2 ^ 20
+    → answer_of words bytes ≡ document_answer command (document_of bytes)
+answer_is words command bytes is reads fits =
+    ap (λ c. words_answer c bytes) is ∙ reading_answer command bytes reads ∙ few_bytes command bytes fits
+
+-- ---- facts of the bytes that are told
+
+-- a fact of the bytes that a command has read
+pub told_bytes : (Q : List ℕ → Type 0) (words : List (List ℕ)) (command : Command) (left after : Option (List ℕ))
+    (bytes : List ℕ) → command_of words ≡ Some command → IsReading (Some command) → WasAll left after bytes → Q bytes
+    → IfSome (document_for words left) Q
+told_bytes Q words command left after bytes is reads all fact =
+    let same : document_for words left ≡ left = ap (λ c. document_by c left) is ∙ reading_document command left reads in
+    subst (λ (l : Option (List ℕ)). IfSome l Q) (sym same) (of_left Q left after bytes all fact)
+  where
+    of_left : (Q : List ℕ → Type 0) (left after : Option (List ℕ)) (bytes : List ℕ) → WasAll left after bytes → Q bytes
+        → IfSome left Q
+    of_left Q None after bytes all fact = tt
+    of_left Q (Some told) after bytes all fact = subst Q (sym all.0) fact
+
+-- a fact of the answer to them
+pub told_answer : (P : Answer → Type 0) (words : List (List ℕ)) (command : Command) (left after : Option (List ℕ))
+    (bytes : List ℕ) → command_of words ≡ Some command → IsReading (Some command) → WasAll left after bytes
+    → length bytes ≤ 2 ^ 20 → P (document_answer command (document_of bytes))
+    → IfSome (document_for words left) (λ b. P (answer_of words b))
+told_answer P words command left after bytes is reads all fits fact =
+    told_bytes (λ b. P (answer_of words b)) words command left after bytes is reads all
+    (subst P (sym (answer_is words command bytes is reads fits)) fact)
+
+-- a fact of the bytes of the bulk document
+pub bulk_bytes : (Q : List ℕ → Type 0) (words : List (List ℕ)) (number : ℕ) (left : Option (List ℕ)) (bytes : List ℕ)
+    → command_of words ≡ Some (Bulk number) → bytes ≡ bulk_text number → Q bytes → IfSome (document_for words left) Q
+bulk_bytes Q words number left bytes is document fact =
+    subst (λ (c : Option Command). IfSome (document_by c left) Q) (sym is) (subst Q document fact)
+
+-- a fact of the answer to them
+pub bulk_answer : (P : Answer → Type 0) (words : List (List ℕ)) (number : ℕ) (left : Option (List ℕ)) (bytes : List ℕ)
+    → command_of words ≡ Some (Bulk number) → bytes ≡ bulk_text number → length bytes ≤ 2 ^ 20
+    → P (document_answer (Bulk number) (document_of bytes))
+    → IfSome (document_for words left) (λ b. P (answer_of words b))
+bulk_answer P words number left bytes is document fits fact =
+    let same : answer_of words bytes ≡ document_answer (Bulk number) (document_of bytes) =
+    ap (λ c. words_answer c bytes) is ∙ ap (bytes_answer (Bulk number)) (sym document)
+    ∙ few_bytes (Bulk number) bytes fits in
+    bulk_bytes (λ b. P (answer_of words b)) words number left bytes is document (subst P (sym same) fact)

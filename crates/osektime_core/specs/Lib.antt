@@ -8,3 +8,4 @@ pub mod CheckText
 pub mod BulkText
 pub mod LoadText
 pub mod NoMiss
+pub mod Runs

@@ -1,11 +1,16 @@
 -- The summary of a run: what it came to, in numbers.
-use Rattle.std.specs.Prelude.{ℕ, List, [], ◌∷◌, ◌++◌, codes, decimal, slice_index_or}
+use Rattle.std.specs.Prelude.{◌≡◌, ℕ, List, [], ◌∷◌, ◌++◌, codes, decimal, slice_index_or}
+use Rattle.tt_base.specs.declared.names.NameKind.TheVariants as Named
+use Rattle.tt_base.specs.Names.{names_of}
 use Rattle.trace_text.specs.Lines.{line}
+use Rattle.tt_world.specs.declared.config.ConfigParts.{ConfigParts}
 use Rattle.tt_world.specs.Status.{Status, Done, Missed, Shut, status_by}
-use Rattle.osektime_core.specs.declared.load.Report.{Report}
+use Rattle.schedule_check.specs.Windows.{depth_bound, words_bound}
+use Rattle.stack_dispatch.specs.declared.report.Report.{Report}
+use Rattle.osektime_core.specs.declared.load.Outline.{Outline}
 
 -- what a run came to
-pub record Load : Type 0 where
+pub record Summary : Type 0 where
   -- the tick of the last event
   pub ticks : ℕ
   -- the number of the last round that began
@@ -37,19 +42,19 @@ end_line tasks (Missed task tick) = line (codes "end" ∷ codes "missed" ∷ sli
 end_line tasks (Shut tick) = line (codes "end" ∷ codes "shutdown" ∷ [])
 
 -- the lines of the summary
-unfoldable pub load_text : (tasks : List (List ℕ)) → Load → List ℕ
-load_text tasks load =
-    number_line (codes "ticks") load.ticks
-    ++ (number_line (codes "rounds") load.rounds
-    ++ (number_line (codes "events") load.events
-    ++ (number_line (codes "activations") load.activations
-    ++ (bounded_line (codes "depth") load.deepest load.depth_bound
-    ++ (bounded_line (codes "words") load.words load.words_bound
-    ++ end_line tasks load.end)))))
+unfoldable pub load_text : (tasks : List (List ℕ)) → Summary → List ℕ
+load_text tasks summary =
+    number_line (codes "ticks") summary.ticks
+    ++ (number_line (codes "rounds") summary.rounds
+    ++ (number_line (codes "events") summary.events
+    ++ (number_line (codes "activations") summary.activations
+    ++ (bounded_line (codes "depth") summary.deepest summary.depth_bound
+    ++ (bounded_line (codes "words") summary.words summary.words_bound
+    ++ end_line tasks summary.end)))))
 
 -- what a report tells, and the bounds of its application
-abbrev pub load_by : Report → (depth_bound words_bound : ℕ) → Load
-load_by report depth_bound words_bound = record {
+abbrev pub summary_by : Report → (depth_bound words_bound : ℕ) → Summary
+summary_by report depth_bound words_bound = record {
   ticks = report.ticks;
   rounds = report.rounds;
   events = report.events;
@@ -60,3 +65,9 @@ load_by report depth_bound words_bound = record {
   words_bound = words_bound;
   end = status_by report.end report.ticks;
 }
+
+-- the names of the tasks of a configuration, and its bounds
+pub record IsOutline (c : ConfigParts) (outline : Outline) : Type 0 where
+  pub tasks : outline.tasks.items ≡ names_of Named.Task c.names
+  pub depth : outline.depth_bound ≡ depth_bound c
+  pub words : outline.words_bound ≡ words_bound c

@@ -4,11 +4,11 @@ ghost use Rattle.std.specs.Prelude.{◌≡◌, ◌≢◌, ◌↔◌, ◌≤◌, 
 ghost use Rattle.tt_io.specs.Count.{Rose, counted};
 ghost use Rattle.tt_io.specs.Known.{AppendsPart, HadMore};
 ghost use Rattle.osektime_core.specs.Words.{command_of};
-ghost use Rattle.osektime_core.specs.Answer.{answer_of, OnAnswered, IsAnswered};
+ghost use Rattle.osektime_core.specs.Answer.{answer_of, document_for, IsAnswered, IsReading, OnAnswered};
 ghost use Rattle.osektime_core.specs.NoMiss.{IsSchedulable, NoneIsMissed};
 
 use crate::document::respond;
-use crate::{Status, Words};
+use crate::{Command, Status, Words, bulk_document};
 use std::alloc::Global;
 use tt_base::{Ledger, Steps};
 use tt_io::{Sink, Source, TakeFault, take_all};
@@ -16,13 +16,14 @@ use tt_io::{Sink, Source, TakeFault, take_all};
 /// How many bytes a document has at most.
 pub const MOST_BYTES: usize = 1 << 20;
 
-/// Answers a command: reads its input to the end, and writes the text of the answer. The order of
-/// refusals is: words that are no command; out of memory; a failed read, or a byte too many, as
-/// reading meets them; the first faulty line; for `trace`, `table` and `check` the least rule that
-/// is broken. Out of memory may stand in place of any answer before the first byte is written, and
-/// a failed write in place of the answer whose text was being written. A run that has ended with a
-/// missed deadline is no refusal: its whole text is written. The steps are those of the run, and
-/// no clause speaks of them. Commands and statuses are the bench's own.
+/// Answers a command: reads its input to the end, and writes the text of the answer; `bulk` reads
+/// nothing, and has a document of its own. The order of refusals is: words that are no command; out
+/// of memory; a failed read, or a byte too many, as reading meets them; the first faulty line; for
+/// all but `show` the least rule that is broken. Out of memory may stand in place of any answer
+/// before the first byte is written, and a failed write in place of the answer whose text was being
+/// written. A run that has ended with a missed deadline is no refusal: its whole text is written.
+/// The steps are those of the run, and no clause speaks of them. Commands and statuses are the
+/// bench's own.
 pub fn serve<I: Source, O: Sink, L: Ledger>(
     alloc: Global,
     words: &Words,
@@ -30,42 +31,43 @@ pub fn serve<I: Source, O: Sink, L: Ledger>(
     output: &mut O,
     steps: &mut Steps<L>,
 ) -> Status
-    // Where no count of faults rose, it is the answer to the bytes that were left, or want of
-    // memory.
+    // Where no count of faults rose, it is the answer to the bytes that were left, or those of the
+    // bulk document, or want of memory.
     ensures complete { ¬ Rose (I.faults input.old) (I.faults input.new)
         → ¬ Rose (O.faults output.old) (O.faults output.new)
         → result ≢ Status.Memory
         → IsAnswered words.now (I.left input.old) result (O.written output.old)
         (O.written output.new) }
 
-    // Where one rose, an answer to a document is still that one, whole, and nothing of the
-    // document is left.
+    // Where one rose, an answer to a document is still that one, whole, and nothing of what a
+    // command reads is left.
     ensures answered { OnAnswered result
         (IsAnswered words.now (I.left input.old) result (O.written output.old)
         (O.written output.new)) }
-    ensures taken { OnAnswered result
+    ensures taken { IsReading (command_of words.now) → OnAnswered result
         (IfSome (I.left input.old) (λ _. I.left input.new ≡ Some [])) }
+    ensures not_read { ¬ IsReading (command_of words.now) → input.new ≡ input.old }
 
     ensures memory { result ≡ Status.Memory → output.new ≡ output.old }
     ensures usage { (result ≡ Status.Usage) ↔ (command_of words.now ≡ None) }
     ensures usage_untouched { result ≡ Status.Usage
         → (input.new ≡ input.old) × (output.new ≡ output.old) }
-    ensures read_fault { result ≡ Status.ReadFault
-        → Rose (I.faults input.old) (I.faults input.new) × (output.new ≡ output.old) }
-    ensures too_long { result ≡ Status.TooLong
-        → HadMore (I.left input.old) (2 ^ 20) × (output.new ≡ output.old)
+    ensures read_fault { result ≡ Status.ReadFault → IsReading (command_of words.now)
+        × Rose (I.faults input.old) (I.faults input.new) × (output.new ≡ output.old) }
+    ensures too_long { result ≡ Status.TooLong → IsReading (command_of words.now)
+        × HadMore (I.left input.old) (2 ^ 20) × (output.new ≡ output.old)
         × (I.given input.new ≡ counted (I.given input.old) (2 ^ 20 + 1)) }
     ensures not_too_long { result ≢ Status.TooLong
         → I.given input.new ≤ I.given input.old + 2 ^ 20 }
     ensures write_fault { result ≡ Status.WriteFault
         → Rose (O.faults output.old) (O.faults output.new)
-        × IfSome (I.left input.old)
+        × IfSome (document_for words.now (I.left input.old))
         (λ bytes. AppendsPart (O.written output.old) (O.written output.new)
         (answer_of words.now bytes).text) }
 
     // The deadlines of a document that meets the rules, whose check says yes and whose script
     // keeps its declared bounds are met.
-    ensures no_miss { IfSome (I.left input.old)
+    ensures no_miss { IfSome (document_for words.now (I.left input.old))
         (λ bytes. IsSchedulable bytes → NoneIsMissed result) }
 
     ensures never_falls { (I.faults input.old ≤ I.faults input.new)
@@ -74,6 +76,12 @@ pub fn serve<I: Source, O: Sink, L: Ledger>(
     let Some(command) = words.command() else {
         return Status::Usage;
     };
+    if let Command::Bulk(number) = command {
+        let Ok(bytes) = bulk_document(alloc, number) else {
+            return Status::Memory;
+        };
+        return respond(alloc, command, &bytes, output, steps);
+    }
     let bytes = match take_all(alloc, input, MOST_BYTES) {
         Ok(bytes) => bytes,
         Err(TakeFault::Memory) => return Status::Memory,

@@ -1,52 +1,32 @@
 //! What is written for a document that was taken whole.
 
 ghost use Rattle.std.specs.Io.KnownBytes.{Appends};
-ghost use Rattle.std.specs.Prelude.{◌≡◌, ◌≢◌, ◌≤◌, ◌<◌, ◌^◌, length, OnOk, OnErr};
+ghost use Rattle.std.specs.Prelude.{◌≡◌, ◌≢◌, ◌≤◌, ◌<◌, ◌^◌, length};
 ghost use Rattle.tt_io.specs.Count.{Rose};
 ghost use Rattle.tt_io.specs.Known.{AppendsPart};
 ghost use Rattle.tt_rows.specs.Sound.{AreSound};
 ghost use Rattle.tt_read.specs.Document.{document_of, canonical_text};
 ghost use Rattle.tt_config.specs.Broken.{broken_rule};
 ghost use Rattle.tt_world.specs.ScriptRules.{IsScript};
-ghost use Rattle.osektime_core.specs.Answer.{Responds, check_answer, check_status, checked_answer, document_answer, rows_answer, rule_answer, table_answer, trace_answer};
+ghost use Rattle.osektime_core.specs.Answer.{Responds, check_answer, check_status, checked_answer, document_answer, load_answer, rows_answer, rule_answer, table_answer, trace_answer};
 ghost use Rattle.osektime_core.specs.NoMiss.{AreSchedulable, IsSchedulable, NoneIsMissed};
 
+use crate::answer::put_text;
 use crate::check::check_text;
+use crate::load::write_load;
 use crate::refusal::{form_line, rule_line};
 use crate::table::table_text;
-use crate::trace::run;
+use crate::trace::write_trace;
 use crate::{Command, Status};
 use round_table::Tables;
 use schedule_check::CheckAnswer;
 use std::alloc::Global;
 use tt_base::{Ledger, Memory, Steps};
 use tt_config::{AcceptFault, Accepted, accept};
-use tt_io::{Sink, WriteFault, put_all};
+use tt_io::Sink;
 use tt_read::{FormFault, read, show};
 use tt_rows::Rows;
 use tt_world::{Config, Script};
-
-/// The status of a text that was to be written.
-fn status_after(written: Result<(), WriteFault>, status: Status) -> Status
-    ensures ok { OnOk written (result ≡ status) }
-    ensures err { OnErr written (result ≡ Status.WriteFault) }
-{
-    match written {
-        Ok(()) => status,
-        Err(_) => Status::WriteFault,
-    }
-}
-
-/// Writes the text of an answer of this status.
-fn put_text<O: Sink>(text: &[u8], status: Status, output: &mut O) -> Status
-    requires ample { status ≢ Status.Memory }
-    requires written { status ≢ Status.WriteFault }
-    ensures { Responds (record { text = text.now; status = status }) result
-        (output.new ≡ output.old)
-        (O.written output.old) (O.written output.new) (O.faults output.old) (O.faults output.new) }
-{
-    status_after(put_all(output, text), status)
-}
 
 /// Writes the line of a broken rule.
 fn put_rule<O: Sink>(alloc: Global, number: u8, line: u32, output: &mut O) -> Status
@@ -74,7 +54,28 @@ fn trace<O: Sink, L: Ledger>(
     ensures no_miss { AreSchedulable rows → NoneIsMissed result }
 {
     match accept(alloc, rows) {
-        Ok(Accepted { config, script }) => run(alloc, &config, script, output, steps),
+        Ok(Accepted { config, script }) => write_trace(alloc, config, script, output, steps),
+        Err(AcceptFault::Memory) => Status::Memory,
+        Err(AcceptFault::Rule { number, line }) => put_rule(alloc, number, line, output),
+    }
+}
+
+/// Runs rows that meet the rules, and writes what the run comes to. Else says which rule they
+/// break.
+fn load<O: Sink, L: Ledger>(
+    alloc: Global,
+    rows: Rows,
+    output: &mut O,
+    steps: &mut Steps<L>,
+) -> Status
+    requires { AreSound rows }
+    ensures responds { Responds (load_answer (broken_rule rows) rows) result
+        (output.new ≡ output.old)
+        (O.written output.old) (O.written output.new) (O.faults output.old) (O.faults output.new) }
+    ensures no_miss { AreSchedulable rows → NoneIsMissed result }
+{
+    match accept(alloc, rows) {
+        Ok(Accepted { config, script }) => write_load(alloc, config, script, output, steps),
         Err(AcceptFault::Memory) => Status::Memory,
         Err(AcceptFault::Rule { number, line }) => put_rule(alloc, number, line, output),
     }
@@ -147,7 +148,7 @@ fn shown<O: Sink>(rows: &Rows, output: &mut O) -> Status
     }
 }
 
-/// Answers a command for rows.
+/// Answers a command for the rows of its document.
 fn respond_to_rows<O: Sink, L: Ledger>(
     alloc: Global,
     command: Command,
@@ -165,10 +166,11 @@ fn respond_to_rows<O: Sink, L: Ledger>(
         Command::Show => shown(&rows, output),
         Command::Table => table(alloc, rows, output),
         Command::Check => check(alloc, rows, output),
+        Command::Load | Command::Bulk(_) => load(alloc, rows, output, steps),
     }
 }
 
-/// Answers a command for the bytes of a document.
+/// Answers a command for the bytes of its document.
 pub(crate) fn respond<O: Sink, L: Ledger>(
     alloc: Global,
     command: Command,

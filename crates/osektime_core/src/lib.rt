@@ -2,11 +2,13 @@
 //! the status.
 #![tactic(auto)]
 
+mod answer;
 mod bulk;
 mod check;
 mod command;
 mod document;
 mod load;
+mod load_lines;
 mod refusal;
 mod status;
 mod table;

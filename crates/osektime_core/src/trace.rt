@@ -1,86 +1,95 @@
-//! The run of a configuration and a script, and its text.
+//! The run of a configuration and a script, and its trace.
 
 ghost use Rattle.std.specs.Io.KnownBytes.{Appends};
-ghost use Rattle.std.specs.Prelude.{◌≡◌, ◌≢◌, ◌≤◌, OnOk, OnErr};
+ghost use Rattle.std.specs.Prelude.{◌≡◌, ◌≢◌, ◌≤◌, IfOk, IsTrue, OnOk, OnErr};
 ghost use Rattle.tt_io.specs.Count.{Rose};
 ghost use Rattle.tt_io.specs.Known.{AppendsPart};
 ghost use Rattle.trace_text.specs.Lines.{text_of};
-ghost use Rattle.tt_world.specs.ScriptRules.{IsScript};
-ghost use Rattle.tt_world.specs.Status.{status_by};
+ghost use Rattle.trace_text.specs.SinkRecorder.{sink_of, takes};
 ghost use Rattle.tt_base.specs.declared.number.TaskNo.{TaskNo};
+ghost use Rattle.tt_world.specs.Schedule.{schedule};
+ghost use Rattle.tt_world.specs.ScriptRules.{IsScript};
 ghost use Rattle.schedule_check.specs.Kept.{KeepsBounds};
 ghost use Rattle.schedule_check.specs.Responses.{answer_of};
 ghost use Rattle.schedule_check.specs.declared.answers.CheckAnswer.TheVariants.{Yes};
-ghost use Rattle.osektime_core.specs.Answer.{Responds, run_answer, run_status};
+ghost use Rattle.stack_dispatch.specs.Reports.{IsNotMissed, Reports};
+ghost use Rattle.osektime_core.specs.Answer.{Responds, run_answer};
 ghost use Rattle.osektime_core.specs.NoMiss.{NoneIsMissed};
+ghost use Rattle.osektime_core.specs.Runs.{PutsRun};
 
 use crate::Status;
-use stack_dispatch::run_plain;
+use crate::answer::run_status;
+use stack_dispatch::{Bench, Report, Run, RunEnd};
 use std::alloc::Global;
-use trace_text::line_of;
-use tt_base::{Event, Ledger, Names, Steps, Tick};
-use tt_io::{Buffer, Sink, WriteFault};
-use tt_world::{Config, RunEnd, Script};
+use trace_text::SinkRecorder;
+use tt_base::{Ledger, Steps};
+use tt_io::{Sink, WriteFault};
+use tt_world::{Config, Script};
 
-/// Writes the lines of events, in pieces of the buffer's size.
-pub(crate) fn put_events<O: Sink>(
-    names: &Names,
-    events: &[Event],
+/// Runs a bench, and puts the lines of its events, up to a fault.
+fn put_run<O: Sink, L: Ledger>(
+    bench: Bench,
+    recorder: &mut SinkRecorder<'_, O>,
+    steps: &mut Steps<L>,
+) -> Run
+    requires { IsTrue (takes recorder.old) }
+    ensures text { PutsRun O.written bench.config bench.script recorder.old recorder.new result }
+    ensures cause { result ≡ Run.Failed
+        → Rose (O.faults (sink_of recorder.old).now) (O.faults (sink_of recorder.new).now) }
+    ensures never_falls { O.faults (sink_of recorder.old).now
+        ≤ O.faults (sink_of recorder.new).now }
+    ensures no_miss { answer_of bench.config ≡ Yes → KeepsBounds bench.config bench.script
+        → IsNotMissed result }
+{
+    bench.run_trace(recorder, steps)
+}
+
+/// Runs a bench, and writes the lines of its events. At a fault a proper prefix of them was
+/// written.
+fn write_run<O: Sink, L: Ledger>(
+    bench: Bench,
     output: &mut O,
-) -> Result<(), WriteFault>
+    steps: &mut Steps<L>,
+) -> Result<Report, WriteFault>
     ensures ok { OnOk result (Appends (O.written output.old) (O.written output.new)
-        (text_of names.now events.now)) }
-    ensures part { OnErr result
-        (AppendsPart (O.written output.old) (O.written output.new) (text_of names.now events.now)) }
+        (text_of bench.config.names (schedule bench.config bench.script))) }
+    ensures report { IfOk result (Reports bench.config bench.script) }
+    ensures no_miss { answer_of bench.config ≡ Yes → KeepsBounds bench.config bench.script
+        → IfOk result (λ report. (task : TaskNo) → report.end ≢ RunEnd.Missed task) }
+    ensures part { OnErr result (AppendsPart (O.written output.old) (O.written output.new)
+        (text_of bench.config.names (schedule bench.config bench.script))) }
     ensures cause { OnErr result (Rose (O.faults output.old) (O.faults output.new)) }
     ensures never_falls { O.faults output.old ≤ O.faults output.new }
 {
-    let mut buffer = Buffer::new();
-    for event in events {
-        let line = line_of(event, names);
-        match buffer.put(output, line.as_bytes()) {
-            Ok(()) => {}
-            Err(fault) => return Err(fault),
-        }
-    }
-    match buffer.send(output) {
-        Ok(()) => {}
-        Err(fault) => return Err(fault),
-    }
-    Ok(())
-}
-
-/// The status of a run that has ended at a tick.
-fn run_status(end: RunEnd, tick: Tick) -> Status
-    ensures value { result ≡ run_status (status_by end tick) }
-    ensures only { ((task : TaskNo) → end ≢ RunEnd.Missed task) → NoneIsMissed result }
-{
-    match end {
-        RunEnd::LastRound => Status::Done,
-        RunEnd::Missed(task) => Status::Missed { task, tick },
-        RunEnd::Shutdown => Status::Shut { tick },
+    let mut recorder = SinkRecorder::new(output);
+    let report = match put_run(bench, &mut recorder, steps) {
+        Run::Ended(report) => report,
+        Run::Failed => return Err(WriteFault),
+    };
+    match recorder.finish() {
+        Ok(()) => Ok(report),
+        Err(fault) => Err(fault),
     }
 }
 
-/// Runs a configuration with a script that was made for it, and then writes the lines of the run.
-pub(crate) fn run<O: Sink, L: Ledger>(
+/// Runs a configuration with a script that was made for it, and writes the lines of the run.
+pub(crate) fn write_trace<O: Sink, L: Ledger>(
     alloc: Global,
-    config: &Config,
+    config: Config,
     script: Script,
     output: &mut O,
     steps: &mut Steps<L>,
 ) -> Status
-    requires { IsScript config.now script }
-    ensures responds { Responds (run_answer config.now script) result (output.new ≡ output.old)
+    requires { IsScript config script }
+    ensures responds { Responds (run_answer config script) result (output.new ≡ output.old)
         (O.written output.old) (O.written output.new) (O.faults output.old) (O.faults output.new) }
-    ensures no_miss { answer_of config.now ≡ Yes → KeepsBounds config.now script
-        → NoneIsMissed result }
+    ensures no_miss { answer_of config ≡ Yes → KeepsBounds config script → NoneIsMissed result }
 {
-    let Ok(run) = run_plain(alloc, config, script, steps) else {
+    let Ok(bench) = Bench::new(alloc, config, script) else {
         return Status::Memory;
     };
-    match put_events(&config.parts().names, run.events.as_slice(), output) {
-        Ok(()) => run_status(run.end, run.tick),
+    match write_run(bench, output, steps) {
+        Ok(report) => run_status(report.end, report.ticks),
         Err(_) => Status::WriteFault,
     }
 }

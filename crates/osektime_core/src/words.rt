@@ -6,6 +6,7 @@ ghost use Rattle.osektime_core.specs.Words.{command_of};
 use std::alloc::Global;
 use std::marker::Model;
 use tt_base::Memory;
+use tt_doc::number;
 
 /// What a user asks for.
 #[derive(Clone, Copy, Debug, PartialEq, Eq)]
@@ -18,6 +19,10 @@ pub enum Command {
     Table,
     /// `check`: the schedule check, with the response end of each activation.
     Check,
+    /// `load`: what the run comes to, in numbers.
+    Load,
+    /// `bulk N`: the same for the bulk document of this number.
+    Bulk(u32),
 }
 
 /// The words of a command line, without the program's name. Contracts see them as a list of byte
@@ -68,6 +73,7 @@ impl Words {
     {
         match self.words.as_slice() {
             [word] => command_named(word.as_slice()),
+            [word, number] => command_numbered(word.as_slice(), number.as_slice()),
             _ => None,
         }
     }
@@ -88,5 +94,20 @@ fn command_named(word: &[u8]) -> Option<Command>
     if word == b"check".as_slice() {
         return Some(Command::Check);
     }
+    if word == b"load".as_slice() {
+        return Some(Command::Load);
+    }
     None
+}
+
+fn command_numbered(word: &[u8], text: &[u8]) -> Option<Command>
+    ensures { result ≡ command_of (word.now ∷ text.now ∷ []) }
+{
+    if word != b"bulk".as_slice() {
+        return None;
+    }
+    match u32::try_from(number(text)?) {
+        Ok(number) => Some(Command::Bulk(number)),
+        Err(_) => None,
+    }
 }

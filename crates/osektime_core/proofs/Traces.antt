@@ -1,0 +1,40 @@
+-- What a run puts to a recorder before a sink.
+use Rattle.std.proofs.Common.{◌≡◌, ℕ, ◌≤◌, List, Option}
+use Rattle.tt_base.specs.declared.event.Event.{Event}
+use Rattle.tt_base.specs.declared.names.NameEntry.{NameEntry}
+use Rattle.tt_io.specs.Count.{Rose}
+use Rattle.trace_text.specs.SinkRecorder.{sink_of}
+use Rattle.trace_text.specs.declared.recorder.Recorder.{Ghosts}
+use Rattle.trace_text.specs.declared.sink_recorder.SinkRecorder.{SinkRecorder}
+use Rattle.trace_text.proofs.Sending.{cut_text, noted_text, to_sink}
+use Rattle.tt_world.specs.Schedule.{schedule}
+use Rattle.stack_dispatch.specs.Reports.{Benched, Ran}
+use Rattle.stack_dispatch.specs.declared.report.Run.{Run}
+use Rattle.stack_dispatch.specs.declared.report.Run.TheVariants.{Ended, Failed}
+use Rattle.osektime_core.specs.Runs.{PutsRun}
+
+module _ {O : Type 0} (written : O → Option (List ℕ)) (faults : O → ℕ) (b : Benched) (s t : SinkRecorder O) where
+  -- the text of the schedule was put, or cut
+  pub puts_run : (run : Run) → Ran (to_sink written faults) b s t run → PutsRun written b.config b.script s t run
+  puts_run (Ended report) p =
+      (noted_text written faults b.config.names s (schedule b.config b.script) t p.noted, p.reports)
+  puts_run Failed p = cut_text written faults b.config.names s (schedule b.config b.script) t p
+
+  -- a run that failed had a fault
+  pub run_cause : (run : Run) → Ran (to_sink written faults) b s t run → run ≡ Failed
+      → Rose (faults (sink_of s).now) (faults (sink_of t).now)
+  run_cause (Ended report) p is = absurd (cc is)
+  run_cause Failed p is = p.cause
+
+  -- the count of faults did not fall
+  pub run_never_falls : (run : Run) → Ran (to_sink written faults) b s t run
+      → faults (sink_of s).now ≤ faults (sink_of t).now
+  run_never_falls (Ended report) p = p.noted.never_falls
+  run_never_falls Failed p = p.never_falls
+
+-- a recorder that is never cut does not fail
+pub never_fails : {S : Type 0} (r : Ghosts S) (b : Benched) (s t : S) (run : Run)
+    → ((before : S) (event : Event) (names : List NameEntry) (after : S) → r.cut before event names after → ⊥)
+    → Ran r b s t run → run ≡ Failed → ⊥
+never_fails r b s t (Ended report) none p is = cc is
+never_fails r b s t Failed none p is = none p.middle p.next b.config.names t p.cut
