@@ -6,6 +6,7 @@ pub mod Enabling
 pub mod Firsts
 pub mod Foreseen
 pub mod Idling
+pub mod Laws
 pub mod Marks
 pub mod Opened
 pub mod OsekTasks

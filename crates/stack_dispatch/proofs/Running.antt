@@ -132,7 +132,7 @@ module _ {L : Type 0} {Told : L → List Event → L → Type 0} (telling : IsTe
       unfolding schedule instant_at
       number_is =
           ap (λ (x : World). x.number) g.world_is ∙ ap (λ x. (instant c s x).world.number) a.world
-          ∙ sym (last_round_is c s bounded v.tick a.going over)
+          ∙ sym (last_round_is c s v.tick a.going)
           ∙ ap (λ (k : ℕ). last_round (events_before c s (suc k))) at_last
 
       says : EndsAs (Some last) v.tick (schedule c s)

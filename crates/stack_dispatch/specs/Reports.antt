@@ -6,6 +6,7 @@ use Rattle.tt_io.specs.Count.{counted}
 use Rattle.tt_world.specs.declared.config.ConfigParts.{ConfigParts}
 use Rattle.tt_world.specs.declared.script.ScriptParts.{ScriptParts}
 use Rattle.tt_world.specs.declared.world.RunEnd.TheVariants as ending
+use Rattle.tt_world.specs.EventLaws.{ActivatesRows, ChecksMonitor, InterruptsWait, OwnersRun}
 use Rattle.tt_world.specs.ScriptRules.{IsScript}
 use Rattle.tt_world.specs.Schedule.{last_instant, schedule}
 use Rattle.tt_world.specs.Status.{last_stamp, status_by, status_of}
@@ -76,6 +77,15 @@ Ran r b before after Failed = CutWithin r b.config.names before (schedule b.conf
 abbrev pub OnEnded : Run → (Report → Type 0) → Type 0
 OnEnded (Ended report) P = P report
 OnEnded Failed P = ⊤
+
+-- the laws that are read from the events alone: the activations of each round are those of its mode; the owner of each
+-- tick is the one whom the order of the standard names, also in idle time; each check comes at its point; and each
+-- acceptance of an interrupt has its arrival and its enable
+pub record KeepsLaws (c : ConfigParts) (events : List Event) : Type 0 where
+  pub activations : ActivatesRows c events
+  pub owners : OwnersRun c events
+  pub checks : ChecksMonitor c events
+  pub interrupts : InterruptsWait c events
 
 -- it did not end by a missed deadline
 abbrev pub IsNotMissed : Run → Type 0

@@ -37,13 +37,12 @@ impl Model for Bench {
 }
 
 impl Bench {
-    ghost use Rattle.tt_world.specs.EventLaws.{ActivatesRows, ChecksMonitor, InterruptsWait, OwnersRun};
     ghost use Rattle.tt_world.specs.Schedule.{schedule};
     ghost use Rattle.schedule_check.specs.declared.answers.CheckAnswer.TheVariants.{Yes};
     ghost use Rattle.schedule_check.specs.DeadlineLaws.{NoneMissed};
     ghost use Rattle.schedule_check.specs.Kept.{KeepsBounds};
     ghost use Rattle.schedule_check.specs.Responses.{answer_of};
-    ghost use Rattle.stack_dispatch.specs.Reports.{IsNotMissed, Ran};
+    ghost use Rattle.stack_dispatch.specs.Reports.{IsNotMissed, KeepsLaws, Ran};
 
     /// A configuration on the bench, with a script that was made for it. It makes all codes,
     /// tables and counters. Out of memory is its one refusal.
@@ -69,10 +68,7 @@ impl Bench {
         ensures ran { Ran R.Recorder self recorder.old recorder.new result }
 
         // The laws of the events that an ended run told, read from them without a state of the run.
-        ensures activations { ActivatesRows self.config (schedule self.config self.script) }
-        ensures owners { OwnersRun self.config (schedule self.config self.script) }
-        ensures checks { ChecksMonitor self.config (schedule self.config self.script) }
-        ensures interrupts { InterruptsWait self.config (schedule self.config self.script) }
+        ensures laws { KeepsLaws self.config (schedule self.config self.script) }
 
         // Where the check of the configuration says yes and the script keeps its bounds, no
         // deadline is missed.

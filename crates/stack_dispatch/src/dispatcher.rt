@@ -50,7 +50,7 @@ impl State {
             return;
         };
         let task = table.activation(entry).task;
-        self.stack.activate(task);
+        self.stack.activate(task, 0);
         log.tell(Event::Activate {
             at: self.tick,
             task,

@@ -27,8 +27,7 @@ impl Peaks {
           words = max self.old.words (words_of config.now state.now.world);
         } }
     {
-        let words = state.stack.words(config, state.mode_of(config));
-        self.deepest = self.deepest.max(state.stack.depth() as u64);
-        self.words = self.words.max(words);
+        self.deepest = self.deepest.max(state.depth());
+        self.words = self.words.max(state.words(config));
     }
 }

@@ -1,6 +1,7 @@
 //! The state of a run.
 
 ghost use Rattle.std.specs.Prelude.{◌≡◌};
+ghost use Rattle.tt_world.specs.Load.{depth_of, words_of};
 ghost use Rattle.tt_world.specs.Rows.{HasMode, offset_of, mode_of, row_of};
 
 use isr_window::Gates;
@@ -110,6 +111,21 @@ impl State {
         ensures { result ≡ self.now.world.number }
     {
         self.round.number()
+    }
+
+    /// How many activations and time-triggered routines are unfinished.
+    pub(crate) fn depth(&self) -> u64
+        ensures { result ≡ depth_of self.now.world }
+    {
+        self.stack.depth() as u64
+    }
+
+    /// The words of stack that those unfinished take.
+    pub(crate) fn words(&self, config: &ConfigParts) -> u64
+        requires { HasMode config.now self.now.world }
+        ensures { result ≡ words_of config.now self.now.world }
+    {
+        { let _mode = self.mode_of(config); self.stack.words() }
     }
 
     /// The offset of the instant in the present round.

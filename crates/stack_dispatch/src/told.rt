@@ -54,7 +54,7 @@ pub(crate) fn run_told<R: Recorder, L: Ledger>(
     let last = run(config, script, tables, state, &mut log, steps);
     let answer = answer(last, &log);
     let Log {
-        recorder: _,
+        recorder: _recorder,
         names: _,
         failed: _,
         events: _,

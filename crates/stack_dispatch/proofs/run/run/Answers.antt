@@ -53,7 +53,7 @@ returns-in-Some g c =
           c.pass.new.self.world
           c.instants.log c.pass.new.log _ c.instants.invariant.at c.pass.ensures.gives c.in-Some.end c.in-Some.is
           bounded;
-      rounds = c.round_number-rounds.ensures
+      rounds = c.round_number.ensures
           ∙ number_is (telling g.R.Recorder) c.args.config.now c.args.script.now c.args.log.now c.instants.state.world
           c.pass.new.self.world
           c.instants.log c.pass.new.log _ c.instants.invariant.at c.pass.ensures.gives c.in-Some.end c.in-Some.is

@@ -14,5 +14,5 @@ returns g c =
     (FailsWithin r l (schedule c.args.config.now c.args.script.now) c.run-last.new.log)
     (λ (last : Last). EndsAll r c.args.config.now c.args.script.now l c.run-last.new.log last))
     c.new-log.ensures c.run-last.ensures in
-    told_run r b c.args.recorder c.run-last.new.log c.run-last.result ran c.answer-answer.result
+    told_run r b _ c.run-last.new.log c.run-last.result ran c.answer-answer.result
     c.answer-answer.ensures.value c.answer-answer.ensures.ready
