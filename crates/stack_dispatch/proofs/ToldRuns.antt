@@ -15,7 +15,7 @@ use Rattle.stack_dispatch.specs.declared.report.Report.{Report}
 use Rattle.stack_dispatch.specs.declared.report.Run.{Run}
 use Rattle.stack_dispatch.specs.declared.report.Run.TheVariants.{Ended, Failed}
 use Rattle.stack_dispatch.specs.Reports.{Benched, EndsAll, FailsWithin, OnEnded, Ran, answered}
-use Rattle.stack_dispatch.specs.Told.{Logged, Keeps, ByFailed, Tells, fresh}
+use Rattle.stack_dispatch.specs.Told.{Logged, IsFresh, Keeps, ByFailed, Tells}
 
 module _ {S : Type 0} (r : Ghosts S) (names : List NameEntry) where
   cut_by : (failed : Bool) (s t : S) (events : List Event) → failed ≡ true → ByFailed r names false s events failed t
@@ -27,6 +27,17 @@ module _ {S : Type 0} (r : Ghosts S) (names : List NameEntry) where
       → ByFailed r names false s events failed t → Notes r names s events t
   notes_by true s t events e ready p = cc
   notes_by false s t events e ready p = record { kept = p.kept; ready = ready; never_falls = p.never_falls }
+
+-- a log to which nothing was told yet
+abbrev fresh : {S : Type 0} → MutBor S → List NameEntry → Logged S
+fresh lent names = record { recorder = lent; names = names; failed = false; events = 0; activations = 0 }
+
+fresh_is : {S : Type 0} (names : List NameEntry) (log : Logged S) → IsFresh names log → fresh log.recorder names ≡ log
+fresh_is names log f =
+    sym (ap (λ ns. record log { names = ns }) f.names_are
+    ∙ ap (λ failed. record log { names = names; failed = failed }) f.not_failed
+    ∙ ap (λ (k : ℕ). record log { names = names; failed = false; events = k }) f.no_events
+    ∙ ap (λ (k : ℕ). record log { names = names; failed = false; events = 0; activations = k }) f.no_activations)
 
 module _ {S : Type 0} (r : Ghosts S) (b : Benched) (lent : MutBor S) (after : Logged S) where
   abbrev events : List Event
@@ -75,8 +86,21 @@ module _ {S : Type 0} (r : Ghosts S) (b : Benched) (lent : MutBor S) (after : Lo
         };
       })
 
-  pub told_run : (last : Option Last) → Ended_so last → (run : Run) → run ≡ answered last after
+  told_run : (last : Option Last) → Ended_so last → (run : Run) → run ≡ answered last after
       → OnEnded run (λ _. IsTrue (r.ready after.recorder.now)) → Ran r b lent.now after.recorder.now run
   told_run None p run run_is ready =
       subst (Ran r b lent.now after.recorder.now) (sym run_is) (ran_failed p.front p.rest p.split p.told p.failed)
   told_run (Some last) p run run_is ready = ran_by after.failed refl last p run run_is ready
+
+-- a run that was told to a log to which nothing was told before
+pub logged_run : {S : Type 0} (r : Ghosts S) (b : Benched) (before after : Logged S) (last : Option Last) (run : Run)
+    → IsFresh b.config.names before
+    → MatchOption last (FailsWithin r before (schedule b.config b.script) after)
+    (λ (l : Last). EndsAll r b.config b.script before after l)
+    → run ≡ answered last after → OnEnded run (λ _. IsTrue (r.ready after.recorder.now))
+    → Ran r b before.recorder.now after.recorder.now run
+logged_run {S} r b before after last run is_fresh ended run_is ready =
+    told_run r b before.recorder after last
+    (subst (λ (log : Logged S). MatchOption last (FailsWithin r log (schedule b.config b.script) after)
+    (λ (l : Last). EndsAll r b.config b.script log after l))
+    (sym (fresh_is b.config.names before is_fresh)) ended) run run_is ready

@@ -17,9 +17,12 @@ pub record Logged (S : Type 0) : Type 0 where
   pub events : ℕ
   pub activations : ℕ
 
--- a log that lends this recorder, and to which nothing was told yet
-abbrev pub fresh : {S : Type 0} → MutBor S → List NameEntry → Logged S
-fresh lent names = record { recorder = lent; names = names; failed = false; events = 0; activations = 0 }
+-- a log with these names to which nothing was told yet
+pub record IsFresh {S : Type 0} (names : List NameEntry) (log : Logged S) : Type 0 where
+  pub names_are : log.names ≡ names
+  pub not_failed : log.failed ≡ false
+  pub no_events : log.events ≡ 0
+  pub no_activations : log.activations ≡ 0
 
 -- it noted these events with these names
 pub record Keeps {S : Type 0} (r : Ghosts S) (names : List NameEntry) (before : S) (events : List Event) (after : S)

@@ -50,7 +50,7 @@ impl State {
             return;
         };
         let task = table.activation(entry).task;
-        self.stack.activate(task, 0);
+        self.stack.activate(task);
         log.tell(Event::Activate {
             at: self.tick,
             task,

@@ -158,7 +158,7 @@ impl State {
         ensures beside { self.new.beside ≡ self.old.beside }
     {
         match source {
-            Owner::Isr(isr) => self.stack.accept(isr, 0),
+            Owner::Isr(isr) => self.stack.accept(isr),
             Owner::Oisr(oisr) => self.osek.accept(self.stack.codes(), oisr),
             _ => {}
         }

@@ -3,7 +3,7 @@
 ghost use Rattle.std.specs.Prelude.{◌≡◌, [], ◌∷◌, false, IsTrue};
 ghost use Rattle.tt_io.specs.Count.{counted};
 ghost use Rattle.tt_world.specs.Load.{activations_in};
-ghost use Rattle.stack_dispatch.specs.Told.{Tells, fresh};
+ghost use Rattle.stack_dispatch.specs.Told.{IsFresh, Tells};
 
 use std::marker::Model;
 use trace_text::{Noted, Recorder};
@@ -53,7 +53,9 @@ impl<'a, R: Recorder> Log<'a, R> {
     /// A log that lends this recorder, and to which nothing was told yet.
     pub(crate) fn new(recorder: &'a mut R, names: &'a Names) -> Log<'a, R>
         requires { IsTrue (R.ready recorder.old) }
-        ensures { result ≡ fresh recorder.entry names.now }
+        ensures same_recorder { result.recorder.ghost_name ≡ recorder.entry.ghost_name }
+        ensures recorder { result.recorder.now ≡ recorder.old }
+        ensures fresh { IsFresh names.now result }
     {
         Log {
             recorder,

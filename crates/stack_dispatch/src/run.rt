@@ -44,7 +44,8 @@ pub(crate) fn run<R: Recorder, L: Ledger>(
     requires script { IsScript config.now script.now }
     requires tables { tables.now ≡ tables_of config.now }
     requires state { state ≡ first_state config.now script.now }
-    ensures { MatchOption result
+    ensures same_recorder { log.new.recorder.ghost_name ≡ log.old.recorder.ghost_name }
+    ensures ran { MatchOption result
         (FailsWithin R.Recorder log.old (schedule config.now script.now) log.new)
         (λ last. EndsAll R.Recorder config.now script.now log.old log.new last) }
 {

@@ -125,7 +125,7 @@ impl State {
         requires { HasMode config.now self.now.world }
         ensures { result ≡ words_of config.now self.now.world }
     {
-        { let _mode = self.mode_of(config); self.stack.words() }
+        self.stack.words(config, self.mode_of(config))
     }
 
     /// The offset of the instant in the present round.

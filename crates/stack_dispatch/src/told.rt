@@ -3,6 +3,7 @@
 ghost use Rattle.std.specs.Prelude.{◌≡◌, IsTrue};
 ghost use Rattle.tt_world.specs.ConfigRules.{IsConfig};
 ghost use Rattle.stack_dispatch.specs.Reports.{IsMade, OnEnded, Ran, answered};
+ghost use Rattle.stack_dispatch.specs.Told.{IsFresh};
 
 use crate::log::Log;
 use crate::report::{Report, Run};
@@ -35,7 +36,29 @@ fn answer<R: Recorder>(last: Option<Last>, log: &Log<R>) -> Run
     })
 }
 
-/// A run of parts that meet the rules, from the state before tick 0 on, told to a recorder.
+/// A run of parts that meet the rules, from the state before tick 0 on, told to a log to which
+/// nothing was told before.
+fn run_logged<R: Recorder, L: Ledger>(
+    config: &ConfigParts,
+    script: &ScriptParts,
+    tables: &Tables,
+    state: State,
+    log: &mut Log<R>,
+    steps: &mut Steps<L>,
+) -> Run
+    requires rules { IsConfig config.now }
+    requires made { IsMade config.now script.now tables.now state }
+    requires fresh { IsFresh config.now.names log.old }
+    ensures same_recorder { log.new.recorder.ghost_name ≡ log.old.recorder.ghost_name }
+    ensures ran { Ran R.Recorder (record { config = config.now; script = script.now })
+        log.old.recorder.now log.new.recorder.now result }
+{
+    let last = run(config, script, tables, state, log, steps);
+    answer(last, log)
+}
+
+/// A run of parts that meet the rules, from the state before tick 0 on, told to a recorder. The log
+/// is taken apart at the end, so that the recorder is seen to be given back.
 pub(crate) fn run_told<R: Recorder, L: Ledger>(
     config: &ConfigParts,
     script: &ScriptParts,
@@ -51,8 +74,7 @@ pub(crate) fn run_told<R: Recorder, L: Ledger>(
         recorder.old recorder.new result }
 {
     let mut log = Log::new(recorder, &config.names);
-    let last = run(config, script, tables, state, &mut log, steps);
-    let answer = answer(last, &log);
+    let answer = run_logged(config, script, tables, state, &mut log, steps);
     let Log {
         recorder: _recorder,
         names: _,

@@ -35,8 +35,18 @@ pass-requires-clause-can g c =
     c.requires.config
     c.requires.script c.instants.invariant.at c.instants.invariant.fixed c.instants.invariant.sources
 
-pub returns-in-Some : goal.returns-in-Some
-returns-in-Some g c =
+pub returns-in-Some-clause-same_recorder : goal.returns-in-Some-clause-same_recorder
+returns-in-Some-clause-same_recorder g c =
+    (told_next (telling g.R.Recorder) c.args.config.now c.args.script.now c.args.log.now c.instants.state.world
+    c.pass.new.self.world c.instants.log c.pass.new.log _ c.instants.invariant.at c.pass.ensures.gives).same_recorder
+
+pub returns-then-failed-clause-same_recorder : goal.returns-then-failed-clause-same_recorder
+returns-then-failed-clause-same_recorder g c =
+    (told_next (telling g.R.Recorder) c.args.config.now c.args.script.now c.args.log.now c.instants.state.world
+    c.pass.new.self.world c.instants.log c.pass.new.log _ c.instants.invariant.at c.pass.ensures.gives).same_recorder
+
+pub returns-in-Some-clause-ran : goal.returns-in-Some-clause-ran
+returns-in-Some-clause-ran g c =
     let bounded = are_bounded c.args.config.now c.args.script.now c.requires.config c.requires.script in
     record {
       told = all_told (telling g.R.Recorder) c.args.config.now c.args.script.now c.args.log.now c.instants.state.world
@@ -99,8 +109,8 @@ instants-smaller g c =
     c.pass.new.self.world
     c.instants.log c.pass.new.log _ c.instants.invariant.at c.pass.ensures.gives c.in_default.is)
 
-pub returns-then-failed : goal.returns-then-failed
-returns-then-failed g c =
+pub returns-then-failed-clause-ran : goal.returns-then-failed-clause-ran
+returns-then-failed-clause-ran g c =
     let bounded = are_bounded c.args.config.now c.args.script.now c.requires.config c.requires.script in
     record {
       front = events_before c.args.config.now c.args.script.now (c.instants.state.world.tick + 1);

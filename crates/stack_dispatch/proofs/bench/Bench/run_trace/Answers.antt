@@ -23,4 +23,5 @@ returns-clause-not_missed g c = λ said kept.
     run_meets c.args.self.config c.args.self.script
     (subst IsConfig (ap (λ (b : Benched). b.config) c.self.view_is) c.parts.ensures.rules)
     (subst (λ (b : Benched). IsScript b.config b.script) c.self.view_is c.self.invariant.script_is)
-    g.R.Recorder _ _ c.run_told.result ? said kept
+    g.R.Recorder _ _ c.run_told.result
+    (subst (λ (b : Benched). Ran g.R.Recorder b _ _ c.run_told.result) c.self.view_is c.run_told.ensures) said kept
