@@ -37,7 +37,7 @@ declare -A about=(
         '# '*) text=${first#\# } ;;
         *) text="${name//_/ }" ;;
       esac
-      echo "- [$name]($document): ${text%.}."
+      echo "- [$name]($document): ${text%.}." | fold -s -w 136 | sed 's/ *$//; 2,$s/^/  /'
     done
   done
 } >README.md

@@ -1,21 +1,25 @@
 -- What the runner knows of the sources while it accepts interrupts.
-use Rattle.std.proofs.Common.{◌≡◌, ◌≢◌, ℕ, zero, suc, ◌<◌, ◌≤◌, ◌+◌, List, [], Bool, true, false, refl, ap, sym, ◌∙◌, length, arith, get_or, set, get_or-set_same, get_or-set_other, ⊎_elim}
-use Rattle.std.specs.Prelude.{not, replicate, Option, None, Some}
+use Rattle.std.proofs.Common.{◌≡◌, ◌≢◌, ℕ, zero, suc, ◌<◌, ◌≤◌, ◌+◌, List, [], Bool, true, false, refl, ap, sym, ◌∙◌, subst, length, arith, get_or, set, get_or-set_same, get_or-set_other, ⊎_elim}
+use Rattle.std.specs.Prelude.{◌&&◌, not, find, option_map, replicate, Option, None, Some}
 use Rattle.std.proofs.lemmas.List.{get_or_past, length-set}
-use Rattle.std.proofs.lemmas.Bool.{cases_eq}
+use Rattle.std.proofs.lemmas.Bool.{and_parts, cases_eq}
 use Rattle.task_lang.specs.declared.syntax.Stmt.{Stmt}
 use Rattle.tt_world.specs.Runners.{is_done}
 use Rattle.tt_base.specs.declared.event.Owner.{Owner}
 use Rattle.tt_base.specs.declared.event.Owner.TheVariants as owner
 use Rattle.tt_world.specs.declared.config.ConfigParts.{ConfigParts}
-use Rattle.tt_world.specs.Gates.{sources, source_owner, source_runner}
+use Rattle.tt_world.specs.Gates.{is_accepted, is_enabled, is_held, sources, source_owner, source_runner}
 use Rattle.tt_world.specs.Runners.{left_of}
 use Rattle.tt_world.specs.World.{World, Source, IsrSource, OisrSource}
 use Rattle.isr_window.specs.Busy.{BusySources, is_busy}
-use Rattle.isr_window.specs.Window.{Window, accepting}
-use Rattle.isr_window.specs.Played.{AreUnfinished, source_at, begun}
-use Rattle.isr_window.proofs.Places.{IsSource, IsIsr, IsOisr, source_is}
-use Rattle.stack_dispatch.specs.Due.{AreMarked}
+use Rattle.isr_window.specs.Window.{Window, accepting, first_ready, is_ready}
+use Rattle.isr_window.specs.Played.{AreSourcesOf, AreUnfinished, no_source, source_at, begun, with_window}
+use Rattle.isr_window.proofs.Acceptances.{accepted_is}
+use Rattle.isr_window.proofs.Arrivals.{found_some}
+use Rattle.isr_window.proofs.Places.{IsSource, IsIsr, IsOisr, all_sources_are, first_found, source_is}
+use Rattle.osek_idle.specs.Subsystem.{lefts, is_ready as is_ready_at}
+use Rattle.osek_idle.proofs.Picking.{AreSettled, ready_at}
+use Rattle.stack_dispatch.specs.Due.{AreMarked, CanBegin}
 use Rattle.stack_dispatch.specs.State.{RunState, Beside, window_in, with_sources}
 
 -- of 16 flags those below a number are set where something is left, and none from it on
@@ -36,7 +40,8 @@ none_marked lefts flags e = record {
     replicated (suc n) zero = refl
     replicated (suc n) (suc k) = replicated n k
 
-pub one_marked : (n : ℕ) (lefts : List (List Stmt)) (flags : List Bool) → n < 16 → is_done (get_or lefts n []) ≡ false → MarkedTo n lefts flags
+pub one_marked : (n : ℕ) (lefts : List (List Stmt)) (flags : List Bool) → n < 16 → is_done (get_or lefts n []) ≡ false
+    → MarkedTo n lefts flags
     → MarkedTo (n + 1) lefts (set flags n true)
 one_marked n lefts flags l u m =
     let long = m.long in
@@ -48,7 +53,8 @@ one_marked n lefts flags l u m =
       later = λ k h. get_or-set_other flags n k true false (λ e. absurd (omega arith)) ∙ m.later k (omega arith);
     }
 
-pub not_marked : (n : ℕ) (lefts : List (List Stmt)) (flags : List Bool) → is_done (get_or lefts n []) ≡ true → MarkedTo n lefts flags
+pub not_marked : (n : ℕ) (lefts : List (List Stmt)) (flags : List Bool) → is_done (get_or lefts n []) ≡ true
+    → MarkedTo n lefts flags
     → MarkedTo (n + 1) lefts flags
 not_marked n lefts flags d m = record {
   long = m.long;
@@ -58,14 +64,60 @@ not_marked n lefts flags d m = record {
   later = λ k h. m.later k (omega arith);
 }
 
--- the sources that are marked are those whose routine is unfinished
-pub are_unfinished : (c : ConfigParts) (busy : BusySources) (w : World) (g : Window) → AreMarked (length c.isrs) w.isrs busy.isrs
-    → AreMarked (length c.oisrs) w.oisrs busy.oisrs → AreUnfinished c busy w g
-are_unfinished c busy w g isrs oisrs = record { flags = λ place l _. of_source (source_at c place) (source_is c place l) }
+-- where one is ready something is left, and else nothing
+pub left_where : (states : List (Option (List Stmt))) (n : ℕ) → AreSettled states → is_ready_at states n ≡ true
+    → is_done (get_or (lefts states) n []) ≡ false
+left_where states n settled e = not_true _ (sym (ready_at states n settled) ∙ e)
   where
-    of_source : (x : Source) → IsSource c x → is_busy busy (source_owner x) ≡ not (is_done (left_of w (source_runner x)))
+    not_true : (b : Bool) → not b ≡ true → b ≡ false
+    not_true false e = refl
+    not_true true e = cc
+
+pub none_where : (states : List (Option (List Stmt))) (n : ℕ) → AreSettled states → is_ready_at states n ≡ false
+    → is_done (get_or (lefts states) n []) ≡ true
+none_where states n settled e = not_false _ (sym (ready_at states n settled) ∙ e)
+  where
+    not_false : (b : Bool) → not b ≡ false → b ≡ true
+    not_false true e = refl
+    not_false false e = cc
+
+-- the sources that are marked are those whose routine is unfinished
+pub are_unfinished : (c : ConfigParts) (busy : BusySources) (w : World) (g : Window)
+    → AreMarked (length c.isrs) w.isrs busy.isrs
+    → AreMarked (length c.oisrs) w.oisrs busy.oisrs → AreUnfinished c busy w g
+are_unfinished c busy w g isrs oisrs =
+    record { flags = λ place l _. of_source (source_at c place) (source_is c place l) }
+  where
+    of_source : (x : Source) → IsSource c x
+        → is_busy busy (source_owner x) ≡ not (is_done (left_of w (source_runner x)))
     of_source x (IsIsr k l) = isrs k l
     of_source x (IsOisr k l) = oisrs k l
+
+-- the routine of a source whose interrupt is accepted can begin
+module _ (c : ConfigParts) (w : World) where
+  of_accepted : (x : Source) → IsSource c x → is_accepted w x ≡ true → CanBegin c (source_owner x) w
+  of_accepted x (IsIsr k l) e =
+      let open_done = (and_parts (is_held w x) (is_enabled w x && is_done (left_of w (source_runner x))) e).1 in
+      (l, (and_parts (is_enabled w x) (is_done (left_of w (source_runner x))) open_done).1)
+  of_accepted x (IsOisr k l) e = l
+
+  pub can_begin : (busy : BusySources) (g : Window) (who : Owner) → with_window w g ≡ w → AreSourcesOf c g
+      → AreUnfinished c busy w g → Some who ≡ option_map source_owner (first_ready busy g) → CanBegin c who w
+  can_begin busy g who seen are unfinished answer =
+      let found = found_some source_owner (first_ready busy g) who answer in
+      let first = first_found (is_ready busy g) (sources c) no_source found.0
+      (ap (find (is_ready busy g)) (sym (all_sources_are c g are)) ∙ found.1) in
+      let accepted = accepted_is c busy w g first.place seen unfinished first.within
+      ∙ ap (is_ready busy g) first.is ∙ first.passes in
+      subst (λ o. CanBegin c o w) (sym (found.2 ∙ ap source_owner (sym first.is)))
+      (of_accepted (source_at c first.place) (source_is c first.place first.within) accepted)
+
+-- whatever the gates are
+pub begins_with : (c : ConfigParts) (w : World) (g : Window) (who : Owner) → CanBegin c who w
+    → CanBegin c who (with_window w g)
+begins_with c w g (owner.Isr isr) h = h
+begins_with c w g (owner.Oisr oisr) h = h
+begins_with c w g _ h = tt
 
 -- a routine that begins leaves the sources as they are
 begun_window : (c : ConfigParts) (who : Owner) (w : World) (b : Beside)
@@ -82,7 +134,8 @@ accepted_window c who g st next world beside =
     ∙ begun_window c who (with_sources g st).world (with_sources g st).beside
 
 -- an acceptance leaves the arrivals to come as they are
-pub accepting_beside : (found : Option Source) (st : RunState) → (with_sources (accepting found (window_in st)) st).beside ≡ st.beside
+pub accepting_beside : (found : Option Source) (st : RunState)
+    → (with_sources (accepting found (window_in st)) st).beside ≡ st.beside
 accepting_beside None st = refl
 accepting_beside (Some (IsrSource isr)) st = refl
 accepting_beside (Some (OisrSource oisr)) st = refl

@@ -12,14 +12,14 @@ use Rattle.tt_world.specs.declared.world.Point.TheVariants as point
 use Rattle.tt_world.specs.ConfigRules.{is_activation}
 use Rattle.tt_world.specs.World.{World}
 use Rattle.tt_world.specs.Correction.{is_no_change, is_length}
-use Rattle.tt_world.specs.Moved.{Appends, Gives, Outcome, is_over, followed}
+use Rattle.tt_world.specs.Moved.{IsTelling, Gives, Outcome, is_over, followed}
 use Rattle.tt_world.specs.Monitoring.{Checked, monitored, after_checks, is_at, is_at_end}
 use Rattle.tt_world.specs.Points.{point_of}
 use Rattle.tt_world.specs.Rounds.{next_round, round_end}
 use Rattle.tt_world.specs.Rows.{no_row, offset_of, mode_of, row_of}
 use Rattle.tt_world.proofs.Deadlines.{IsFrom, point_is_from}
 use Rattle.tt_world.proofs.Keeps.{monitored_holds}
-use Rattle.tt_world.proofs.Moves.{gives_next, gives_stop, appends_is_telling}
+use Rattle.tt_world.proofs.Moves.{gives_next, gives_stop}
 use Rattle.tt_world.proofs.Parts.{Phase, Latched, Alone, Anything, led_on}
 use Rattle.tt_world.proofs.TableRows.{AreRows, mode_rows, deadline_after, list_all_get}
 use Rattle.tt_world.proofs.Time.{Stands}
@@ -46,85 +46,93 @@ least_length c (Some length) offset e h = let same = eqb-true length offset e in
 
 early : (c : ConfigParts) (row : Activation) → is_activation c row ≡ true → row.offset < c.round - c.adjust
 early c row e =
-    let parts = and_parts (nat_lt row.task.0 (length c.tasks)) (nat_lt row.offset row.deadline && nat_le row.deadline (c.round - c.adjust)) e in
+    let parts = and_parts (nat_lt row.task.0 (length c.tasks))
+    (nat_lt row.offset row.deadline && nat_le row.deadline (c.round - c.adjust)) e in
     let both = and_parts (nat_lt row.offset row.deadline) (nat_le row.deadline (c.round - c.adjust)) parts.1 in
     let before = ltb-true row.offset row.deadline both.0 in
     let upto = leb-true row.deadline (c.round - c.adjust) both.1 in omega arith
 
-module _ (phase : Phase) (c : ConfigParts) (s : ScriptParts) (table : TableRows) (w : World)
-    (served : IsServed phase c s w) (is_table : IsTableOf c table w) where
-  rows : AreRows c (mode_of c w)
-  rows = mode_rows c w.mode.0 served.rules
+module _ {L : Type 0} {Told : L → List Event → L → Type 0} (telling : IsTelling Told) where
+  module _ (phase : Phase) (c : ConfigParts) (s : ScriptParts) (table : TableRows) (w : World)
+      (served : IsServed phase c s w) (is_table : IsTableOf c table w) where
+    rows : AreRows c (mode_of c w)
+    rows = mode_rows c w.mode.0 served.rules
 
-  -- an entry whose monitoring point is the present offset has a job
-  due_there : (entry : ℕ) → entry < length (mode_of c w).activations
-      → is_at (offset_of w) (point_of (mode_of c w) (row_of (mode_of c w) entry)) ≡ true → entry < length w.jobs
-  due_there entry l here =
-      let mode = mode_of c w in
-      ⊎_elim (λ (there : entry < length w.jobs). there)
-      (λ (past : length w.jobs ≤ entry).
-      let later = served.placed.later entry past l in
-      let after = deadline_after c mode entry rows l in
-      let upto = at_point (offset_of w) _ _ here (point_is_from mode (row_of mode entry)) in absurd (omega arith))
-      (cases_lt entry (length w.jobs))
+    -- an entry whose monitoring point is the present offset has a job
+    due_there : (entry : ℕ) → entry < length (mode_of c w).activations
+        → is_at (offset_of w) (point_of (mode_of c w) (row_of (mode_of c w) entry)) ≡ true → entry < length w.jobs
+    due_there entry l here =
+        let mode = mode_of c w in
+        ⊎_elim (λ (there : entry < length w.jobs). there)
+        (λ (past : length w.jobs ≤ entry).
+        let later = served.placed.later entry past l in
+        let after = deadline_after c mode entry rows l in
+        let upto = at_point (offset_of w) _ _ here (point_is_from mode (row_of mode entry)) in absurd (omega arith))
+        (cases_lt entry (length w.jobs))
 
-  -- from the offset L - A on each entry has one
-  end_there : c.round - c.adjust ≤ offset_of w → (entry : ℕ) → entry < length (mode_of c w).activations
-      → entry < length w.jobs
-  end_there over entry l =
-      let mode = mode_of c w in
-      ⊎_elim (λ (there : entry < length w.jobs). there)
-      (λ (past : length w.jobs ≤ entry).
-      let later = served.placed.later entry past l in
-      let below = early c (row_of mode entry) (list_all_get (is_activation c) mode.activations entry no_row rows.activations l) in
-      absurd (omega arith))
-      (cases_lt entry (length w.jobs))
+    -- from the offset L - A on each entry has one
+    end_there : c.round - c.adjust ≤ offset_of w → (entry : ℕ) → entry < length (mode_of c w).activations
+        → entry < length w.jobs
+    end_there over entry l =
+        let mode = mode_of c w in
+        ⊎_elim (λ (there : entry < length w.jobs). there)
+        (λ (past : length w.jobs ≤ entry).
+        let later = served.placed.later entry past l in
+        let below = early c (row_of mode entry)
+        (list_all_get (is_activation c) mode.activations entry no_row rows.activations l) in
+        absurd (omega arith))
+        (cases_lt entry (length w.jobs))
 
-  by_entry : (is_due : Point → Bool)
-      → ((entry : ℕ) → entry < length (mode_of c w).activations
-      → is_due (point_of (mode_of c w) (row_of (mode_of c w) entry)) ≡ true → entry < length w.jobs)
-      → (entries : List ℕ) → entries ≡ entries_due is_due table.mode
-      → monitored_entries c table.mode entries w ≡ monitored c is_due w
-  by_entry is_due there entries are =
-      let same : table.mode ≡ mode_of c w = ap (λ (t : TableRows). t.mode) is_table in
-      ap (λ es. monitored_entries c table.mode es w) are
-      ∙ ap (λ (m : ModeDef). monitored_entries c m (entries_due is_due m) w) same
-      ∙ sym (ap (λ (all : Checked). after_checks c all.events all.missed w)
-      (checked_by_entry w.tick (mode_of c w) is_due w.jobs served.placed.entries served.placed.few there))
+    by_entry : (is_due : Point → Bool)
+        → ((entry : ℕ) → entry < length (mode_of c w).activations
+        → is_due (point_of (mode_of c w) (row_of (mode_of c w) entry)) ≡ true → entry < length w.jobs)
+        → (entries : List ℕ) → entries ≡ entries_due is_due table.mode
+        → monitored_entries c table.mode entries w ≡ monitored c is_due w
+    by_entry is_due there entries are =
+        let same : table.mode ≡ mode_of c w = ap (λ (t : TableRows). t.mode) is_table in
+        ap (λ es. monitored_entries c table.mode es w) are
+        ∙ ap (λ (m : ModeDef). monitored_entries c m (entries_due is_due m) w) same
+        ∙ sym (ap (λ (all : Checked). after_checks c all.events all.missed w)
+        (checked_by_entry w.tick (mode_of c w) is_due w.jobs served.placed.entries served.placed.few there))
 
-  module _ (a b : List Event) (v : World) (end : Outcome) (entries : List ℕ)
-      (g : Gives Appends a b v end (monitored_entries c table.mode entries w)) where
-    pub end_given : c.round - c.adjust ≤ offset_of w → entries ≡ entries_due (is_at_end (offset_of w)) table.mode
-        → Gives Appends a b v end (monitored c (is_at_end (offset_of w)) w)
-    end_given over are = subst (Gives Appends a b v end) (by_entry (is_at_end (offset_of w)) (λ entry l _. end_there over entry l) entries are) g
+    module _ (a b : L) (v : World) (end : Outcome) (entries : List ℕ)
+        (g : Gives Told a b v end (monitored_entries c table.mode entries w)) where
+      pub end_given : c.round - c.adjust ≤ offset_of w → entries ≡ entries_due (is_at_end (offset_of w)) table.mode
+          → Gives Told a b v end (monitored c (is_at_end (offset_of w)) w)
+      end_given over are = subst (Gives Told a b v end)
+          (by_entry (is_at_end (offset_of w)) (λ entry l _. end_there over entry l) entries are) g
 
-    pub due_given : entries ≡ entries_due (is_at (offset_of w)) table.mode → Gives Appends a b v end (monitored c (is_at (offset_of w)) w)
-    due_given are = subst (Gives Appends a b v end) (by_entry (is_at (offset_of w)) due_there entries are) g
+      pub due_given : entries ≡ entries_due (is_at (offset_of w)) table.mode
+          → Gives Told a b v end (monitored c (is_at (offset_of w)) w)
+      due_given are = subst (Gives Told a b v end) (by_entry (is_at (offset_of w)) due_there entries are) g
 
--- an outcome that is an end
-pub over_from : (end : Outcome) → (end ≡ None → ⊥) → is_over end ≡ true
-over_from None ne = absurd (ne refl)
-over_from (Some end) ne = refl
+  -- an outcome that is an end
+  pub over_from : (end : Outcome) → (end ≡ None → ⊥) → is_over end ≡ true
+  over_from None ne = absurd (ne refl)
+  over_from (Some end) ne = refl
 
--- the round's end, where the round has its length
-module _ (c : ConfigParts) (s : ScriptParts) (w : World) (over : is_length w.latched (offset_of w) ≡ true) where
-  over_parts : round_end c s w ≡ followed (monitored c (is_at_end (offset_of w)) w) (next_round s)
-  unfolding round_end
-  over_parts = cond-true _ _ _ over
+  -- the round's end, where the round has its length
+  module _ (c : ConfigParts) (s : ScriptParts) (w : World) (over : is_length w.latched (offset_of w) ≡ true) where
+    over_parts : round_end c s w ≡ followed (monitored c (is_at_end (offset_of w)) w) (next_round s)
+    unfolding round_end
+    over_parts = cond-true _ _ _ over
 
-  module _ (a b : List Event) (v : World) (end : Outcome) (g : Gives Appends a b v end (monitored c (is_at_end (offset_of w)) w)) where
-    pub ended_stop : (end ≡ None → ⊥) → Gives Appends a b v end (round_end c s w)
-    ended_stop ne = subst (Gives Appends a b v end) (sym over_parts) (gives_stop a b v end _ (next_round s) (over_from end ne) g)
+    module _ (a b : L) (v : World) (end : Outcome)
+        (g : Gives Told a b v end (monitored c (is_at_end (offset_of w)) w)) where
+      pub ended_stop : (end ≡ None → ⊥) → Gives Told a b v end (round_end c s w)
+      ended_stop ne = subst (Gives Told a b v end) (sym over_parts)
+          (gives_stop a b v end _ (next_round s) (over_from end ne) g)
 
-    pub ended_next : end ≡ None → (d : List Event) (u : World) (last : Outcome) → Gives Appends b d u last (next_round s v)
-        → Gives Appends a d u last (round_end c s w)
-    ended_next on d u last h =
-        subst (Gives Appends a d u last) (sym over_parts)
-        (gives_next appends_is_telling a b d v u last _ (next_round s) (subst (λ o. Gives Appends a b v o (monitored c (is_at_end (offset_of w)) w)) on g) h)
+      pub ended_next : end ≡ None → (d : L) (u : World) (last : Outcome) → Gives Told b d u last (next_round s v)
+          → Gives Told a d u last (round_end c s w)
+      ended_next on d u last h =
+          subst (Gives Told a d u last) (sym over_parts)
+          (gives_next telling a b d v u last _ (next_round s)
+          (subst (λ o. Gives Told a b v o (monitored c (is_at_end (offset_of w)) w)) on g) h)
 
--- checks after which the run goes on leave the world as it was
-pub checked_same : (c : ConfigParts) (is_due : Point → Bool) (w v : World) (a b : List Event)
-    → Gives Appends a b v None (monitored c is_due w) → v ≡ w
-checked_same c is_due w v a b g =
-    g.world_is ∙ led_on (Alone (λ u. u ≡ w)) Anything [] (monitored c is_due w) (ap is_over (sym g.end_is))
-    (monitored_holds (λ u. u ≡ w) c is_due w [] (λ _. refl))
+  -- checks after which the run goes on leave the world as it was
+  pub checked_same : (c : ConfigParts) (is_due : Point → Bool) (w v : World) (a b : L)
+      → Gives Told a b v None (monitored c is_due w) → v ≡ w
+  checked_same c is_due w v a b g =
+      g.world_is ∙ led_on (Alone (λ u. u ≡ w)) Anything [] (monitored c is_due w) (ap is_over (sym g.end_is))
+      (monitored_holds (λ u. u ≡ w) c is_due w [] (λ _. refl))

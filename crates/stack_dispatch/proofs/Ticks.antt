@@ -1,198 +1,405 @@
--- The tick of the one who runs, as the code takes it: in place, and then what follows from its effect.
-use Rattle.std.proofs.Common.{ℕ, ◌≡◌, ◌-◌, ◌≤◌, List, [], ◌∷◌, ◌++◌, true, false, Bool, refl, ap, sym, ◌∙◌, None, Some, subst, arith, append-nil, append_assoc}
-use Rattle.std.specs.Prelude.{ℤ, ◌&&◌, Option, option_map, length}
-use Rattle.task_lang.specs.Tick.{tick}
+-- The tick of the one who runs, as the code takes it: on the stack or in idle time, and then what follows from its
+-- effect.
+use Rattle.std.proofs.Common.{ℕ, ◌≡◌, ◌≢◌, ◌-◌, ◌≤◌, ◌<◌, List, [], ◌∷◌, true, false, Bool, refl, ap, sym, ◌∙◌, None, Some, subst, arith, length, ◌⊎◌, inl, inr, ⊎_elim}
+use Rattle.std.specs.Prelude.{ℤ, ◌||◌, ◌==◌, Option, option_map, if◌then◌else◌}
+use Rattle.std.proofs.lemmas.Bool.{cond_both, cases_Bool, ltb-true}
+use Rattle.task_lang.specs.Tick.{supply_of}
 use Rattle.task_lang.specs.Limits.{names_below}
+use Rattle.task_lang.specs.Allowed.{may_call, column}
 use Rattle.task_lang.specs.declared.syntax.Stmt.{Stmt}
 use Rattle.task_lang.specs.declared.tick.Effect.{Effect}
 use Rattle.task_lang.specs.declared.tick.Effect.TheVariants as effect
 use Rattle.tt_base.specs.declared.event.Call.{Call}
-use Rattle.tt_base.specs.declared.event.Event.{Event}
-use Rattle.tt_base.specs.declared.event.Event.TheVariants.{Out}
+use Rattle.tt_base.specs.declared.event.Call.TheVariants as call
 use Rattle.tt_base.specs.declared.event.Owner.{Owner}
+use Rattle.tt_base.specs.declared.event.Owner.TheVariants as owner
+use Rattle.tt_base.specs.declared.number.ModeNo.{ModeNo}
+use Rattle.tt_base.specs.declared.number.OsekNo.{OsekNo}
 use Rattle.tt_world.specs.declared.config.ConfigParts.{ConfigParts}
 use Rattle.tt_world.specs.declared.script.ScriptParts.{ScriptParts}
 use Rattle.tt_world.specs.declared.world.Runner.{Runner}
 use Rattle.tt_world.specs.declared.world.Runner.TheVariants as runner
 use Rattle.tt_world.specs.ConfigRules.{IsConfig, IsRunnable}
-use Rattle.tt_world.specs.World.{World}
-use Rattle.tt_world.specs.Moved.{Moved, Outcome, Appends, Gives, preceded, followed, is_over}
+use Rattle.tt_world.specs.World.{World, Job}
+use Rattle.tt_world.specs.Rows.{osek_body}
 use Rattle.tt_world.specs.Runners.{is_done, kind_of, left_of, leaving, first_runner, runner_of, owner_of}
-use Rattle.tt_world.specs.Step.{state_after, effected, runner_tick, is_somebody, run_line, tick_over, step}
-use Rattle.tt_world.proofs.Forward.{effected_mid}
-use Rattle.tt_world.proofs.WhoRuns.{highest_undone}
+use Rattle.tt_world.specs.Services.{Answer, answers, ends_with, service, synced, ready, is_suspended, is_caller}
+use Rattle.tt_world.specs.Step.{state_after}
+use Rattle.tt_world.proofs.Calling.{EffectsAllowed, effects_allowed}
+use Rattle.tt_world.proofs.Keeps.{AfterService, service_answers}
 use Rattle.tt_world.proofs.Modes.{EffectsNamed, effects_named}
-use Rattle.tt_world.proofs.Moves.{gives_next, gives_stop, appends_is_telling}
-use Rattle.tt_world.proofs.Still.{owner_ends}
-use Rattle.tt_world.proofs.WhoRuns.{last_found_at}
-use Rattle.stack_dispatch.specs.Serving.{IsCalling}
-use Rattle.stack_dispatch.specs.Ticking.{IsReady, TicksLeft, IsTick, Calls}
-use Rattle.stack_dispatch.proofs.Leaving.{left_then}
+use Rattle.tt_world.proofs.WhoRuns.{highest_undone, last_found_at}
+use Rattle.round_end.specs.Round.{Round, next_time}
+use Rattle.round_end.specs.Round.{synced as synced_round}
+use Rattle.osek_idle.specs.Subsystem.{Subsystem, Setup, is_ready, lefts, readied, suspended, activated, chained, result_of, chain_result}
+use Rattle.tt_services.specs.Agreement.{RunsAs, IsCall, Agrees}
+use Rattle.tt_services.specs.Performed.{Performed, performed, MayCall, IsOsek, caller_of}
+use Rattle.tt_services.proofs.Agreeing.{agree}
+use Rattle.stack_dispatch.specs.declared.took.Did.TheVariants as did
+use Rattle.stack_dispatch.specs.declared.took.Taken.{Taken}
+use Rattle.stack_dispatch.specs.Effects.{Effected, effected, MayDo}
+use Rattle.stack_dispatch.specs.Ticking.{IsInIdleTime, GaveAnswer, TookBy}
 
 -- ---- the one who runs has something left
 
-ready_first : (w : World) (i t o k : Option ℕ) → ((n : ℕ) → i ≡ Some n → IsReady w (runner.Isr (record { 0 = n })))
-    → ((n : ℕ) → t ≡ Some n → IsReady w (runner.Job n))
-    → ((n : ℕ) → o ≡ Some n → IsReady w (runner.Oisr (record { 0 = n })))
-    → ((n : ℕ) → k ≡ Some n → IsReady w (runner.Osek (record { 0 = n })))
-    → IsReady w (first_runner (option_map (λ (n : ℕ). runner.Isr (record { 0 = n })) i
+-- somebody has something left
+abbrev HasSome : World → Runner → Type 0
+HasSome w runner.Nobody = Unit {0}
+HasSome w r = is_done (left_of w r) ≡ false
+
+some_first : (w : World) (i t o k : Option ℕ) → ((n : ℕ) → i ≡ Some n → HasSome w (runner.Isr (record { 0 = n })))
+    → ((n : ℕ) → t ≡ Some n → HasSome w (runner.Job n))
+    → ((n : ℕ) → o ≡ Some n → HasSome w (runner.Oisr (record { 0 = n })))
+    → ((n : ℕ) → k ≡ Some n → HasSome w (runner.Osek (record { 0 = n })))
+    → HasSome w (first_runner (option_map (λ (n : ℕ). runner.Isr (record { 0 = n })) i
     ∷ option_map (λ (n : ℕ). runner.Job n) t ∷ option_map (λ (n : ℕ). runner.Oisr (record { 0 = n })) o
     ∷ option_map (λ (n : ℕ). runner.Osek (record { 0 = n })) k ∷ []))
-ready_first w (Some n) t o k a b d e = a n refl
-ready_first w None (Some n) o k a b d e = b n refl
-ready_first w None None (Some n) k a b d e = d n refl
-ready_first w None None None (Some n) a b d e = e n refl
-ready_first w None None None None a b d e = tt
+some_first w (Some n) t o k a b d e = a n refl
+some_first w None (Some n) o k a b d e = b n refl
+some_first w None None (Some n) k a b d e = d n refl
+some_first w None None None (Some n) a b d e = e n refl
+some_first w None None None None a b d e = tt
 
-is_ready : (c : ConfigParts) (w : World) (r : Runner) → r ≡ runner_of c w → IsReady w r
+has_some : (c : ConfigParts) (w : World) (r : Runner) → r ≡ runner_of c w → HasSome w r
 unfolding runner_of
-is_ready c w r e = subst (IsReady w) (sym e) (ready_first w _ _ _ _ (λ n. highest_undone _ w.isrs n)
+has_some c w r e = subst (HasSome w) (sym e) (some_first w _ _ _ _ (λ n. highest_undone _ w.isrs n)
     (λ n h. let z : n - 0 ≡ n = omega arith in
-    subst (λ (k : ℕ). IsReady w (runner.Job k)) z (last_found_at w.jobs n h).undone)
+    subst (λ (k : ℕ). HasSome w (runner.Job k)) z (last_found_at w.jobs n h).undone)
     (λ n. highest_undone _ w.oisrs n) (λ n. highest_undone _ w.oseks n))
 
-has_some : (w : World) (r : Runner) → IsReady w r → (r ≡ runner.Nobody → ⊥) → is_done (left_of w r) ≡ false
-has_some w (runner.Isr i) h n = h
-has_some w (runner.Job i) h n = h
-has_some w (runner.Oisr i) h n = h
-has_some w (runner.Osek i) h n = h
-has_some w runner.Nobody h n = absurd (n refl)
+not_empty : (left : List Stmt) → is_done left ≡ false → left ≢ []
+not_empty left e none = let both : true ≡ false = sym (ap is_done none) ∙ e in cc
 
-pub somebody_ready : (c : ConfigParts) (w : World) (r : Runner) → r ≡ runner_of c w → (r ≡ runner.Nobody → ⊥)
-    → is_done (left_of w r) ≡ false
-somebody_ready c w r e n = has_some w r (is_ready c w r e) n
+some_idle : (w : World) (r : Runner) → IsInIdleTime r → HasSome w r → left_of w r ≢ []
+some_idle w (runner.Oisr i) on h = not_empty _ h
+some_idle w (runner.Osek i) on h = not_empty _ h
+some_idle w (runner.Isr i) on h = absurd on
+some_idle w (runner.Job i) on h = absurd on
+some_idle w runner.Nobody on h = absurd on
 
--- what follows lines
-gives_after : (a b d line : List Event) (w : World) (end : Outcome) (m : Moved) → b ≡ a ++ line → Gives Appends b d w end m
-    → Gives Appends a d w end (preceded line m)
-gives_after a b d line w end m e g = record {
-  world_is = g.world_is;
-  told = g.told ∙ ap (λ x. x ++ m.events) e ∙ append_assoc a line m.events;
-  end_is = g.end_is;
+-- one who runs in idle time has something left
+pub idle_some : (c : ConfigParts) (w : World) (r : Runner) → r ≡ runner_of c w → IsInIdleTime r → left_of w r ≢ []
+idle_some c w r e on = some_idle w r on (has_some c w r e)
+
+-- ---- a call that the one who runs may make
+
+osek_column : (c : ConfigParts) (w : World) (r : Runner) → column (kind_of r) false false true false false ≡ true
+    → IsOsek (owner_of c w r)
+osek_column c w (runner.Osek t) e = tt
+osek_column c w (runner.Isr i) e = cc
+osek_column c w (runner.Job p) e = cc
+osek_column c w (runner.Oisr i) e = cc
+osek_column c w runner.Nobody e = cc
+
+module _ (c : ConfigParts) (w : World) (r : Runner) (round : Round) (setup : Setup) (started : round.start ≤ w.tick)
+    (modes : round.modes ≡ length c.modes) (tasks : length setup.tasks ≡ length c.oseks) where
+  may_call_of : (k : Call) → may_call (kind_of r) k ≡ true → names_below (length c.modes) (length c.oseks) k ≡ true
+      → MayCall w.tick (owner_of c w r) k round setup
+  may_call_of (call.Switch mode) allowed named = let l = ltb-true mode.0 (length c.modes) named in omega arith
+  may_call_of call.Sync allowed named = started
+  may_call_of call.Shutdown allowed named = tt
+  may_call_of (call.Activate task) allowed named = let l = ltb-true task.0 (length c.oseks) named in omega arith
+  may_call_of (call.Chain task) allowed named =
+      (osek_column c w r allowed, let l = ltb-true task.0 (length c.oseks) named in omega arith)
+  may_call_of call.Terminate allowed named = osek_column c w r allowed
+
+  may_do_of : (s : ScriptParts) (rules : IsConfig c) (es : List Effect) → EffectsAllowed (kind_of r) es
+      → EffectsNamed c s rules es
+      → MayDo w.tick (owner_of c w r) es round setup
+  may_do_of s rules [] allowed named = tt
+  may_do_of s rules (effect.Out value ∷ rest) allowed named = tt
+  may_do_of s rules (effect.Service k ∷ rest) allowed named = may_call_of k allowed.0 named.0
+
+  -- what the tick of the one who runs calls it may call
+  pub may_do : (s : ScriptParts) → IsConfig c → (left : List Stmt) → IsRunnable c (kind_of r) left
+      → MayDo w.tick (owner_of c w r) (state_after c s w left).effects round setup
+  may_do s rules left runnable =
+      may_do_of s rules (state_after c s w left).effects
+      (effects_allowed (kind_of r) (supply_of c.demands s.values) w.vars w.cursors left runnable.allowed)
+      (effects_named c s rules w left runnable)
+
+-- ---- what a service leaves of the caller
+
+synced_stays : (c : ConfigParts) (global : Option ℕ) (w : World) (left : List Stmt)
+    → (synced c global w left).left ≡ left
+synced_stays c None w left = refl
+synced_stays c (Some global) w left = refl
+
+-- a caller that does not end goes on with what is left of it
+service_stays : (c : ConfigParts) (s : ScriptParts) (r : Runner) (k : Call) (left : List Stmt) (w : World)
+    → (service c s r k left w).ends ≡ false
+    → (service c s r k left w).left ≡ left
+unfolding service
+service_stays c s r (call.Switch mode) left w e = refl
+service_stays c s r call.Sync left w e = synced_stays c _ w left
+service_stays c s r call.Shutdown left w e = refl
+service_stays c s r (call.Activate task) left w e =
+    cond_both (is_suspended w task) (answers 0 (ready c task w) left) (answers 4 w left)
+    (λ (a : Answer). a.left ≡ left) (λ _. refl) (λ _. refl)
+service_stays c s r (call.Chain task) left w e =
+    cond_both (is_caller r task) (ends_with w (osek_body c task))
+    (if is_suspended w task then ends_with (ready c task w) [] else answers 4 w left)
+    (λ (a : Answer). a.ends ≡ false → a.left ≡ left) (λ _ f. cc)
+    (λ _. cond_both (is_suspended w task) (ends_with (ready c task w) []) (answers 4 w left)
+    (λ (a : Answer). a.ends ≡ false → a.left ≡ left)
+    (λ _ f. cc) (λ _ f. refl)) e
+service_stays c s r call.Terminate left w e = cc
+
+-- an OSEK task, as the one who runs
+abbrev IsTask : Runner → Type 0
+IsTask (runner.Osek task) = Unit {0}
+IsTask _ = ⊥
+
+runs_task : (sub : Subsystem) (r : Runner) (who : Owner) → RunsAs sub r who → IsOsek who → IsTask r
+runs_task sub (runner.Osek p) who runs is = tt
+runs_task sub (runner.Isr i) (owner.Osek q) runs is = absurd runs
+runs_task sub (runner.Job i) (owner.Osek q) runs is = absurd runs
+runs_task sub (runner.Oisr i) (owner.Osek q) runs is = absurd runs
+runs_task sub runner.Nobody (owner.Osek q) runs is = absurd runs
+runs_task sub r (owner.Task i) runs is = absurd is
+runs_task sub r (owner.Isr i) runs is = absurd is
+runs_task sub r (owner.Oisr i) runs is = absurd is
+runs_task sub r owner.ErrorHook runs is = absurd is
+runs_task sub r owner.ShutdownHook runs is = absurd is
+runs_task sub r owner.Idle runs is = absurd is
+
+-- only an OSEK task ends by a call
+pub ends_osek : (body : ℕ → List Stmt) (now : ℕ) (who : Owner) (k : Call) (r : Round) (sub : Subsystem)
+    (setup : Setup) → MayCall now who k r setup
+    → (performed body now who k r sub).ends ≡ true → IsOsek who
+ends_osek body now who (call.Switch mode) r sub setup may e = cc
+ends_osek body now who call.Sync r sub setup may e = cc
+ends_osek body now who call.Shutdown r sub setup may e = cc
+ends_osek body now who (call.Activate task) r sub setup may e = cc
+ends_osek body now who (call.Chain task) r sub setup may e = may.0
+ends_osek body now who call.Terminate r sub setup may e = may
+
+-- ---- the world after a tick
+
+-- the parts of the round, and the tasks, that a service may change
+abbrev pub served : World → ModeNo → ℤ → ℕ → List (List Stmt) → World
+served w wanted pending used oseks = record w { wanted = wanted; pending = pending; times_used = used; oseks = oseks }
+
+same_served : (w : World) (a b : ModeNo) (d e : ℤ) (f g : ℕ) (x y : List (List Stmt)) → a ≡ b → d ≡ e → f ≡ g → x ≡ y
+    → served w a d f x ≡ served w b e g y
+same_served w a b d e f g x y ab de fg xy =
+    ap (λ (z : ModeNo). served w z d f x) ab ∙ ap (λ (z : ℤ). served w b z f x) de ∙ ap (λ (z : ℕ). served w b e z x) fg
+    ∙ ap (λ (z : List (List Stmt)). served w b e g z) xy
+
+left_served : (r : Runner) (w : World) (left after : List Stmt) (wanted : ModeNo) (pending : ℤ) (used : ℕ)
+    (oseks : List (List Stmt))
+    → IsTask r ⊎ (after ≡ left)
+    → leaving (served w wanted pending used oseks) r after
+    ≡ served (leaving w r left) wanted pending used (leaving (served w wanted pending used oseks) r after).oseks
+left_served (runner.Osek i) w left after wanted pending used oseks h = refl
+left_served runner.Nobody w left after wanted pending used oseks h = refl
+left_served (runner.Isr i) w left after wanted pending used oseks (inl h) = absurd h
+left_served (runner.Isr i) w left after wanted pending used oseks (inr e) =
+    ap (λ (l : List Stmt). served (leaving w (runner.Isr i) l) wanted pending used oseks) e
+left_served (runner.Job i) w left after wanted pending used oseks (inl h) = absurd h
+left_served (runner.Job i) w left after wanted pending used oseks (inr e) =
+    ap (λ (l : List Stmt). served (leaving w (runner.Job i) l) wanted pending used oseks) e
+left_served (runner.Oisr i) w left after wanted pending used oseks (inl h) = absurd h
+left_served (runner.Oisr i) w left after wanted pending used oseks (inr e) =
+    ap (λ (l : List Stmt). served (leaving w (runner.Oisr i) l) wanted pending used oseks) e
+
+answer_served : (c : ConfigParts) (r : Runner) (w v : World) (left after : List Stmt) → AfterService c w v
+    → IsTask r ⊎ (after ≡ left)
+    → leaving v r after ≡ served (leaving w r left) v.wanted v.pending v.times_used (leaving v r after).oseks
+answer_served c r w v left after a h =
+    subst (λ (x : World). leaving x r after ≡ served (leaving w r left) x.wanted x.pending x.times_used
+    (leaving x r after).oseks) (sym a.is)
+    (left_served r w left after a.wanted a.pending a.used a.oseks h)
+
+none_served : (r : Runner) (w : World) (left : List Stmt)
+    → leaving w r left ≡ served (leaving w r left) w.wanted w.pending w.times_used (leaving w r left).oseks
+none_served (runner.Osek i) w left = refl
+none_served (runner.Isr i) w left = refl
+none_served (runner.Job i) w left = refl
+none_served (runner.Oisr i) w left = refl
+none_served runner.Nobody w left = refl
+
+ended_same : (ends : Bool) (left after : List Stmt) → (ends ≡ false → after ≡ left)
+    → (ends || is_done left) ≡ (ends || is_done after)
+ended_same true left after h = refl
+ended_same false left after h = ap is_done (sym (h refl))
+
+module _ (c : ConfigParts) (s : ScriptParts) (r : Runner) (who : Owner) (w : World) (left : List Stmt)
+    (body : ℕ → List Stmt) (round : Round)
+    (sub : Subsystem) (setup : Setup) (bodies : (task : OsekNo) → task.0 < length setup.tasks
+    → body task.0 ≡ osek_body c task)
+    (h : IsCall c s w r who left (λ (n : ℕ). osek_body c (record { 0 = n })) round sub) where
+  performed_same : (k : Call) → MayCall w.tick who k round setup
+      → performed (λ (n : ℕ). osek_body c (record { 0 = n })) w.tick who k round sub ≡ performed body w.tick who k
+      round sub
+  performed_same (call.Switch mode) may = refl
+  performed_same call.Sync may = refl
+  performed_same call.Shutdown may = refl
+  performed_same (call.Activate task) may =
+      ap (λ (b : List Stmt). let p : Performed = record {
+        result = result_of (is_ready sub.tasks task.0);
+        round = round;
+        subsystem = activated b task.0 sub;
+        ends = false;
+      } in p) (sym (bodies task may))
+  performed_same (call.Chain task) may =
+      ap (λ (b : List Stmt). let p : Performed = record {
+        result = chain_result (caller_of who) task.0 sub;
+        round = round;
+        subsystem = chained b (caller_of who) task.0 sub;
+        ends = chain_result (caller_of who) task.0 sub == 0;
+      } in p) (sym (bodies task may.1))
+  performed_same call.Terminate may = refl
+
+  nothing_after : (now : World) → now ≡ served (leaving w r left) round.wanted round.pending round.times_used
+      (lefts sub.tasks)
+      → now ≡ leaving w r left
+  nothing_after now e =
+      e ∙ same_served (leaving w r left) _ _ _ _ _ _ _ _ h.wanted h.pending h.used (sym h.oseks)
+      ∙ sym (none_served r w left)
+
+  module _ (k : Call) (may : MayCall w.tick who k round setup) where
+    agrees : Agrees r (service c s r k left w) (performed body w.tick who k round sub)
+    agrees = subst (Agrees r (service c s r k left w)) (performed_same k may)
+        (agree c s w r who left (λ (n : ℕ). osek_body c (record { 0 = n })) round sub setup k h may)
+
+    task_or_same : IsTask r ⊎ ((service c s r k left w).left ≡ left)
+    task_or_same =
+        ⊎_elim (λ (e : (service c s r k left w).ends ≡ true).
+        inl (runs_task sub r who h.runs (ends_osek body w.tick who k round sub setup may (sym agrees.ends ∙ e))))
+        (λ (e : (service c s r k left w).ends ≡ false). inr (service_stays c s r k left w e))
+        (cases_Bool (service c s r k left w).ends)
+
+    called_by : (taken : Taken) (now : World) → taken.did ≡ did.Called k (performed body w.tick who k round sub).result
+        → taken.ended ≡ ((performed body w.tick who k round sub).ends || is_done left)
+        → now ≡ served (leaving w r left) (performed body w.tick who k round sub).round.wanted
+        (performed body w.tick who k round sub).round.pending
+        (performed body w.tick who k round sub).round.times_used
+        (lefts (performed body w.tick who k round sub).subsystem.tasks)
+        → GaveAnswer taken now r (did.Called k (service c s r k left w).result) (service c s r k left w)
+    called_by taken now did_is ended_is now_is =
+        let a = service c s r k left w in
+        record {
+          did = did_is ∙ ap (λ (n : ℕ). did.Called k n) (sym agrees.result);
+          ended_is = ended_is ∙ ap (λ (b : Bool). b || is_done left) (sym agrees.ends)
+              ∙ ended_same a.ends left a.left (service_stays c s r k left w);
+          world_is = now_is
+              ∙ same_served (leaving w r left) _ _ _ _ _ _ _ _ (sym agrees.wanted) (sym agrees.pending)
+              (sym agrees.used) (sym agrees.oseks)
+              ∙ sym (answer_served c r w a.world left a.left (service_answers c s r k left w).world task_or_same);
+        }
+
+  -- what was made by the effect is what the definition says
+  pub took_by : (es : List Effect) (taken : Taken) (now : World) → MayDo w.tick who es round setup
+      → taken.did ≡ (effected body w.tick who es round sub).did
+      → taken.ended ≡ ((effected body w.tick who es round sub).ends || is_done left)
+      → now ≡ served (leaving w r left) (effected body w.tick who es round sub).round.wanted
+      (effected body w.tick who es round sub).round.pending
+      (effected body w.tick who es round sub).round.times_used
+      (lefts (effected body w.tick who es round sub).subsystem.tasks)
+      → TookBy c s r w left es taken now
+  took_by [] taken now may did_is ended_is now_is = record
+      { did = did_is; ended_is = ended_is; world_is = nothing_after now now_is }
+  took_by (effect.Out value ∷ rest) taken now may did_is ended_is now_is =
+      record { did = did_is; ended_is = ended_is; world_is = nothing_after now now_is }
+  took_by (effect.Service k ∷ rest) taken now may did_is ended_is now_is = called_by k may taken now did_is ended_is
+      now_is
+
+-- ---- what an effect keeps
+
+module _ (body : ℕ → List Stmt) (now : ℕ) (who : Owner) (round : Round) (sub : Subsystem) where
+  -- of the round it changes the wanted mode, the pending correction and the global times
+  abbrev KeepsRound : Round → Type 0
+  KeepsRound x = x ≡ record round { wanted = x.wanted; pending = x.pending; times_used = x.times_used }
+
+  synced_keeps : (global : Option ℕ) → KeepsRound (synced_round now global round)
+  synced_keeps None = refl
+  synced_keeps (Some global) = refl
+
+  -- so does each effect
+  pub round_kept : (es : List Effect) → (effected body now who es round sub).round
+      ≡ record round {
+        wanted = (effected body now who es round sub).round.wanted;
+        pending = (effected body now who es round sub).round.pending;
+        times_used = (effected body now who es round sub).round.times_used;
+      }
+  round_kept [] = refl
+  round_kept (effect.Out value ∷ rest) = refl
+  round_kept (effect.Service (call.Switch mode) ∷ rest) = refl
+  round_kept (effect.Service call.Sync ∷ rest) = synced_keeps (next_time round)
+  round_kept (effect.Service call.Shutdown ∷ rest) = refl
+  round_kept (effect.Service (call.Activate task) ∷ rest) = refl
+  round_kept (effect.Service (call.Chain task) ∷ rest) = refl
+  round_kept (effect.Service call.Terminate ∷ rest) = refl
+
+  chain_keeps : (same found : Bool) (b : List Stmt) (p t : ℕ)
+      → (if same then readied b t sub else (if found then sub else suspended p (readied b t sub))).routines
+      ≡ sub.routines
+  chain_keeps true found b p t = refl
+  chain_keeps false true b p t = refl
+  chain_keeps false false b p t = refl
+
+  -- it keeps the routines
+  pub routines_kept : (es : List Effect) → (effected body now who es round sub).subsystem.routines ≡ sub.routines
+  routines_kept [] = refl
+  routines_kept (effect.Out value ∷ rest) = refl
+  routines_kept (effect.Service (call.Switch mode) ∷ rest) = refl
+  routines_kept (effect.Service call.Sync ∷ rest) = refl
+  routines_kept (effect.Service call.Shutdown ∷ rest) = refl
+  routines_kept (effect.Service (call.Activate task) ∷ rest) =
+      cond_both (is_ready sub.tasks task.0) sub (readied (body task.0) task.0 sub)
+      (λ (x : Subsystem). x.routines ≡ sub.routines) (λ _. refl) (λ _. refl)
+  routines_kept (effect.Service (call.Chain task) ∷ rest) =
+      chain_keeps (caller_of who == task.0) (is_ready sub.tasks task.0) (body task.0) (caller_of who) task.0
+  routines_kept (effect.Service call.Terminate ∷ rest) = refl
+
+-- ---- the parts of a world
+
+-- the world with these parts of the round, and with this left of the activations and routines
+abbrev pub built : World → Round → List Job → (isrs oisrs : List (List Stmt)) → World
+built w r jobs isrs oisrs = record w {
+  start = r.start;
+  number = r.number;
+  mode = r.mode;
+  latched = r.latched;
+  jobs = jobs;
+  isrs = isrs;
+  oisrs = oisrs;
 }
 
--- ---- a tick
-
-same_left : (w : World) (vars : List ℤ) (cursors : List ℕ) (r : Runner)
-    → left_of (record w { vars = vars; cursors = cursors }) r ≡ left_of w r
-same_left w vars cursors (runner.Isr i) = refl
-same_left w vars cursors r = refl
-
-leaving_start : (w : World) (r : Runner) (left : List Stmt) → (leaving w r left).start ≡ w.start
-leaving_start w (runner.Isr i) left = refl
-leaving_start w r left = refl
-
-leaving_tick : (w : World) (r : Runner) (left : List Stmt) → (leaving w r left).tick ≡ w.tick
-leaving_tick w (runner.Isr i) left = refl
-leaving_tick w r left = refl
-
--- the round has begun before and after
-pub still_started : (c : ConfigParts) (s : ScriptParts) (r : Runner) (w now : World) (effects : List Effect)
-    → TicksLeft c s r w now effects → w.start ≤ w.tick → now.start ≤ now.tick
-still_started c s r w now effects t l =
-    let a = ap (λ (v : World). v.start) t.world_is ∙ leaving_start _ r _ in
-    let b = ap (λ (v : World). v.tick) t.world_is ∙ leaving_tick _ r _ in
-    omega arith
-
-module _ (c : ConfigParts) (s : ScriptParts) (r : Runner) (who : Owner) (w now : World) (effects : List Effect)
-    (some : is_done (left_of w r) ≡ false) (t : TicksLeft c s r w now effects) where
-  left : List Stmt
-  left = (state_after c s w (left_of w r)).left
-
-  mid : World
-  mid = record w { vars = (state_after c s w (left_of w r)).vars; cursors = (state_after c s w (left_of w r)).cursors }
-
-  calling : IsCalling r left mid now
-  unfolding left mid
-  calling =
-      let state = state_after c s w (left_of w r) in
-      record { ready = ap is_done (same_left w state.vars state.cursors r) ∙ some; now_is = t.world_is }
-
-  done_is : is_done (left_of now r) ≡ is_done left
-  unfolding left mid
-  done_is = ap (λ (v : World). is_done (left_of v r)) t.world_is ∙ ap is_done (left_then mid r left calling.ready)
-
-  tick_is : (es : List Effect) → effects ≡ es → runner_tick c s r who w ≡ effected c s r who es left mid
-  unfolding left mid
-  tick_is es e = ap (λ xs. effected c s r who xs left mid) (sym t.effects_are ∙ e)
-
-  pub tick_none : (a : List Event) → effects ≡ []
-      → IsTick a a now None (is_done (left_of now r)) (runner_tick c s r who w)
-  unfolding left mid
-  tick_none a e = subst (IsTick a a now None (is_done (left_of now r))) (sym (tick_is [] e)) (record {
-    gives = record { world_is = t.world_is; told = sym (append-nil a); end_is = refl };
-    ended_is = done_is;
-  })
-
-  pub tick_out : (value : ℤ) (a b : List Event) → effects ≡ effect.Out value ∷ [] → b ≡ a ++ Out w.tick who value ∷ []
-      → IsTick a b now None (is_done (left_of now r)) (runner_tick c s r who w)
-  unfolding left mid
-  tick_out value a b e f = subst (IsTick a b now None (is_done (left_of now r)))
-      (sym (tick_is (effect.Out value ∷ []) e)) (record {
-        gives = record { world_is = t.world_is; told = f; end_is = refl };
-        ended_is = done_is;
-      })
-
-  pub tick_call : (k : Call) (a b : List Event) (world : World) (end : Outcome) (ended : Bool)
-      → effects ≡ effect.Service k ∷ []
-      → Calls c s r who k now a b world end ended → IsTick a b world end ended (runner_tick c s r who w)
-  tick_call k a b world end ended e h =
-      subst (IsTick a b world end ended) (sym (tick_is (effect.Service k ∷ []) e)) (h.calls left mid calling)
-
-  pub call_named : IsConfig c → IsRunnable c (kind_of r) (left_of w r) → (k : Call)
-      → effects ≡ effect.Service k ∷ [] → names_below (length c.modes) (length c.oseks) k ≡ true
-  call_named rules runnable k e =
-      let all : EffectsNamed c s rules (effect.Service k ∷ []) =
-      subst (EffectsNamed c s rules) (sym t.effects_are ∙ e) (effects_named c s rules w (left_of w r) runnable) in
-      all.0
-
--- nobody's tick does nothing
-pub tick_nobody : (c : ConfigParts) (s : ScriptParts) (who : Owner) (w : World) (a : List Event)
-    → IsTick a a w None true (runner_tick c s runner.Nobody who w)
-unfolding tick
-tick_nobody c s who w a =
-    record { gives = record { world_is = refl; told = sym (append-nil a); end_is = refl }; ended_is = refl }
-
--- a tick that does not end the run leaves the present tick to be raised
-pub tick_stays : (c : ConfigParts) (s : ScriptParts) (r : Runner) (who : Owner) (w v : World) (a b : List Event)
-    → Gives Appends a b v None (runner_tick c s r who w).move → v.tick ≡ w.tick
-tick_stays c s r who w v a b g =
-    let state = state_after c s w (left_of w r) in
-    ap (λ (x : World). x.tick) g.world_is
-    ∙ (effected_mid c s r who state.effects state.left w (record w { vars = state.vars; cursors = state.cursors })
-    refl refl refl refl
-    (ap is_over (sym g.end_is))).tick
-
--- ---- the whole tick
-
-module _ (c : ConfigParts) (s : ScriptParts) (w : World) (r : Runner) (who : Owner) (runs : r ≡ runner_of c w)
-    (owns : who ≡ owner_of c w r)
-    (a b d : List Event) (line : b ≡ a ++ run_line w who) (v : World) (end : Outcome) (ended : Bool)
-    (t : IsTick b d v end ended (runner_tick c s r who w)) where
-  step_is : step c s w ≡ followed (preceded (run_line w who) (runner_tick c s r who w).move)
-      (tick_over who (is_somebody r && (runner_tick c s r who w).ended))
-  unfolding step
-  step_is = rw (owns, runs) refl
-
-  first : Gives Appends a d v end (preceded (run_line w who) (runner_tick c s r who w).move)
-  first = gives_after a b d (run_line w who) v end _ line t.gives
-
-  pub step_ends : is_over end ≡ true → Gives Appends a d v end (step c s w)
-  step_ends over = subst (Gives Appends a d v end) (sym step_is) (gives_stop a d v end _ _ over first)
-
-  pub step_goes_on : end ≡ None → (f : List Event) (u : World)
-      → Gives Appends d f u None (tick_over who (is_somebody r && ended) v)
-      → Gives Appends a f u None (step c s w)
-  step_goes_on e f u g = subst (Gives Appends a f u None) (sym step_is)
-      (gives_next appends_is_telling a d f v u None (preceded (run_line w who) (runner_tick c s r who w).move)
-      (tick_over who (is_somebody r && (runner_tick c s r who w).ended))
-      (subst (λ o. Gives Appends a d v o (preceded (run_line w who) (runner_tick c s r who w).move)) e first)
-      (subst (λ x. Gives Appends d f u None (tick_over who (is_somebody r && x) v)) t.ended_is g))
-
-  pub step_room : end ≡ None → v.tick ≡ w.tick
-  step_room e = tick_stays c s r who w v b d (subst (λ o. Gives Appends b d v o (runner_tick c s r who w).move) e t.gives)
-
-  pub ends_is : (over : Bool) → over ≡ (is_somebody r && ended) → over ≡ owner_ends c s w
-  ends_is over e =
-      let same : (is_somebody r && (runner_tick c s r who w).ended) ≡ owner_ends c s w = rw (owns, runs) refl in
-      e ∙ ap (λ x. is_somebody r && x) t.ended_is ∙ same
+-- where the round is kept, and what is left is that of the one who runs
+pub built_is : (w : World) (vars : List ℤ) (cursors : List ℕ) (r : Runner) (left : List Stmt) (x : Round)
+    (oseks isrs oisrs : List (List Stmt)) (jobs : List Job)
+    → x.start ≡ w.start → x.number ≡ w.number → x.mode ≡ w.mode → x.latched ≡ w.latched
+    → jobs ≡ (leaving w r left).jobs → isrs ≡ (leaving w r left).isrs → oisrs ≡ (leaving w r left).oisrs
+    → built (served (record w { vars = vars; cursors = cursors }) x.wanted x.pending x.times_used oseks) x jobs isrs
+    oisrs
+    ≡ served (leaving (record w { vars = vars; cursors = cursors }) r left) x.wanted x.pending x.times_used oseks
+built_is w vars cursors r left x oseks isrs oisrs jobs a b d e f g h =
+    let v : World = served (record w { vars = vars; cursors = cursors }) x.wanted x.pending x.times_used oseks in
+    ap (λ z. record v {
+      start = z;
+      number = x.number;
+      mode = x.mode;
+      latched = x.latched;
+      jobs = jobs;
+      isrs = isrs;
+      oisrs = oisrs;
+    }) a
+    ∙ ap (λ z. record v { number = z; mode = x.mode; latched = x.latched; jobs = jobs; isrs = isrs; oisrs = oisrs }) b
+    ∙ ap (λ z. record v { mode = z; latched = x.latched; jobs = jobs; isrs = isrs; oisrs = oisrs }) d
+    ∙ ap (λ z. record v { latched = z; jobs = jobs; isrs = isrs; oisrs = oisrs }) e
+    ∙ ap (λ z. record v { jobs = z; isrs = isrs; oisrs = oisrs }) f
+    ∙ ap (λ z. record v { jobs = (leaving w r left).jobs; isrs = z; oisrs = oisrs }) g
+    ∙ ap (λ z. record v { jobs = (leaving w r left).jobs; isrs = (leaving w r left).isrs; oisrs = z }) h
+    ∙ whole r
+  where
+    whole : (q : Runner)
+        → (let v : World = served (record w { vars = vars; cursors = cursors }) x.wanted x.pending x.times_used oseks in
+        record v { jobs = (leaving w q left).jobs; isrs = (leaving w q left).isrs; oisrs = (leaving w q left).oisrs })
+        ≡ served (leaving (record w { vars = vars; cursors = cursors }) q left) x.wanted x.pending x.times_used oseks
+    whole (runner.Osek i) = refl
+    whole (runner.Isr i) = refl
+    whole (runner.Job i) = refl
+    whole (runner.Oisr i) = refl
+    whole runner.Nobody = refl

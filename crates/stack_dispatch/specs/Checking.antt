@@ -1,5 +1,5 @@
 -- Deadline monitoring of jobs that stand at the places of their entry numbers.
-use Rattle.std.specs.Prelude.{◌≡◌, ℕ, List, [], ◌∷◌, ◌++◌, Option, None}
+use Rattle.std.specs.Prelude.{◌≡◌, ℕ, List, [], ◌∷◌, Option, None}
 use Rattle.tt_base.specs.declared.number.TaskNo.{TaskNo}
 use Rattle.tt_base.specs.declared.event.Event.{Event}
 use Rattle.tt_world.specs.declared.config.ConfigParts.{ConfigParts}
@@ -22,6 +22,8 @@ monitored_entries c mode entries w =
     let all = checked_entries w.tick mode w.jobs entries in after_checks c all.events all.missed w
 
 -- what a part of the code checked is what the definition gives
-pub record Checks (before after : List Event) (missed : Option TaskNo) (all : Checked) : Type 0 where
-  pub events_are : after ≡ before ++ all.events
+pub record Checks {L : Type 0} (Told : L → List Event → L → Type 0) (before after : L) (missed : Option TaskNo)
+    (all : Checked)
+    : Type 0 where
+  pub told : Told before all.events after
   pub missed_is : missed ≡ all.missed

@@ -1,6 +1,8 @@
 -- What is done at the sources of interrupts at an instant.
-use Rattle.std.specs.Prelude.{◌≡◌, ℕ, ◌<◌, not, Bool, false, List, [], ◌∷◌, length, map, slice_index_or}
+use Rattle.std.specs.Prelude.{◌≡◌, ℕ, ◌<◌, not, Bool, true, false, List, [], ◌∷◌, length, map, slice_index_or}
 use Rattle.task_lang.specs.declared.syntax.Stmt.{Stmt}
+use Rattle.tt_base.specs.declared.event.Owner.{Owner}
+use Rattle.tt_base.specs.declared.event.Owner.TheVariants as owner
 use Rattle.tt_base.specs.declared.number.IsrNo.{IsrNo}
 use Rattle.tt_world.specs.declared.config.ModeDef.{ModeDef}
 use Rattle.tt_world.specs.declared.config.ConfigParts.{ConfigParts}
@@ -21,6 +23,12 @@ enables_by isrs = chain (map (λ (isr : IsrNo). enable (record { offset = 0; isr
 -- nothing can be accepted
 abbrev pub NoneAccepted : ConfigParts → World → Type 0
 NoneAccepted c w = (place : ℕ) → place < length (sources c) → is_accepted w (source_at c place) ≡ false
+
+-- the routine of a source can begin: the source exists, and its routine is not unfinished
+abbrev pub CanBegin : ConfigParts → Owner → World → Type 0
+CanBegin c (owner.Isr isr) w = (isr.0 < length c.isrs) × (is_done (slice_index_or w.isrs isr.0 []) ≡ true)
+CanBegin c (owner.Oisr oisr) w = oisr.0 < length c.oisrs
+CanBegin c _ w = Unit {0}
 
 -- the flags of the numbers below a count are set where something is left
 abbrev pub AreMarked : ℕ → List (List Stmt) → List Bool → Type 0

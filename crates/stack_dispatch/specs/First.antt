@@ -1,9 +1,11 @@
 -- The state before tick 0.
-use Rattle.std.specs.Prelude.{length}
+use Rattle.std.specs.Prelude.{◌+◌, length}
 use Rattle.tt_world.specs.declared.config.ConfigParts.{ConfigParts}
 use Rattle.tt_world.specs.declared.script.ScriptParts.{ScriptParts}
 use Rattle.tt_world.specs.Schedule.{first_world}
-use Rattle.stack_dispatch.specs.State.{RunState}
+use Rattle.tt_world.specs.Runners.{isr_levels}
+use Rattle.osek_idle.specs.Standing.{setup_for}
+use Rattle.stack_dispatch.specs.State.{RunState, bodies_of}
 
 abbrev pub first_state : ConfigParts → ScriptParts → RunState
 first_state c s = record {
@@ -14,6 +16,12 @@ first_state c s = record {
     modes = length c.modes;
     rounds = s.rounds;
     times = s.times;
+    demands = c.demands;
+    values = s.values;
+    codes = bodies_of c;
+    first = length c.tasks;
+    levels = isr_levels c;
+    setup = setup_for c (length c.tasks + length c.isrs);
     isrs_ticks = s.arrivals.isrs;
     oisrs_ticks = s.arrivals.oisrs;
   };

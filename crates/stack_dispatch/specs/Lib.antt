@@ -1,9 +1,10 @@
 pub mod Checking
 pub mod Due
+pub mod Effects
 pub mod First
-pub mod Lefts
+pub mod Peaks
+pub mod Reports
 pub mod Served
-pub mod Serving
 pub mod State
 pub mod Ticking
-pub mod Unfinished
+pub mod Told

@@ -1,47 +1,27 @@
 //! The opening of an instant, and the instant.
 
-ghost use Rattle.std.specs.Prelude.{◌≡◌, ◌+◌, ◌<◌, ◌≤◌, ◌^◌, false, length, None, IfOk, IfSome};
-ghost use Rattle.tt_world.specs.ConfigRules.{IsConfig};
-ghost use Rattle.tt_world.specs.Moved.{Appends, Gives, chain};
+ghost use Rattle.std.specs.Prelude.{◌≡◌, ◌+◌, ◌<◌, ◌≤◌, ◌^◌, length, None};
+ghost use Rattle.tt_world.specs.Moved.{Gives, chain};
 ghost use Rattle.tt_world.specs.Opening.{due as due_parts, later_parts, opening};
-ghost use Rattle.tt_world.specs.Rows.{offset_of, body_of};
+ghost use Rattle.tt_world.specs.Rows.{offset_of};
 ghost use Rattle.tt_world.specs.Schedule.{instant};
 ghost use Rattle.tt_world.proofs.Late.{Late};
-ghost use Rattle.tt_world.proofs.Modes.{Named};
 ghost use Rattle.tt_world.proofs.Openings.{activated_in};
 ghost use Rattle.tt_world.proofs.Parts.{Before, Begun};
-ghost use Rattle.round_table.specs.ExpiryPoints.{IsCursor};
 ghost use Rattle.round_table.specs.TableRows.{tables_of};
-ghost use Rattle.stack_dispatch.specs.Due.{NoneAccepted};
+ghost use Rattle.stack_dispatch.specs.Peaks.{raised};
 ghost use Rattle.stack_dispatch.specs.State.{IsFor, fixed_in};
-ghost use Rattle.stack_dispatch.specs.Served.{AreRowsFree, CanPass, Foresees, HasSources, IsAhead, IsOpened, IsServed, IsTableOf, StandsAt};
+ghost use Rattle.stack_dispatch.specs.Served.{AreRowsFree, CanActivate, CanPass, Foresees, HasSources, IsAhead, IsOpened, IsServed, IsTableOf, StandsAt};
+ghost use Rattle.stack_dispatch.specs.Told.{Tells};
 
-use crate::plain::Events;
-use crate::state::{Job, State};
+use crate::ahead::Ahead;
+use crate::log::Log;
+use crate::peaks::Peaks;
+use crate::state::State;
 use round_table::{Due, Table, Tables};
-use std::alloc::Global;
-use task_lang::Left;
-use tt_base::{Event, Memory, TaskNo, Tick};
+use trace_text::Recorder;
+use tt_base::{Event, Ledger, Steps, Tick};
 use tt_world::{ConfigParts, RunEnd, ScriptParts};
-
-/// How far the runner sees ahead.
-#[derive(Clone, Copy, Debug)]
-pub(crate) struct Ahead {
-    /// Nothing is due at a tick from the present one on up to below this one.
-    pub(crate) next: Tick,
-    /// Whether an owner has ended since the acceptances were tried last.
-    pub(crate) ended: bool,
-}
-
-/// The whole body of a task. A task that is not there has none.
-fn begin_body(alloc: Global, config: &ConfigParts, task: TaskNo) -> Result<Left, Memory>
-    ensures { IfOk result (λ left. left ≡ body_of config.now task) }
-{
-    match config.tasks.as_slice().get(usize::from(task.0)) {
-        Some(task) => Left::begin(alloc, &task.body),
-        None => Ok(Left::new(alloc)),
-    }
-}
 
 impl State {
     /// The table of the present mode.
@@ -54,135 +34,134 @@ impl State {
     }
 
     /// Activates the task of an entry of the table, if there is one.
-    #[tactic(auto, using(crate::proofs::LastUnfinished::with_more))]
-    fn activate_entry(
+    fn activate_entry<R: Recorder>(
         &mut self,
-        alloc: Global,
         config: &ConfigParts,
         table: &Table,
         entry: Option<usize>,
-        events: &mut Events,
-    ) -> Result<(), Memory>
-        requires { IfSome entry (λ e. e < length table.now.mode.activations) }
-        ensures gives { IfOk result (λ _. Gives Appends events.old events.new self.new.world None (activated_in config.now table.now.mode entry self.old.world)) }
-        ensures beside { IfOk result (λ _. self.new.beside ≡ self.old.beside) }
+        log: &mut Log<R>,
+    )
+        requires { CanActivate config.now table.now entry self.old }
+        ensures gives { Gives (Tells R.Recorder) log.old log.new self.new.world None
+            (activated_in config.now table.now.mode entry self.old.world) }
+        ensures beside { self.new.beside ≡ self.old.beside }
     {
         let Some(entry) = entry else {
-            return Ok(());
+            return;
         };
         let task = table.activation(entry).task;
-        let left = begin_body(alloc, config, task)?;
-        self.unfinished.push(self.jobs.len())?;
-        if let Err(memory) = self.jobs.push(Job { entry, left }) {
-            self.unfinished.pop();
-            return Err(memory);
-        }
-        events.push(Event::Activate {
+        self.stack.activate(task);
+        log.tell(Event::Activate {
             at: self.tick,
             task,
-        })
+        });
     }
 
-    /// What is due at the present offset and tick: the checks, the enables, the arrivals, the acceptances and the activation.
-    fn do_due(
+    /// What is due at the present offset and tick: the checks, the enables, the arrivals, the
+    /// acceptances and the activation.
+    fn do_due<R: Recorder>(
         &mut self,
-        alloc: Global,
         config: &ConfigParts,
         script: &ScriptParts,
         table: &Table,
         due: Due,
-        events: &mut Events,
-    ) -> Result<Option<RunEnd>, Memory>
+        log: &mut Log<R>,
+    ) -> Option<RunEnd>
         requires served { IsServed Begun config.now script.now self.old.world }
+        requires fixed { IsFor config.now script.now self.old.beside }
         requires table { IsTableOf config.now table.now self.old.world }
         requires stands { StandsAt table.now (offset_of self.old.world) due }
         requires sources { HasSources config.now script.now self.old.world.tick self.old }
-        ensures gives { IfOk result (λ end. Gives Appends events.old events.new self.new.world end (chain (due_parts config.now script.now) self.old.world)) }
-        ensures fixed { IfOk result (λ _. fixed_in self.new.beside ≡ fixed_in self.old.beside) }
-        ensures opened { IfOk result (λ end. None ≡ end → IsOpened config.now script.now self.old.world.tick self.new) }
+        ensures gives { Gives (Tells R.Recorder) log.old log.new self.new.world result
+            (chain (due_parts config.now script.now) self.old.world) }
+        ensures fixed { fixed_in self.new.beside ≡ fixed_in self.old.beside }
+        ensures opened { None ≡ result
+            → IsOpened config.now script.now self.old.world.tick self.new }
     {
-        if let Some(end) = self.monitor(config, table, due.checks_from, due.checks_to, events)? {
-            return Ok(Some(end));
+        if let Some(end) = self.monitor(config, table, due.checks_from, due.checks_to, log) {
+            return Some(end);
         }
-        self.enable_all(table, due.enables_from, due.enables_to, events)?;
-        self.arrive_all(config, script, events)?;
-        self.accept_all(alloc, config, events)?;
-        self.activate_entry(alloc, config, table, due.activation, events)?;
-        Ok(None)
+        self.enable_all(table, due.enables_from, due.enables_to, log);
+        self.arrive_all(config, script, log);
+        self.accept_all(config, script, log);
+        self.activate_entry(config, table, due.activation, log);
+        None
     }
 
     /// What is due at the present offset and tick, by the table of the present mode.
-    fn open_due(
+    fn open_due<R: Recorder>(
         &mut self,
-        alloc: Global,
         config: &ConfigParts,
         script: &ScriptParts,
         tables: &Tables,
-        events: &mut Events,
-    ) -> Result<Option<RunEnd>, Memory>
+        log: &mut Log<R>,
+    ) -> Option<RunEnd>
         requires served { IsServed Begun config.now script.now self.old.world }
         requires fixed { IsFor config.now script.now self.old.beside }
         requires tables { tables.now ≡ tables_of config.now }
         requires sources { HasSources config.now script.now self.old.world.tick self.old }
-        ensures gives { IfOk result (λ end. Gives Appends events.old events.new self.new.world end (chain (due_parts config.now script.now) self.old.world)) }
-        ensures fixed { IfOk result (λ _. fixed_in self.new.beside ≡ fixed_in self.old.beside) }
-        ensures opened { IfOk result (λ end. None ≡ end → IsOpened config.now script.now self.old.world.tick self.new) }
+        ensures gives { Gives (Tells R.Recorder) log.old log.new self.new.world result
+            (chain (due_parts config.now script.now) self.old.world) }
+        ensures fixed { fixed_in self.new.beside ≡ fixed_in self.old.beside }
+        ensures opened { None ≡ result
+            → IsOpened config.now script.now self.old.world.tick self.new }
     {
         let table = self.table(config, tables);
         let due = table.due(self.offset());
-        self.do_due(alloc, config, script, table, due, events)
+        self.do_due(config, script, table, due, log)
     }
 
     /// The opening of an instant after tick 0.
-    fn open_later(
+    fn open_later<R: Recorder>(
         &mut self,
-        alloc: Global,
         config: &ConfigParts,
         script: &ScriptParts,
         tables: &Tables,
-        events: &mut Events,
-    ) -> Result<Option<RunEnd>, Memory>
+        log: &mut Log<R>,
+    ) -> Option<RunEnd>
         requires served { IsServed Before config.now script.now self.old.world }
         requires late { Late 0 config.now self.old.world }
         requires fixed { IsFor config.now script.now self.old.beside }
         requires tables { tables.now ≡ tables_of config.now }
         requires sources { HasSources config.now script.now self.old.world.tick self.old }
-        ensures gives { IfOk result (λ end. Gives Appends events.old events.new self.new.world end (chain (later_parts config.now script.now) self.old.world)) }
-        ensures fixed { IfOk result (λ _. fixed_in self.new.beside ≡ fixed_in self.old.beside) }
-        ensures opened { IfOk result (λ end. None ≡ end → IsOpened config.now script.now self.old.world.tick self.new) }
+        ensures gives { Gives (Tells R.Recorder) log.old log.new self.new.world result
+            (chain (later_parts config.now script.now) self.old.world) }
+        ensures fixed { fixed_in self.new.beside ≡ fixed_in self.old.beside }
+        ensures opened { None ≡ result
+            → IsOpened config.now script.now self.old.world.tick self.new }
     {
-        self.latch(config, events)?;
+        self.latch(config, log);
         let table = self.table(config, tables);
-        if let Some(end) = self.end_round(config, script, table, events)? {
-            return Ok(Some(end));
+        if let Some(end) = self.end_round(config, script, table, log) {
+            return Some(end);
         }
-        self.open_due(alloc, config, script, tables, events)
+        self.open_due(config, script, tables, log)
     }
 
     /// The opening of an instant.
-    #[tactic(auto, unfolding(tt_world::specs::Opening::opening))]
-    fn open(
+    fn open<R: Recorder>(
         &mut self,
-        alloc: Global,
         config: &ConfigParts,
         script: &ScriptParts,
         tables: &Tables,
-        events: &mut Events,
-    ) -> Result<Option<RunEnd>, Memory>
+        log: &mut Log<R>,
+    ) -> Option<RunEnd>
         requires served { IsServed Before config.now script.now self.old.world }
         requires late { Late 0 config.now self.old.world }
         requires fixed { IsFor config.now script.now self.old.beside }
         requires tables { tables.now ≡ tables_of config.now }
         requires sources { HasSources config.now script.now self.old.world.tick self.old }
-        ensures gives { IfOk result (λ end. Gives Appends events.old events.new self.new.world end (opening config.now script.now self.old.world)) }
-        ensures fixed { IfOk result (λ _. fixed_in self.new.beside ≡ fixed_in self.old.beside) }
-        ensures opened { IfOk result (λ end. None ≡ end → IsOpened config.now script.now self.old.world.tick self.new) }
+        ensures gives { Gives (Tells R.Recorder) log.old log.new self.new.world result
+            (opening config.now script.now self.old.world) }
+        ensures fixed { fixed_in self.new.beside ≡ fixed_in self.old.beside }
+        ensures opened { None ≡ result
+            → IsOpened config.now script.now self.old.world.tick self.new }
     {
         if self.tick != 0 {
-            return self.open_later(alloc, config, script, tables, events);
+            return self.open_later(config, script, tables, log);
         }
-        self.begin(script, events)?;
-        self.open_due(alloc, config, script, tables, events)
+        self.begin(script, log);
+        self.open_due(config, script, tables, log)
     }
 
     /// The tick of the next expiry point of the round, the greatest tick where there is none.
@@ -211,82 +190,88 @@ impl State {
         }
     }
 
-    /// The opening of an instant at which nothing is due: the acceptances, where an owner has ended.
-    fn open_idle(
+    /// The opening of an instant at which nothing is due: the acceptances, where an owner has
+    /// ended.
+    fn open_idle<R: Recorder>(
         &mut self,
-        alloc: Global,
         config: &ConfigParts,
         script: &ScriptParts,
         ahead: Ahead,
-        events: &mut Events,
-    ) -> Result<(), Memory>
+        log: &mut Log<R>,
+    )
         requires can { CanPass config.now script.now self.old }
         requires foresees { Foresees config.now self.old ahead }
         requires idle { self.old.world.tick < ahead.next }
-        ensures gives { IfOk result (λ _. Gives Appends events.old events.new self.new.world None (opening config.now script.now self.old.world)) }
-        ensures beside { IfOk result (λ _. self.new.beside ≡ self.old.beside) }
-        ensures opened { IfOk result (λ _. IsOpened config.now script.now self.old.world.tick self.new) }
-        ensures ahead { IfOk result (λ _. IsAhead config.now 1 self.new ahead.next) }
+        ensures gives { Gives (Tells R.Recorder) log.old log.new self.new.world None
+            (opening config.now script.now self.old.world) }
+        ensures beside { self.new.beside ≡ self.old.beside }
+        ensures opened { IsOpened config.now script.now self.old.world.tick self.new }
+        ensures ahead { IsAhead config.now 1 self.new ahead.next }
     {
-        if !ahead.ended {
-            return Ok(());
+        if ahead.ended {
+            self.accept_all(config, script, log);
         }
-        self.accept_all(alloc, config, events)?;
-        Ok(())
     }
 
     /// The opening of an instant, which looks at nothing where nothing is due.
-    fn open_ahead(
+    fn open_ahead<R: Recorder>(
         &mut self,
-        alloc: Global,
         config: &ConfigParts,
         script: &ScriptParts,
         tables: &Tables,
         ahead: &mut Ahead,
-        events: &mut Events,
-    ) -> Result<Option<RunEnd>, Memory>
+        log: &mut Log<R>,
+    ) -> Option<RunEnd>
         requires can { CanPass config.now script.now self.old }
         requires tables { tables.now ≡ tables_of config.now }
         requires foresees { Foresees config.now self.old ahead.old }
-        ensures gives { IfOk result (λ end. Gives Appends events.old events.new self.new.world end (opening config.now script.now self.old.world)) }
-        ensures fixed { IfOk result (λ _. fixed_in self.new.beside ≡ fixed_in self.old.beside) }
-        ensures opened { IfOk result (λ end. None ≡ end → IsOpened config.now script.now self.old.world.tick self.new) }
-        ensures ahead { IfOk result (λ end. None ≡ end → IsAhead config.now 1 self.new ahead.new.next) }
+        ensures gives { Gives (Tells R.Recorder) log.old log.new self.new.world result
+            (opening config.now script.now self.old.world) }
+        ensures fixed { fixed_in self.new.beside ≡ fixed_in self.old.beside }
+        ensures opened { None ≡ result
+            → IsOpened config.now script.now self.old.world.tick self.new }
+        ensures ahead { None ≡ result → IsAhead config.now 1 self.new ahead.new.next }
     {
         if self.tick < ahead.next {
-            self.open_idle(alloc, config, script, *ahead, events)?;
-            return Ok(None);
+            self.open_idle(config, script, *ahead, log);
+            return None;
         }
-        if let Some(end) = self.open(alloc, config, script, tables, events)? {
-            return Ok(Some(end));
+        if let Some(end) = self.open(config, script, tables, log) {
+            return Some(end);
         }
         ahead.next = self.next_due(config, tables);
-        Ok(None)
+        None
     }
 
     /// One instant.
-    pub(crate) fn pass(
+    pub(crate) fn pass<R: Recorder, L: Ledger>(
         &mut self,
-        alloc: Global,
         config: &ConfigParts,
         script: &ScriptParts,
         tables: &Tables,
         ahead: &mut Ahead,
-        events: &mut Events,
-    ) -> Result<Option<RunEnd>, Memory>
+        peaks: &mut Peaks,
+        log: &mut Log<R>,
+        steps: &mut Steps<L>,
+    ) -> Option<RunEnd>
         requires can { CanPass config.now script.now self.old }
         requires tables { tables.now ≡ tables_of config.now }
         requires foresees { Foresees config.now self.old ahead.old }
-        ensures gives { IfOk result (λ end. Gives Appends events.old events.new self.new.world end (instant config.now script.now self.old.world)) }
-        ensures fixed { IfOk result (λ _. fixed_in self.new.beside ≡ fixed_in self.old.beside) }
-        ensures sources { IfOk result (λ end. None ≡ end → HasSources config.now script.now (self.old.world.tick + 1) self.new) }
-        ensures foresees { IfOk result (λ end. None ≡ end → Foresees config.now self.new ahead.new) }
+        ensures gives { Gives (Tells R.Recorder) log.old log.new self.new.world result
+            (instant config.now script.now self.old.world) }
+        ensures fixed { fixed_in self.new.beside ≡ fixed_in self.old.beside }
+        ensures sources { None ≡ result
+            → HasSources config.now script.now (self.old.world.tick + 1) self.new }
+        ensures foresees { None ≡ result → Foresees config.now self.new ahead.new }
+        ensures peaks { peaks.new
+            ≡ raised config.now (opening config.now script.now self.old.world) peaks.old }
     {
-        if let Some(end) = self.open_ahead(alloc, config, script, tables, ahead, events)? {
-            return Ok(Some(end));
+        if let Some(end) = self.open_ahead(config, script, tables, ahead, log) {
+            return Some(end);
         }
-        let ticked = self.take_tick(alloc, config, script, events)?;
+        peaks.raise(config, self);
+        let ticked = self.take_tick(config, script, log, steps);
         ahead.ended = ticked.ended;
-        Ok(ticked.end)
+        ticked.end
     }
 }

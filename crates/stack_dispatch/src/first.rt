@@ -1,18 +1,19 @@
 //! The state before tick 0.
 
-ghost use Rattle.std.specs.Prelude.{◌≡◌, ◌≤◌, ◌^◌, [], length, map, replicate, IfOk, if◌then◌else◌};
+ghost use Rattle.std.specs.Prelude.{◌≡◌, IfOk};
 ghost use Rattle.tt_world.specs.ScriptRules.{IsScript};
 ghost use Rattle.stack_dispatch.specs.First.{first_state};
 
-use crate::lefts::Lefts;
+use crate::programs::codes_of;
 use crate::state::State;
-use crate::unfinished::Unfinished;
 use isr_window::Gates;
+use osek_idle::Osek;
 use round_end::RoundState;
 use std::alloc::Global;
-use task_lang::{Cursors, Left};
+use task_machine::Env;
 use tt_base::{Memory, Series, Tick};
-use tt_world::{Arrivals, Config, OsekDef, ScriptParts};
+use tt_stack::TtStack;
+use tt_world::{Arrivals, Config, ScriptParts};
 
 /// A copy of a list of numbers.
 fn copy_numbers(alloc: Global, numbers: &[u64]) -> Result<Series<u64>, Memory>
@@ -32,41 +33,6 @@ fn copy_ticks(alloc: Global, lists: &[Series<Tick>]) -> Result<Series<Series<Tic
     Ok(copy)
 }
 
-/// Nothing is left of this many routines.
-fn nothing_left(alloc: Global, count: usize) -> Result<Lefts, Memory>
-    requires { count ≤ 2 ^ 16 }
-    ensures { IfOk result (λ lefts. lefts ≡ replicate count []) }
-{
-    let mut lefts = Lefts::new(alloc);
-    'routines: for _number in 0..count {
-        lefts.push(Left::new(alloc))?;
-    }
-    Ok(lefts)
-}
-
-/// What is left of an OSEK task at tick 0: its whole body, where it has the auto mark.
-fn first_left(alloc: Global, task: &OsekDef) -> Result<Left, Memory>
-    ensures { IfOk result (λ left. left ≡ (if task.now.auto then task.now.body else [])) }
-{
-    if task.auto {
-        Left::begin(alloc, &task.body)
-    } else {
-        Ok(Left::new(alloc))
-    }
-}
-
-/// What is left of each OSEK task at tick 0.
-fn first_tasks(alloc: Global, tasks: &[OsekDef]) -> Result<Lefts, Memory>
-    requires { length tasks.now ≤ 2 ^ 16 }
-    ensures { IfOk result (λ lefts. lefts ≡ map (λ task. if task.auto then task.body else []) tasks.now) }
-{
-    let mut lefts = Lefts::new(alloc);
-    for task in tasks {
-        lefts.push(first_left(alloc, task)?)?;
-    }
-    Ok(lefts)
-}
-
 impl State {
     /// Before tick 0.
     pub(crate) fn new(alloc: Global, config: &Config, script: &ScriptParts) -> Result<State, Memory>
@@ -77,17 +43,18 @@ impl State {
         let times = copy_numbers(alloc, script.times.as_slice())?;
         let isrs = copy_ticks(alloc, script.arrivals.isrs.as_slice())?;
         let oisrs = copy_ticks(alloc, script.arrivals.oisrs.as_slice())?;
+        let env = Env::new(alloc, &parts.vars, &parts.demands, &script.values)?;
+        let codes = codes_of(alloc, parts)?;
+        let tasks = parts.tasks.as_slice().len() as u16;
+        let routines = parts.isrs.as_slice().len() as u16;
+        let osek = Osek::new(config, &codes, tasks + routines);
         Ok(State {
             tick: 0,
             round: RoundState::new(config, script.start, script.rounds, times),
-            vars: parts.vars.copy(alloc)?,
-            cursors: Cursors::new(alloc, parts.demands.as_slice().len())?,
-            jobs: Series::new(alloc),
-            unfinished: Unfinished::new(alloc),
+            env,
+            stack: TtStack::new(codes, parts.isrs.as_slice(), tasks),
             gates: Gates::new(Arrivals { isrs, oisrs }),
-            isrs: nothing_left(alloc, parts.isrs.as_slice().len())?,
-            oisrs: nothing_left(alloc, parts.oisrs.as_slice().len())?,
-            oseks: first_tasks(alloc, parts.oseks.as_slice())?,
+            osek,
             last: None,
         })
     }

@@ -1,19 +1,26 @@
-//! The dispatcher: a run of a configuration and a script, instant by instant.
+//! A run of a configuration and a script, instant by instant, which keeps frames and tells its
+//! events to a recorder.
 #![tactic(auto)]
 
+mod ahead;
+mod bench;
 mod dispatcher;
 mod first;
 mod hooks;
 mod interrupts;
-mod lefts;
+mod log;
 mod monitoring;
-mod plain;
+mod peaks;
+mod programs;
+mod report;
 mod rounds;
+mod run;
 mod runner;
-mod services;
 mod state;
 mod tick;
-mod unfinished;
+mod told;
+mod took;
 
-pub use plain::{Events, PlainRun, run_plain};
+pub use bench::Bench;
+pub use report::{Report, Run};
 pub use tt_world::RunEnd;

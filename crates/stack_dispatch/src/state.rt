@@ -1,62 +1,41 @@
 //! The state of a run.
 
 ghost use Rattle.std.specs.Prelude.{◌≡◌};
-ghost use Rattle.tt_world.specs.Runners.{is_done, job_at};
+ghost use Rattle.tt_world.specs.Load.{depth_of, words_of};
 ghost use Rattle.tt_world.specs.Rows.{HasMode, offset_of, mode_of, row_of};
 
-use crate::lefts::Lefts;
-use crate::unfinished::Unfinished;
 use isr_window::Gates;
+use osek_idle::Osek;
 use round_end::RoundState;
 use std::marker::Model;
-use task_lang::{Cursors, Left, Vars};
-use tt_base::{Owner, Series, TaskNo, Tick};
+use task_machine::Env;
+use tt_base::{Owner, TaskNo, Tick};
+use tt_stack::TtStack;
 use tt_world::{Activation, ConfigParts, ModeDef};
-
-/// An activation of the present round. Contracts see it as the definitions' job.
-#[derive(Debug, Drop)]
-pub struct Job {
-    /// The entry number of the row of the dispatcher table that activated the task.
-    pub entry: usize,
-    /// What is left of the task's body.
-    pub left: Left,
-}
-
-impl Model for Job {
-    ghost use Rattle.std.specs.Coded.{codes};
-    ghost use Rattle.task_lang.specs.contracts.syntax.Stmt as stmt;
-    ghost use Rattle.tt_world.specs.World.{Job as OfWorld};
-
-    ghost Value = { OfWorld };
-
-    ghost coded = { Prim.hlevel (codes, stmt.the_row.coded) };
-
-    ghost view = { λ j. record { entry = j.entry; left = j.left } };
-}
 
 /// The state of a run. Contracts see it as the world, and what the runner keeps beside it.
 #[derive(Drop)]
 pub(crate) struct State {
     pub(crate) tick: Tick,
     pub(crate) round: RoundState,
-    pub(crate) vars: Vars,
-    pub(crate) cursors: Cursors,
-    pub(crate) jobs: Series<Job>,
-    /// No job at another place has statements left.
-    pub(crate) unfinished: Unfinished,
+    /// The variables, the demands and their values.
+    pub(crate) env: Env,
+    /// The activations of the round, and the time-triggered routines.
+    pub(crate) stack: TtStack,
+    /// The sources of interrupts.
     pub(crate) gates: Gates,
-    pub(crate) isrs: Lefts,
-    pub(crate) oisrs: Lefts,
-    pub(crate) oseks: Lefts,
+    /// The OSEK tasks and routines.
+    pub(crate) osek: Osek,
+    /// The owner of the tick before.
     pub(crate) last: Option<Owner>,
 }
 
 impl Model for State {
-    ghost use Rattle.std.specs.Prelude.{length};
     ghost use Rattle.std.specs.Coded.{codes};
     ghost use Rattle.task_lang.specs.contracts.syntax.Stmt as stmt;
     ghost use Rattle.stack_dispatch.specs.State.{RunState};
-    ghost use Rattle.stack_dispatch.specs.Unfinished.{AreUnfinished};
+    ghost use Rattle.osek_idle.specs.Subsystem.{lefts, IsSettled};
+    ghost use Rattle.osek_idle.specs.Standing.{IsSound, setup_of, subsystem_of};
 
     ghost Value = { RunState };
 
@@ -72,15 +51,15 @@ impl Model for State {
         pending = s.round.pending;
         latched = s.round.latched;
         times_used = s.round.times_used;
-        vars = s.vars;
-        cursors = s.cursors;
-        jobs = s.jobs;
+        vars = s.env.vars;
+        cursors = s.env.cursors;
+        jobs = s.stack.jobs;
         isrs_enabled = s.gates.isrs_enabled;
         isrs_held = s.gates.isrs_held;
-        isrs = s.isrs;
+        isrs = s.stack.isrs;
         oisrs_held = s.gates.oisrs_held;
-        oisrs = s.oisrs;
-        oseks = s.oseks;
+        oisrs = lefts (subsystem_of s.stack.codes s.osek).routines;
+        oseks = lefts (subsystem_of s.stack.codes s.osek).tasks;
         last = s.last;
       };
       beside = record {
@@ -89,39 +68,19 @@ impl Model for State {
         modes = s.round.modes;
         rounds = s.round.rounds;
         times = s.round.times;
+        demands = s.env.demands;
+        values = s.env.values;
+        codes = s.stack.codes;
+        first = s.stack.first;
+        levels = s.stack.levels;
+        setup = setup_of s.osek;
         isrs_ticks = s.gates.isrs_left;
         oisrs_ticks = s.gates.oisrs_left;
       };
     } };
 
-    ghost invariant = { λ s. AreUnfinished s.unfinished (length s.jobs) s.jobs };
-}
-
-/// Whether nothing is left.
-pub(crate) fn is_done(left: &Left) -> bool
-    ensures { result ≡ is_done left.now }
-{
-    left.is_empty()
-}
-
-/// Whether nothing is left of the job at a place. Of one that is not there nothing is left.
-pub(crate) fn is_done_at(jobs: &[Job], place: usize) -> bool
-    ensures { result ≡ is_done (job_at jobs.now place).left }
-{
-    match jobs.get(place) {
-        Some(job) => is_done(&job.left),
-        None => true,
-    }
-}
-
-/// The entry number of the job at a place. Of one that is not there it is 0.
-pub(crate) fn entry_at(jobs: &[Job], place: usize) -> usize
-    ensures { result ≡ (job_at jobs.now place).entry }
-{
-    match jobs.get(place) {
-        Some(job) => job.entry,
-        None => 0,
-    }
+    ghost invariant = { λ s. IsSound s.stack.codes s.osek
+        × IsSettled (subsystem_of s.stack.codes s.osek) };
 }
 
 /// The row of an entry number.
@@ -145,6 +104,28 @@ impl State {
         ensures { result ≡ self.now.world.tick }
     {
         self.tick
+    }
+
+    /// The number of the present round.
+    pub(crate) fn round_number(&self) -> u32
+        ensures { result ≡ self.now.world.number }
+    {
+        self.round.number()
+    }
+
+    /// How many activations and time-triggered routines are unfinished.
+    pub(crate) fn depth(&self) -> u64
+        ensures { result ≡ depth_of self.now.world }
+    {
+        self.stack.depth() as u64
+    }
+
+    /// The words of stack that those unfinished take.
+    pub(crate) fn words(&self, config: &ConfigParts) -> u64
+        requires { HasMode config.now self.now.world }
+        ensures { result ≡ words_of config.now self.now.world }
+    {
+        self.stack.words(config, self.mode_of(config))
     }
 
     /// The offset of the instant in the present round.

@@ -1,32 +1,31 @@
 //! One tick of the one who runs.
 
-ghost use Rattle.std.specs.Prelude.{◌≡◌, ◌+◌, ◌^◌, ◌<◌, ◌≤◌, ◌++◌, ◌&&◌, [], false, true, None, length, IfOk, OnErr, option_to_list};
-ghost use Rattle.task_lang.specs.Limits.{AreExpressionsShort, names_below};
-ghost use Rattle.task_lang.specs.Tick.{tick, supply_of, state_of};
-ghost use Rattle.tt_world.specs.ConfigRules.{IsConfig};
-ghost use Rattle.tt_world.specs.Moved.{Appends, Gives};
-ghost use Rattle.tt_world.specs.Runners.{is_done, left_of, job_at, runner_of};
+ghost use Rattle.std.specs.Prelude.{◌≡◌, ◌≢◌, ◌+◌, ◌^◌, ◌<◌, ◌≤◌, ◌&&◌, ◌||◌, List, [], length, None, Some, option_to_list};
+ghost use Rattle.task_lang.specs.declared.syntax.Stmt.{Stmt};
+ghost use Rattle.osek_idle.specs.Standing.{IsSound, setup_of, subsystem_of, task_body};
+ghost use Rattle.osek_idle.specs.Subsystem.{IsSettled, picked, owner_left};
+ghost use Rattle.tt_world.specs.Moved.{Gives};
+ghost use Rattle.tt_world.specs.Runners.{runner_of, owner_of};
 ghost use Rattle.tt_world.specs.Services.{is_shutdown};
-ghost use Rattle.tt_world.specs.Step.{run_line, is_somebody, runner_tick, tick_over, step};
+ghost use Rattle.tt_world.specs.ConfigRules.{IsConfig};
+ghost use Rattle.tt_world.specs.Step.{run_line, is_somebody, tick_over, step};
 ghost use Rattle.tt_world.proofs.Still.{owner_ends};
-ghost use Rattle.stack_dispatch.specs.State.{IsFor};
-ghost use Rattle.stack_dispatch.specs.Ticking.{CanTick, TicksLeft, IsJobTicked, IsTick, Calls};
+ghost use Rattle.stack_dispatch.specs.Effects.{MayDo, HaveSome, GaveIdle, effected, finished_at, idle_tick};
+ghost use Rattle.stack_dispatch.specs.Ticking.{CanTick, IsOnStack, IsInIdleTime, Took, follows};
+ghost use Rattle.stack_dispatch.specs.Told.{Tells};
 
+use crate::log::Log;
 use crate::runner::ran_before;
-use crate::state::{Job, State};
-use std::alloc::Global;
-use task_lang::{Cursors, Effect, Vars};
-use tt_base::{Call, Event, Memory, Owner, Series};
+use crate::state::State;
+use crate::took::{Did, Taken, Ticked};
+use osek_idle::Osek;
+use round_end::RoundState;
+use task_lang::Effect;
+use task_machine::{Codes, Env};
+use trace_text::Recorder;
+use tt_base::{Call, Event, Ledger, Owner, Steps, Tick};
+use tt_services::perform;
 use tt_world::{ConfigParts, RunEnd, Runner, ScriptParts};
-
-/// What a tick of the one who runs gives.
-#[derive(Clone, Copy, Debug, PartialEq, Eq)]
-pub(crate) struct Ticked {
-    /// How it ends the run, if it does.
-    pub(crate) end: Option<RunEnd>,
-    /// Whether the one who ran has ended.
-    pub(crate) ended: bool,
-}
 
 /// Whether a runner is somebody, and has ended.
 fn somebody_ended(runner: Runner, ended: bool) -> bool
@@ -45,250 +44,327 @@ fn is_shutdown(call: Call) -> bool
     call == Call::Shutdown
 }
 
-/// One tick of what is left of the job at a place.
-#[tactic(auto, using(crate::proofs::Leaving::job_same))]
-fn tick_job(
-    jobs: &mut Series<Job>,
-    place: usize,
-    alloc: Global,
-    vars: &mut Vars,
-    cursors: &mut Cursors,
-    config: &ConfigParts,
-    script: &ScriptParts,
-) -> Result<Option<Effect>, Memory>
-    requires place { place < length jobs.old }
-    requires short { AreExpressionsShort (job_at jobs.old place).left }
-    ensures ok { IfOk result (λ effect.
-        IsJobTicked jobs.old place jobs.new vars.new cursors.new (option_to_list effect)
-        (tick (supply_of config.now.demands script.now.values)
-        (state_of (job_at jobs.old place).left vars.old cursors.old []))) }
-    ensures err_jobs { OnErr result (jobs.new ≡ jobs.old) }
-    ensures err_vars { OnErr result (vars.new ≡ vars.old) }
-    ensures err_cursors { OnErr result (cursors.new ≡ cursors.old) }
+/// What the effect of a tick made.
+#[derive(Clone, Copy, Debug, PartialEq, Eq)]
+struct Effected {
+    did: Did,
+    /// Whether a service has ended its caller.
+    ends: bool,
+}
+
+/// What follows from the effect of a tick in the round and in the OSEK subsystem: a service is
+/// performed.
+fn do_effect(
+    effect: Option<Effect>,
+    who: Owner,
+    now: Tick,
+    round: &mut RoundState,
+    osek: &mut Osek,
+    codes: &Codes,
+) -> Effected
+    requires may { MayDo now who (option_to_list effect) round.old (setup_of osek.old) }
+    requires sound { IsSound codes.now osek.old }
+    ensures did { result.did
+        ≡ (effected (task_body codes.now (setup_of osek.old)) now who
+        (option_to_list effect) round.old (subsystem_of codes.now osek.old)).did }
+    ensures ends { result.ends
+        ≡ (effected (task_body codes.now (setup_of osek.old)) now who
+        (option_to_list effect) round.old (subsystem_of codes.now osek.old)).ends }
+    ensures round { round.new
+        ≡ (effected (task_body codes.now (setup_of osek.old)) now who
+        (option_to_list effect) round.old (subsystem_of codes.now osek.old)).round }
+    ensures state { subsystem_of codes.now osek.new
+        ≡ (effected (task_body codes.now (setup_of osek.old)) now who
+        (option_to_list effect) round.old (subsystem_of codes.now osek.old)).subsystem }
+    ensures setup { setup_of osek.new ≡ setup_of osek.old }
+    ensures sound { IsSound codes.now osek.new }
 {
-    let job = jobs.get_mut(place);
-    let effect = job
-        .left
-        .tick(alloc, vars, cursors, &config.demands, &script.values)?;
-    Ok(effect)
+    match effect {
+        None => Effected {
+            did: Did::Nothing,
+            ends: false,
+        },
+        Some(Effect::Out(value)) => Effected {
+            did: Did::Out(value),
+            ends: false,
+        },
+        Some(Effect::Service(call)) => {
+            let answer = perform(call, who, now, round, osek, codes);
+            Effected {
+                did: Did::Called(call, answer.result),
+                ends: answer.caller_ends,
+            }
+        }
+    }
+}
+
+/// The end of an owner that has no statement left, and that no service has ended.
+fn finish_at(osek: &mut Osek, who: Owner, ended: bool, ends: bool)
+    ensures setup { setup_of osek.new ≡ setup_of osek.old }
+    ensures sound { (codes : List (List Stmt)) → IsSound codes osek.old
+        → IsSound codes osek.new }
+    ensures state { (codes : List (List Stmt)) → subsystem_of codes osek.new
+        ≡ finished_at who ended ends (subsystem_of codes osek.old) }
+{
+    if ends {
+        return;
+    }
+    if ended {
+        osek.finish(who);
+    }
+}
+
+/// The tick of the one who runs in idle time, who is this one.
+fn tick_in_idle_time<L: Ledger>(
+    who: Owner,
+    now: Tick,
+    env: &mut Env,
+    round: &mut RoundState,
+    osek: &mut Osek,
+    codes: &Codes,
+    steps: &mut Steps<L>,
+) -> Taken
+    requires sound { IsSound codes.now osek.old }
+    requires settled { IsSettled (subsystem_of codes.now osek.old) }
+    requires bodies { HaveSome (task_body codes.now (setup_of osek.old))
+        (length (setup_of osek.old).tasks) }
+    requires picks { picked (setup_of osek.old) (subsystem_of codes.now osek.old) ≡ Some who }
+    requires left { owner_left (subsystem_of codes.now osek.old) (Some who) ≢ [] }
+    requires may { MayDo now who (idle_tick who env.old (subsystem_of codes.now osek.old)).effects
+        round.old (setup_of osek.old) }
+    ensures vars { env.new.vars ≡ (idle_tick who env.old (subsystem_of codes.now osek.old)).vars }
+    ensures cursors { env.new.cursors
+        ≡ (idle_tick who env.old (subsystem_of codes.now osek.old)).cursors }
+    ensures demands { env.new.demands ≡ env.old.demands }
+    ensures values { env.new.values ≡ env.old.values }
+    ensures gave { GaveIdle (task_body codes.now (setup_of osek.old)) now who
+        (idle_tick who env.old (subsystem_of codes.now osek.old)) round.old
+        (subsystem_of codes.now osek.old) result round.new (subsystem_of codes.now osek.new) }
+    ensures setup { setup_of osek.new ≡ setup_of osek.old }
+    ensures sound { IsSound codes.now osek.new }
+    ensures settled { IsSettled (subsystem_of codes.now osek.new) }
+    ensures counted { steps.new ≡ steps.old + 1 }
+{
+    let progress = osek.advance(codes, 1, env, steps);
+    let effected = do_effect(progress.effect, who, now, round, osek, codes);
+    finish_at(osek, who, progress.ended, effected.ends);
+    Taken {
+        did: effected.did,
+        ended: either(effected.ends, progress.ended),
+    }
+}
+
+/// Whether one of the two holds.
+fn either(one: bool, other: bool) -> bool
+    ensures { result ≡ (one || other) }
+{
+    one || other
 }
 
 impl State {
-    /// One tick of what is left of a runner, in place.
-    #[tactic(auto, using(crate::proofs::Leaving::left_there, crate::proofs::Leaving::job_there, crate::proofs::Leaving::job_ticked))]
-    fn tick_left(
+    /// The tick of an activation or of a time-triggered routine.
+    fn take_on_stack<L: Ledger>(
         &mut self,
-        alloc: Global,
-        config: &ConfigParts,
-        script: &ScriptParts,
-        runner: Runner,
-    ) -> Result<Option<Effect>, Memory>
-        requires some { is_done (left_of self.old.world runner) ≡ false }
-        requires short { AreExpressionsShort (left_of self.old.world runner) }
-        ensures ticks { IfOk result (λ effect.
-            TicksLeft config.now script.now runner self.old.world self.new.world
-            (option_to_list effect)) }
-        ensures beside { IfOk result (λ _. self.new.beside ≡ self.old.beside) }
-    {
-        match runner {
-            Runner::Isr(isr) => self.isrs.get_mut(usize::from(isr.0)).tick(
-                alloc,
-                &mut self.vars,
-                &mut self.cursors,
-                &config.demands,
-                &script.values,
-            ),
-            Runner::Job(place) => tick_job(
-                &mut self.jobs,
-                place,
-                alloc,
-                &mut self.vars,
-                &mut self.cursors,
-                config,
-                script,
-            ),
-            Runner::Oisr(oisr) => self.oisrs.get_mut(usize::from(oisr.0)).tick(
-                alloc,
-                &mut self.vars,
-                &mut self.cursors,
-                &config.demands,
-                &script.values,
-            ),
-            Runner::Osek(task) => self.oseks.get_mut(usize::from(task.0)).tick(
-                alloc,
-                &mut self.vars,
-                &mut self.cursors,
-                &config.demands,
-                &script.values,
-            ),
-            Runner::Nobody => Ok(None),
-        }
-    }
-
-    /// A service that a runner calls, after its tick was taken.
-    fn call(
-        &mut self,
-        alloc: Global,
         config: &ConfigParts,
         script: &ScriptParts,
         runner: Runner,
         who: Owner,
-        call: Call,
-        events: &mut Series<Event>,
-    ) -> Result<Ticked, Memory>
-        requires rules { IsConfig config.now }
-        requires kept { IsFor config.now script.now self.old.beside }
-        requires started { self.old.world.start ≤ self.old.world.tick }
-        requires names { names_below (length config.now.modes) (length config.now.oseks) call
-            ≡ true }
-        ensures calls { IfOk result (λ ticked.
-            Calls config.now script.now runner who call self.old.world events.old events.new
-            self.new.world ticked.end ticked.ended) }
-        ensures beside { IfOk result (λ _. self.new.beside ≡ self.old.beside) }
-    {
-        let answer = self.serve(alloc, config, script, runner, call)?;
-        events.push(Event::Called {
-            at: self.tick,
-            owner: who,
-            call,
-            result: answer.result,
-        })?;
-        let ended = answer.ended;
-        if is_shutdown(call) {
-            let end = self.shut_down(config, RunEnd::Shutdown, events)?;
-            return Ok(Ticked { end, ended });
-        }
-        Ok(Ticked { end: None, ended })
-    }
-
-    /// The tick of a runner, which has this owner, but for its Run and End lines.
-    fn runner_tick(
-        &mut self,
-        alloc: Global,
-        config: &ConfigParts,
-        script: &ScriptParts,
-        runner: Runner,
-        who: Owner,
-        events: &mut Series<Event>,
-    ) -> Result<Ticked, Memory>
+        steps: &mut Steps<L>,
+    ) -> Taken
         requires can { CanTick config.now script.now self.old }
         requires runs { runner ≡ runner_of config.now self.old.world }
-        ensures tick { IfOk result (λ ticked.
-            IsTick events.old events.new self.new.world ticked.end ticked.ended
-            (runner_tick config.now script.now runner who self.old.world)) }
-        ensures beside { IfOk result (λ _. self.new.beside ≡ self.old.beside) }
+        requires owns { who ≡ owner_of config.now self.old.world runner }
+        requires on_stack { IsOnStack runner }
+        ensures took { Took config.now script.now runner self.old.world result self.new.world }
+        ensures beside { self.new.beside ≡ self.old.beside }
+        ensures counted { steps.new ≡ steps.old + 1 }
     {
-        if let Runner::Nobody = runner {
-            return Ok(Ticked {
-                end: None,
-                ended: true,
-            });
+        let progress = self.stack.advance(1, &mut self.env, steps);
+        let codes = self.stack.codes();
+        let effected = do_effect(
+            progress.effect,
+            who,
+            self.tick,
+            &mut self.round,
+            &mut self.osek,
+            codes,
+        );
+        Taken {
+            did: effected.did,
+            ended: progress.ended,
         }
+    }
+
+    /// The tick of an OSEK task or of a routine of the OSEK subsystem.
+    fn take_in_idle_time<L: Ledger>(
+        &mut self,
+        config: &ConfigParts,
+        script: &ScriptParts,
+        runner: Runner,
+        who: Owner,
+        steps: &mut Steps<L>,
+    ) -> Taken
+        requires can { CanTick config.now script.now self.old }
+        requires runs { runner ≡ runner_of config.now self.old.world }
+        requires owns { who ≡ owner_of config.now self.old.world runner }
+        requires in_idle_time { IsInIdleTime runner }
+        ensures took { Took config.now script.now runner self.old.world result self.new.world }
+        ensures beside { self.new.beside ≡ self.old.beside }
+        ensures counted { steps.new ≡ steps.old + 1 }
+    {
+        let codes = self.stack.codes();
+        tick_in_idle_time(
+            who,
+            self.tick,
+            &mut self.env,
+            &mut self.round,
+            &mut self.osek,
+            codes,
+            steps,
+        )
+    }
+
+    /// The tick of a runner that is somebody.
+    fn take<L: Ledger>(
+        &mut self,
+        config: &ConfigParts,
+        script: &ScriptParts,
+        runner: Runner,
+        who: Owner,
+        steps: &mut Steps<L>,
+    ) -> Taken
+        requires can { CanTick config.now script.now self.old }
+        requires runs { runner ≡ runner_of config.now self.old.world }
+        requires owns { who ≡ owner_of config.now self.old.world runner }
+        ensures took { Took config.now script.now runner self.old.world result self.new.world }
+        ensures beside { self.new.beside ≡ self.old.beside }
+        ensures counted { steps.new ≡ steps.old + 1 }
+    {
+        match runner {
+            Runner::Isr(_) => self.take_on_stack(config, script, runner, who, steps),
+            Runner::Job(_) => self.take_on_stack(config, script, runner, who, steps),
+            Runner::Oisr(_) => self.take_in_idle_time(config, script, runner, who, steps),
+            Runner::Osek(_) => self.take_in_idle_time(config, script, runner, who, steps),
+            Runner::Nobody => {
+                steps.tick();
+                Taken {
+                    did: Did::Nothing,
+                    ended: true,
+                }
+            }
+        }
+    }
+
+    /// Tells what a tick did, and does what follows from it.
+    fn tell_did<R: Recorder>(
+        &mut self,
+        config: &ConfigParts,
+        who: Owner,
+        did: Did,
+        log: &mut Log<R>,
+    ) -> Option<RunEnd>
+        requires { IsConfig config.now }
+        ensures gives { Gives (Tells R.Recorder) log.old log.new self.new.world result
+            (follows config.now who did self.old.world) }
+        ensures beside { self.new.beside ≡ self.old.beside }
+    {
         let at = self.tick;
-        let effect = self.tick_left(alloc, config, script, runner)?;
-        let Some(effect) = effect else {
-            return Ok(Ticked {
-                end: None,
-                ended: self.is_done(runner),
-            });
-        };
-        match effect {
-            Effect::Out(value) => {
-                events.push(Event::Out {
+        match did {
+            Did::Nothing => None,
+            Did::Out(value) => {
+                log.tell(Event::Out {
                     at,
                     owner: who,
                     value,
-                })?;
-                Ok(Ticked {
-                    end: None,
-                    ended: self.is_done(runner),
-                })
+                });
+                None
             }
-            Effect::Service(call) => {
-                let ticked = self.call(alloc, config, script, runner, who, call, events)?;
-                Ok(ticked)
+            Did::Called(call, result) => {
+                log.tell(Event::Called {
+                    at,
+                    owner: who,
+                    call,
+                    result,
+                });
+                if !is_shutdown(call) {
+                    return None;
+                }
+                Some(self.shut_down(config, RunEnd::Shutdown, log))
             }
         }
     }
 
-    /// The tick is over: the end of an owner that has ended is noted, and the tick is raised.
-    fn end_tick(
-        &mut self,
-        who: Owner,
-        ended: bool,
-        events: &mut Series<Event>,
-    ) -> Result<(), Memory>
+    /// The tick is over: the end of an owner that has ended is told, and the tick is raised.
+    fn end_tick<R: Recorder>(&mut self, who: Owner, ended: bool, log: &mut Log<R>)
         requires { self.old.world.tick + 1 < 2 ^ 64 }
-        ensures gives { IfOk result (λ _.
-            Gives Appends events.old events.new self.new.world None (tick_over who ended self.old.world)) }
-        ensures beside { IfOk result (λ _. self.new.beside ≡ self.old.beside) }
+        ensures gives { Gives (Tells R.Recorder) log.old log.new self.new.world None
+            (tick_over who ended self.old.world) }
+        ensures beside { self.new.beside ≡ self.old.beside }
     {
         self.tick += 1;
         self.last = Some(who);
         if ended {
-            events.push(Event::End {
+            log.tell(Event::End {
                 at: self.tick,
                 owner: who,
-            })?;
+            });
         }
-        Ok(())
+    }
+
+    /// Tells the owner of the tick where it is another than that of the tick before.
+    fn tell_run<R: Recorder>(&self, who: Owner, log: &mut Log<R>)
+        ensures { Tells R.Recorder log.old (run_line self.now.world who) log.new }
+    {
+        if !ran_before(self.last, who) {
+            log.tell(Event::Run { at: self.tick, who });
+        }
     }
 
     /// The tick of the one who runs, who is this one.
-    fn step(
+    fn step<R: Recorder, L: Ledger>(
         &mut self,
-        alloc: Global,
         config: &ConfigParts,
         script: &ScriptParts,
         runner: Runner,
-        events: &mut Series<Event>,
-    ) -> Result<Ticked, Memory>
+        log: &mut Log<R>,
+        steps: &mut Steps<L>,
+    ) -> Ticked
         requires can { CanTick config.now script.now self.old }
         requires runs { runner ≡ runner_of config.now self.old.world }
-        ensures gives { IfOk result (λ ticked. Gives Appends events.old events.new self.new.world ticked.end
-            (step config.now script.now self.old.world)) }
-        ensures ended { IfOk result (λ ticked.
-            ticked.ended ≡ owner_ends config.now script.now self.old.world) }
-        ensures beside { IfOk result (λ _. self.new.beside ≡ self.old.beside) }
+        ensures gives { Gives (Tells R.Recorder) log.old log.new self.new.world result.end
+            (step config.now script.now self.old.world) }
+        ensures ended { result.ended ≡ owner_ends config.now script.now self.old.world }
+        ensures beside { self.new.beside ≡ self.old.beside }
+        ensures counted { steps.new ≡ steps.old + 1 }
     {
         let who = self.owner(config, runner);
-        self.note_run(who, events)?;
-        let ticked = self.runner_tick(alloc, config, script, runner, who, events)?;
-        let ended = somebody_ended(runner, ticked.ended);
-        let end = ticked.end;
+        self.tell_run(who, log);
+        let taken = self.take(config, script, runner, who, steps);
+        let end = self.tell_did(config, who, taken.did, log);
+        let ended = somebody_ended(runner, taken.ended);
         if let Some(_end) = end {
-            return Ok(Ticked { end, ended });
+            return Ticked { end, ended };
         }
-        self.end_tick(who, ended, events)?;
-        Ok(Ticked { end: None, ended })
+        self.end_tick(who, ended, log);
+        Ticked { end: None, ended }
     }
 
     /// One tick of the one who runs.
-    pub(crate) fn take_tick(
+    pub(crate) fn take_tick<R: Recorder, L: Ledger>(
         &mut self,
-        alloc: Global,
         config: &ConfigParts,
         script: &ScriptParts,
-        events: &mut Series<Event>,
-    ) -> Result<Ticked, Memory>
+        log: &mut Log<R>,
+        steps: &mut Steps<L>,
+    ) -> Ticked
         requires { CanTick config.now script.now self.old }
-        ensures gives { IfOk result (λ ticked. Gives Appends events.old events.new self.new.world ticked.end
-            (step config.now script.now self.old.world)) }
-        ensures ended { IfOk result (λ ticked.
-            ticked.ended ≡ owner_ends config.now script.now self.old.world) }
-        ensures beside { IfOk result (λ _. self.new.beside ≡ self.old.beside) }
+        ensures gives { Gives (Tells R.Recorder) log.old log.new self.new.world result.end
+            (step config.now script.now self.old.world) }
+        ensures ended { result.ended ≡ owner_ends config.now script.now self.old.world }
+        ensures beside { self.new.beside ≡ self.old.beside }
+        ensures counted { steps.new ≡ steps.old + 1 }
     {
         let runner = self.runner(config);
-        self.step(alloc, config, script, runner, events)
-    }
-
-    /// Notes the owner of the tick where it is another than that of the tick before.
-    fn note_run(&self, who: Owner, events: &mut Series<Event>) -> Result<(), Memory>
-        ensures { IfOk result (λ _. events.new ≡ events.old ++ run_line self.now.world who) }
-    {
-        if !ran_before(self.last, who) {
-            events.push(Event::Run { at: self.tick, who })?;
-        }
-        Ok(())
+        self.step(config, script, runner, log, steps)
     }
 }

@@ -1,6 +1,6 @@
 -- What each call makes of what is seen.
 use Rattle.std.proofs.Common.{◌≡◌, ◌≢◌, ◌↔◌, IsTrue, ℕ, zero, suc, ◌+◌, ◌<◌, inr, ⊎_elim, Bool, true, false, List, [], ◌∷◌, ◌++◌, length, refl, sym, ap, ◌∙◌, subst, arith, replicate, eq-eqb, nat_eq}
-use Rattle.std.specs.Prelude.{All, Any, not, ◌&&◌, ◌||◌, ◌==◌, slice_index_or, slice_set}
+use Rattle.std.specs.Prelude.{All, Any, not, ◌&&◌, ◌||◌, ◌==◌, slice_index_or, slice_set, sum_by}
 use Rattle.std.specs.List.{list_any}
 use Rattle.std.proofs.Math.Seq.{set-append_seam}
 use Rattle.std.proofs.lemmas.Bool.{eqb-false, ne_eqb}
@@ -18,14 +18,16 @@ use Rattle.run_stack.specs.declared.stack.StackFrame.{StackFrame}
 use Rattle.run_stack.specs.Frames.{Frames, Holds, depth_of, isr_frame, task_frame, with_isr as with_isr_frame, with_task}
 use Rattle.run_stack.proofs.Lists.{All-by_level, order-by_level}
 use Rattle.tt_world.specs.ConfigRules.{are_distinct}
+use Rattle.tt_world.specs.Load.{count_left, count_unfinished}
 use Rattle.tt_world.specs.World.{Job}
 use Rattle.tt_world.specs.Runners.{is_done, job_at}
-use Rattle.tt_stack.specs.Stacked.{Stacked, count_left, count_unfinished, depth_in, with_isr, with_job}
+use Rattle.tt_stack.specs.Stacked.{Stacked, depth_in, with_isr, with_job}
 use Rattle.tt_stack.specs.Kept.{Left, written, lefts_of, jobs_from, routine_number, routine_lefts, bodies_left, task_lefts, stacked, AreKept, IsOfTask, IsOfRoutine}
 use Rattle.tt_stack.specs.declared.state.TtStack.TheInside.{Inside}
 use Rattle.tt_stack.proofs.Frames.{isrs_insert, isrs_of, left_at, level_is, level_of, not_among, number_within, routines_given, tasks_given, tasks_push}
 use Rattle.tt_stack.proofs.Jobs.{count_jobs, job, job_left, jobs_push, length-jobs}
 use Rattle.tt_stack.proofs.Pairs.{All-from_zip, All-zip_first, length-zip}
+use Rattle.tt_stack.proofs.Weights.{job_weight, weights_given}
 use Rattle.tt_stack.proofs.Written.{at, AreGiven, at_none, count_lefts_of, count_room, finished_not_in, length-lefts_of, length-none, none_more, written_more, written_or}
 
 -- ---- levels
@@ -97,21 +99,29 @@ module _ (inside : Inside)
 
   -- ---- how many
 
+  -- as many activations are seen as were reached
   pub length_jobs_is : length view.jobs ≡ reached
   length_jobs_is = length-jobs 0 (lefts_of reached given) ∙ length-lefts_of reached given
 
+  -- each frame of a task is an unfinished activation
   pub count_tasks : count_unfinished view.jobs ≡ length s.tasks
   count_tasks =
       count_jobs 0 (lefts_of reached given) ∙ count_lefts_of reached given given_tasks
       ∙ length-zip entries (bodies_left codes s.tasks) bodies_as_many ∙ length-map s.tasks (left_at codes)
 
-  count_isrs : count_left view.isrs ≡ length s.isrs
+  -- each frame of a routine is an unfinished routine
+  pub count_isrs : count_left view.isrs ≡ length s.isrs
   count_isrs =
       count_lefts_of (length levels) (routine_lefts codes s.isrs) (routines_given codes levels s.isrs k.isrs k.by_level)
       ∙ length-map s.isrs (λ (f : StackFrame). (routine_number f.owner, left_of codes f.frame))
 
+  -- there are as many frames as unfinished activations and routines
   pub depth_is : depth_of s ≡ depth_in view
   depth_is = omega (arith, count_tasks, count_isrs)
+
+  -- the weights of all activations are those of the entries on the stack
+  pub weights_tasks : (weight : ℕ → ℕ) → sum_by (job_weight weight) view.jobs ≡ sum_by weight entries
+  weights_tasks weight = weights_given weight reached entries (bodies_left codes s.tasks) bodies_as_many given_tasks
 
   -- ---- an activation
 
@@ -139,15 +149,16 @@ module _ (inside : Inside)
       let same : 0 + length lefts ≡ length (jobs_from 0 lefts) = omega (arith, length-jobs 0 lefts) in
       jobs_push 0 lefts left ∙ ap (λ n. jobs_from 0 lefts ++ job n left ∷ []) same
 
+  -- one more place of the round, of which nothing is left, is one more activation that has ended
   pub counted : stacked codes first levels s entries (reached + 1) ≡ with_job [] view
   unfolding with_jobs
   counted = ap with_jobs (ap (λ (l : List (List Stmt)). jobs_from 0 l) lefts_more ∙ at_end [])
 
-  module _ (task : TaskNo) (frame : Frame) (words : ℕ) (sound : IsSound codes frame)
-      (some : left_of codes frame ≢ []) where
+  module _ (task : TaskNo) (frame : Frame) (sound : IsSound codes frame) (some : left_of codes frame ≢ []) where
     abbrev new_task : StackFrame
-    new_task = task_frame task frame words
+    new_task = task_frame task frame 0
 
+    -- the invariant holds with the frame of one more activation
     pub task_kept : AreKept codes first levels (with_task new_task s) (entries ++ reached ∷ []) (reached + 1)
     task_kept = record {
       enough = k.enough;
@@ -161,6 +172,7 @@ module _ (inside : Inside)
       in_count = All-push (λ (n : ℕ). n < reached + 1) entries reached more_in_count (omega arith);
     }
 
+    -- the frame of one more activation is seen as that activation, with what is left of it
     pub task_begun : stacked codes first levels (with_task new_task s) (entries ++ reached ∷ []) (reached + 1)
         ≡ with_job (left_of codes frame) view
     unfolding with_jobs
@@ -186,6 +198,7 @@ module _ (inside : Inside)
       two_owners task isr e = cc
 
   module _ (isr : IsrNo) where
+    -- a routine of which nothing is left has no frame
     pub not_held : is_done (at view.isrs isr.0) ≡ true → Holds s (By.Isr isr) → ⊥
     not_held done held =
         ⊎_elim
@@ -225,16 +238,19 @@ module _ (inside : Inside)
     by_held false same true is = refl
     by_held false same false is = let e : false ≡ true = same.1 (is_held is) in cc
 
+    -- a routine has no frame exactly where nothing is left of it
     pub held_is : (held : Bool) → IsTrue held ↔ Holds s (By.Isr isr) → not held ≡ is_done (at view.isrs isr.0)
     held_is held same = by_held held same (is_done (at view.isrs isr.0)) refl
 
     module _ (exists : isr.0 < length levels) (finished : is_done (at view.isrs isr.0) ≡ true) where
+      -- while one routine is finished, there are fewer frames than routines
       pub isr_room : length s.isrs < length levels
       isr_room =
           let all = length-lefts_of (length levels) (routine_lefts codes s.isrs) in
           let less = count_room view.isrs isr.0 (subst (λ n. isr.0 < n) (sym all) exists) finished in
           omega (arith, count_isrs, all, less)
 
+      -- a finished routine has a level that no frame has
       pub new_level : All (λ (f : StackFrame). f.level ≢ level_of codes levels isr.0) s.isrs
       new_level = λ i d l e.
           let f = slice_index_or s.isrs i d in
@@ -243,10 +259,11 @@ module _ (inside : Inside)
           (not_among codes levels s.isrs isr.0 k.isrs k.by_level finished i d l)
           (sym (level_is codes levels f (k.isrs i d l)) ∙ e)
 
-      module _ (frame : Frame) (words : ℕ) (sound : IsSound codes frame) (some : left_of codes frame ≢ []) where
+      module _ (frame : Frame) (sound : IsSound codes frame) (some : left_of codes frame ≢ []) where
         abbrev new_isr : StackFrame
-        new_isr = isr_frame isr (level_of codes levels isr.0) frame words
+        new_isr = isr_frame isr (level_of codes levels isr.0) frame 0
 
+        -- the invariant holds with the frame of a routine that was finished
         pub isr_kept : AreKept codes first levels (with_isr_frame new_isr s) entries reached
         isr_kept = record {
           enough = k.enough;
@@ -266,6 +283,7 @@ module _ (inside : Inside)
           in_count = k.in_count;
         }
 
+        -- the frame of a routine that was finished is seen as that routine, with what is left of it
         pub isr_begun : stacked codes first levels (with_isr_frame new_isr s) entries reached
             ≡ with_isr isr.0 (left_of codes frame) view
         unfolding with_isrs
@@ -305,6 +323,7 @@ module _ (inside : Inside)
     by_found true is = ap not (not_found is)
     by_found false is = ap not (is_found is)
 
+    -- a place is not among the entries exactly where nothing is left of its activation
     pub found_is : not (list_any is_place entries) ≡ is_done (job_at view.jobs place).left
     found_is = by_found (is_done (at (lefts_of reached given) place)) refl
         ∙ sym (ap is_done (job_left 0 (lefts_of reached given) place))

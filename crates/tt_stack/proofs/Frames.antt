@@ -16,6 +16,7 @@ use Rattle.tt_stack.proofs.Pairs.{All-zip_first, All-zip_second, AllPairs-zip, A
 use Rattle.std.specs.List.{range_with_len, zip}
 use Rattle.tt_stack.proofs.Written.{at, IsNotIn, AreGiven, written-push, written_comm, written_or, length-lefts_of, at_none, gone, finished_not_in}
 
+-- a list that is not empty is not done
 pub not_done : (left : List Stmt) → left ≢ [] → is_done left ≡ false
 not_done [] some = absurd (some refl)
 not_done (x ∷ xs) some = refl
@@ -23,9 +24,11 @@ not_done (x ∷ xs) some = refl
 -- ---- activations
 
 module _ (codes : List (List Stmt)) where
+  -- what is left where a frame stands
   abbrev pub left_at : StackFrame → List Stmt
   left_at f = left_of codes f.frame
 
+  -- the entries with what is left of them are distinct, within the places reached, and none is done
   pub tasks_given : (entries : List ℕ) (fs : List StackFrame) (reached : ℕ) → All (IsOfTask codes) fs → DoAscend entries
       → All (λ entry. entry < reached) entries → AreGiven reached (task_lefts codes entries fs)
   tasks_given entries fs reached all ascend below = record {
@@ -36,6 +39,7 @@ module _ (codes : List (List Stmt)) where
         (λ i j d before within e. let less = ascend i j d before within in omega (arith, less, e));
   }
 
+  -- one more frame of a task writes what is left of its entry
   pub tasks_push : (reached : ℕ) (before : List ℕ) (e : ℕ) (front : List StackFrame) (f : StackFrame) → length before
       ≡ length front
       → lefts_of reached (task_lefts codes (before ++ e ∷ []) (front ++ f ∷ []))
@@ -53,6 +57,7 @@ module _ (codes : List (List Stmt)) where
       All-zip_first (λ (n : ℕ). n ≢ e) before (bodies_left codes front)
       (λ k d l same. let less = AllPairs-last (λ (a b : ℕ). a < b) before e ascend k d l in omega (arith, less, same))
 
+  -- the last entry is that of the last activation that has statements left
   pub task_top : (reached : ℕ) (before : List ℕ) (e : ℕ) (front : List StackFrame) (f : StackFrame) → length before
       ≡ length front
       → DoAscend (before ++ e ∷ []) → e < reached → left_at f ≢ []
@@ -79,24 +84,30 @@ module _ (codes : List (List Stmt)) where
       ∙ last_is 0 0 now e (subst (λ n. e < n) (sym (length-set lefts e (left_at f))) within) here after
       ∙ ap Some zero_more
 
+  -- without entries no activation has statements left
   pub task_none : (reached : ℕ) → last_unfinished 0 (jobs_from 0 (lefts_of reached [])) ≡ None
   task_none reached = none_last 0 0 (replicate reached []) (λ n. ap is_done (at_none reached n))
 
   -- ---- routines
 
   module _ (levels : List ℕ) where
+    -- what is left of each routine, by its frames
     abbrev pub isrs_of : List StackFrame → List (List Stmt)
     isrs_of fs = lefts_of (length levels) (routine_lefts codes fs)
 
+    -- the level of a routine, by number
     abbrev pub level_of : ℕ → ℕ
     level_of n = slice_index_or levels n 0
 
+    -- the level of a frame is that of its routine
     pub level_is : (f : StackFrame) → IsOfRoutine codes levels f → f.level ≡ level_of (routine_number f.owner)
     level_is f r = r.level ∙ ap level_of (sym (ap routine_number r.owner))
 
+    -- the number of the routine of a frame is that of a routine
     pub number_within : (f : StackFrame) → IsOfRoutine codes levels f → routine_number f.owner < length levels
     number_within f r = subst (λ n. n < length levels) (sym (ap routine_number r.owner)) r.exists
 
+    -- the routines of the frames with what is left of them are distinct, and none is done
     pub routines_given : (fs : List StackFrame) → All (IsOfRoutine codes levels) fs → IsByLevel fs
         → AreGiven (length levels) (routine_lefts codes fs)
     routines_given fs all order = record {
@@ -113,6 +124,7 @@ module _ (codes : List (List Stmt)) where
           omega (arith, less, a, b, alike));
     }
 
+    -- one more frame of a routine writes what is left of that routine
     pub isrs_push : (front : List StackFrame) (f : StackFrame)
         → isrs_of (front ++ f ∷ []) ≡ slice_set (isrs_of front) (routine_number f.owner) (left_at f)
     isrs_push front f =
@@ -142,11 +154,13 @@ module _ (codes : List (List Stmt)) where
       within = subst (λ n. routine_number f.owner < n)
           (sym (length-lefts_of (length levels) (routine_lefts codes front))) (number_within f last_routine)
 
+      -- what is left of the last routine is what is left where its frame stands
       pub isr_left : at (isrs_of (front ++ f ∷ [])) (routine_number f.owner) ≡ left_at f
       isr_left =
           ap (λ (l : List (List Stmt)). at l (routine_number f.owner)) (isrs_push front f)
           ∙ get_or-set_same (isrs_of front) (routine_number f.owner) (left_at f) [] within
 
+      -- the last frame is that of the unfinished routine of the highest level
       pub isr_top : highest levels (unfinished (isrs_of (front ++ f ∷ []))) ≡ Some (routine_number f.owner)
       isr_top =
           let n = routine_number f.owner in
@@ -170,11 +184,13 @@ module _ (codes : List (List Stmt)) where
           ∙ top_of levels passes n here others 0 (length now) (omega arith)
           (subst (λ m. n < 0 + m) (sym (length-set lefts n (left_at f))) (omega (arith, within)))
 
+      -- where the last frame goes, nothing is left of its routine, and the others stay
       pub isr_gone : isrs_of front ≡ slice_set (isrs_of (front ++ f ∷ [])) (routine_number f.owner) []
       isr_gone =
           gone (length levels) (routine_lefts codes front) (routine_number f.owner) (left_at f) routines_apart
           ∙ ap (λ (l : List (List Stmt)). slice_set l (routine_number f.owner) []) (sym (isrs_push front f))
 
+      -- where the last frame moves, what is left of its routine changes, and the others stay
       pub isr_moved : (g : StackFrame) → g.owner ≡ f.owner → isrs_of (front ++ g ∷ [])
           ≡ slice_set (isrs_of (front ++ f ∷ [])) (routine_number f.owner) (left_at g)
       isr_moved g owner =
@@ -183,6 +199,7 @@ module _ (codes : List (List Stmt)) where
           ∙ sym (ap (λ (l : List (List Stmt)). slice_set l (routine_number f.owner) (left_at g)) (isrs_push front f)
           ∙ set-set (isrs_of front) (routine_number f.owner) (left_at f) (left_at g))
 
+    -- without frames no routine is unfinished
     pub isr_none : highest levels (unfinished (isrs_of [])) ≡ None
     isr_none =
         none_of levels (λ (k : ℕ). not (is_done (at (replicate (length levels) []) k)))
@@ -191,6 +208,7 @@ module _ (codes : List (List Stmt)) where
 
     -- ---- a routine that begins
 
+    -- a routine of which nothing is left is that of none of the frames
     pub not_among : (fs : List StackFrame) (n : ℕ) → All (IsOfRoutine codes levels) fs → IsByLevel fs
         → is_done (at (isrs_of fs) n) ≡ true
         → All (λ (f : StackFrame). routine_number f.owner ≢ n) fs
@@ -208,6 +226,7 @@ module _ (codes : List (List Stmt)) where
     insert_step lefts new f fs false apart rest =
         written_comm lefts (routine_lefts codes (f ∷ fs)) (routine_number new.owner) (left_at new) apart
 
+    -- a frame that is inserted by its level writes what is left of its routine
     pub isrs_insert : (lefts : List (List Stmt)) (new : StackFrame) (fs : List StackFrame)
         → IsNotIn (routine_number new.owner) (routine_lefts codes fs)
         → written lefts (routine_lefts codes (by_level new fs))

@@ -57,6 +57,7 @@ module _ (levels : List ℕ) (passes : ℕ → Bool) where
   none_step n ns true fails none = absurd cc
   none_step n ns false fails none = none
 
+  -- where no number passes, none is the highest
   pub none_of : ((n : ℕ) → passes n ≡ false) → (ns : List ℕ) → highest levels (filter passes ns) ≡ None
   unfolding highest
   none_of fails [] = refl
@@ -98,6 +99,7 @@ module _ (levels : List ℕ) (passes : ℕ → Bool) where
         ap (λ o. Some (higher levels n o)) rest ∙ ap Some (other_is_higher levels n top (others n p apart))
     other_step n ns false p apart rest = rest
 
+    -- the highest of the numbers that pass is the one whose level is above those of all others
     pub top_of : (from count : ℕ) → from ≤ top → top < from + count
         → highest levels (filter passes (range_with_len from count)) ≡ Some top
     top_of from zero least within = absurd (omega arith)

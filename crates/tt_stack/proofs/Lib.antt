@@ -5,4 +5,5 @@ pub mod Jobs
 pub mod Pairs
 pub mod Running
 pub mod Seen
+pub mod Weights
 pub mod Written

@@ -22,6 +22,7 @@ use Rattle.tt_stack.proofs.Frames.{entries_apart, isr_gone, isr_left, isr_moved,
 use Rattle.tt_stack.proofs.Jobs.{job_left, jobs_set}
 use Rattle.tt_stack.proofs.Written.{at, IsNotIn, gone, length-lefts_of}
 
+-- the frames of tasks and those of routines
 abbrev pub frames_of : List StackFrame → List StackFrame → Frames
 frames_of tasks isrs = record { tasks = tasks; isrs = isrs }
 
@@ -50,6 +51,7 @@ shape_of (x ∷ xs) [] (n ∷ ns) same =
     (subst (λ entries. Shape (frames_of (front ++ f ∷ []) []) entries) (sym so)
     (Task_on_top front f before e (omega (arith, same, a, b))))
 
+-- each stack whose entries are as many as its frames of tasks has one of these shapes
 pub shape : (s : Frames) (entries : List ℕ) → length entries ≡ length s.tasks → Shape s entries
 shape s entries same = shape_of s.tasks s.isrs entries same
 
@@ -74,12 +76,15 @@ without_entry before e =
     ap (λ n. take n (before ++ e ∷ [])) same ∙ take-append_seam before (e ∷ [])
 
 module _ (codes : List (List Stmt)) (first : ℕ) (levels : List ℕ) (reached : ℕ) where
+  -- what is seen of the frames and the entries
   abbrev pub view : Frames → List ℕ → Stacked
   view s entries = stacked codes first levels s entries reached
 
+  -- the invariant of the frames and the entries
   abbrev pub Kept : Frames → List ℕ → Type 0
   Kept s entries = AreKept codes first levels s entries reached
 
+  -- the activations that the frames of tasks stand for
   abbrev pub jobs_of : List StackFrame → List ℕ → List Job
   jobs_of tasks entries = jobs_from 0 (lefts_of reached (task_lefts codes entries tasks))
 
@@ -298,6 +303,7 @@ module _ (codes : List (List Stmt)) (first : ℕ) (levels : List ℕ) (reached :
       → Running s entries (seen f) → Running s entries top
   seen_is s entries f top is so r = let same : seen f ≡ top = cc in subst (Running s entries) same r
 
+  -- the frame on top is that of the one that runs
   pub running_at : (s : Frames) (entries : List ℕ) → Shape s entries → Kept s entries → (top : Top)
       → option_map seen (top_of s) ≡ Some top
       → Running s entries top
@@ -312,6 +318,7 @@ module _ (codes : List (List Stmt)) (first : ℕ) (levels : List ℕ) (reached :
   some_top : (s : Frames) (f : StackFrame) → top_of s ≡ Some f → option_map seen (top_of s) ≡ None → ⊥
   some_top s f is none = cc
 
+  -- where no frame is on top, nobody runs
   pub none_at : (s : Frames) (entries : List ℕ) → Shape s entries → option_map seen (top_of s) ≡ None
       → runner_in (view s entries) ≡ None
   none_at _ _ Empty is = none_runs
@@ -324,6 +331,7 @@ module _ (codes : List (List Stmt)) (first : ℕ) (levels : List ℕ) (reached :
   no_runner None is some = cc
   no_runner (Some r) is some = cc
 
+  -- where one runs, there is a frame on top, which is its frame
   pub running_now : (s : Frames) (entries : List ℕ) → Shape s entries → Kept s entries
       → IsSome (runner_in (view s entries)) → (top : Top) × Running s entries top
   running_now _ _ Empty k runs = absurd (no_runner _ none_runs runs)

@@ -25,6 +25,7 @@ there left d none [] n some = absurd (some none)
 there left d none (x ∷ xs) zero some = omega arith
 there left d none (x ∷ xs) (suc n) some = let within = there left d none xs n some in omega (arith, within)
 
+-- what a call leaves of a runner that had statements left is what is left of it after the call
 pub left_then : (s : Stacked) (who : Runner) (left : List Stmt) → left_in s who ≢ []
     → left_in (leaving_in s who left) who ≡ left
 left_then s (runner.Isr isr) left some =
@@ -43,6 +44,7 @@ none_is : (o : Option Runner) → o ≡ None → IsSome o → ⊥
 none_is None is some = cc
 none_is (Some r) is some = cc
 
+-- where one runs, it is not nobody
 pub none_none : (s : Stacked) → IsSome (runner_in s) → runner_in s ≡ None → ⊥
 none_none s some none = none_is (runner_in s) none some
 
@@ -72,38 +74,47 @@ module _ (inside : Inside)
   abbrev Run : Top → Type 0
   Run top = Running codes first levels reached s entries top
 
+  -- the codes are those that are seen
   pub codes_are : codes ≡ now.codes
   codes_are = ap (λ (v : Stacked). v.codes) is
 
+  -- the frame on top is that of the one that runs
   pub run_at : (top : Top) → option_map seen (top_of s) ≡ Some top → Run top
   run_at top so = running_at codes first levels reached s entries (shape s entries k.as_many) k top so
 
+  -- where no frame is on top, nobody is seen to run
   pub none_then : option_map seen (top_of s) ≡ None → runner_in now ≡ None
   none_then so = ap runner_in (sym is) ∙ none_at codes first levels reached s entries (shape s entries k.as_many) so
 
+  -- where one is seen to run, there is a frame on top, which is its frame
   pub run_now : IsSome (runner_in now) → (top : Top) × Run top
   run_now runs =
       running_now codes first levels reached s entries (shape s entries k.as_many) k
       (subst (λ v. IsSome (runner_in v)) (sym is) runs)
 
   module _ (top : Top) (r : Run top) where
+    -- the one of the frame on top is seen to run
     pub runner_is : runner_in now ≡ Some r.who
     runner_is = ap runner_in (sym is) ∙ r.is
 
+    -- where a frame is on top, one is seen to run
     pub runs : IsSome (runner_in now)
     runs = some_is (runner_in now) r.who runner_is
 
     running_is : running now ≡ r.who
     running_is = ap (λ o. unwrap_or o runner.Nobody) runner_is
 
+    -- what is left where the frame on top stands is seen to be left of the one that runs
     pub left_now : left_of now.codes top.frame ≡ left_in now (running now)
     left_now =
         ap (λ (c : List (List Stmt)). left_of c top.frame) (sym codes_are) ∙ r.left
         ∙ ap (λ (v : Stacked). left_in v r.who) is ∙ ap (left_in now) (sym running_is)
 
+    -- the frame on top is one of the codes that are seen
     pub sound_now : IsSound now.codes top.frame
     sound_now = subst (λ c. IsSound c top.frame) codes_are r.sound
 
+    -- something is left where the frame on top stands
     pub some_now : left_of now.codes top.frame ≢ []
     some_now = subst (λ c. left_of c top.frame ≢ []) codes_are r.some
 
@@ -112,12 +123,14 @@ module _ (inside : Inside)
     leaving_now left =
         ap (λ (v : Stacked). leaving_in v r.who left) is ∙ ap (λ (w : Runner). leaving_in now w left) (sym running_is)
 
+    -- where the frame on top moves, what is left of the one that runs is seen to change, and nothing else
     pub moved_now : (frame : Frame) → stacked codes first levels (with_top frame s) entries reached
         ≡ leaving_in now (running now) (left_of now.codes frame)
     moved_now frame =
         r.moved frame ∙ leaving_now (left_of codes frame)
         ∙ ap (λ (c : List (List Stmt)). leaving_in now (running now) (left_of c frame)) codes_are
 
+    -- where the frame on top goes, nothing is seen to be left of the one that runs, and nothing else changes
     pub ended_now : stacked codes first levels (popped s) (entries_after top.owner entries) reached
         ≡ leaving_in now (running now) []
     ended_now = r.ended ∙ leaving_now []

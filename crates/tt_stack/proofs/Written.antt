@@ -6,9 +6,9 @@ use Rattle.std.proofs.lemmas.List.{length-set, get_or-set_same, get_or-set_other
 use Rattle.std.proofs.lemmas.List.Elements.{All-nil, All-cons, All-head, All-tail}
 use Rattle.std.proofs.lemmas.List.Sums.{count_by-le-length, sum_by-cons, sum_by-set}
 use Rattle.task_lang.specs.declared.syntax.Stmt.{Stmt}
+use Rattle.tt_world.specs.Load.{count_left}
 use Rattle.tt_world.specs.Runners.{is_done}
 use Rattle.run_stack.proofs.Lists.{AllPairs-first, AllPairs-rest}
-use Rattle.tt_stack.specs.Stacked.{count_left}
 use Rattle.tt_stack.specs.Kept.{Left, written, lefts_of}
 
 -- what is left of a number
@@ -76,29 +76,35 @@ written_or Q lefts (x ∷ xs) n all =
 
 -- ---- nothing so far
 
+-- nothing is left of any number at first
 pub at_none : (count n : ℕ) → at (replicate count []) n ≡ []
 at_none zero n = refl
 at_none (suc count) zero = refl
 at_none (suc count) (suc n) = at_none count n
 
+-- a list with nothing for each of some numbers has their count as its length
 pub length-none : (count : ℕ) → length (replicate {A = List Stmt} count []) ≡ count
 length-none zero = refl
 length-none (suc count) = omega (arith, length-none count)
 
+-- one number more of which nothing is left stands at the end
 pub none_more : (count : ℕ) → replicate {A = List Stmt} (suc count) [] ≡ replicate count [] ++ [] ∷ []
 none_more zero = refl
 none_more (suc count) = ap (λ (l : List (List Stmt)). [] ∷ l) (none_more count)
 
+-- the list has an item for each number
 pub length-lefts_of : (count : ℕ) (given : List Left) → length (lefts_of count given) ≡ count
 length-lefts_of count given = length-written (replicate count []) given ∙ length-none count
 
 -- ---- how many
 
+-- the numbers are distinct and below a count, and something is left of each
 pub record AreGiven (count : ℕ) (given : List Left) : Type 0 where
   pub below : All (λ (one : Left). one.0 < count) given
   pub some : All (λ (one : Left). is_done one.1 ≡ false) given
   pub distinct : AllPairs (λ (one other : Left). one.0 ≢ other.0) given
 
+-- the numbers after the first are given, too
 pub given_rest : (count : ℕ) (x : Left) (xs : List Left) → AreGiven count (x ∷ xs) → AreGiven count xs
 given_rest count x xs g = record {
   below = All-tail (λ (one : Left). one.0 < count) x xs g.below;
@@ -119,6 +125,7 @@ count_set lefts n left within none some =
     let after : one_left left ≡ 1 = ap (λ b. cond (not b) 1 0) some in
     omega (arith, set, before, after)
 
+-- each number that is written is one more of which something is left
 pub count_written : (lefts : List (List Stmt)) (given : List Left) → AreGiven (length lefts) given
     → All (λ (one : Left). at lefts one.0 ≡ []) given → count_left (written lefts given)
     ≡ count_left lefts + length given
@@ -155,6 +162,7 @@ count_lefts_of count given g =
 
 -- ---- a finished one leaves room
 
+-- where one is finished, fewer are unfinished than there are
 pub count_room : (lefts : List (List Stmt)) (n : ℕ) → n < length lefts → is_done (at lefts n) ≡ true
     → count_left lefts < length lefts
 count_room [] n within done = absurd (omega arith)

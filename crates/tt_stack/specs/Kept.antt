@@ -9,7 +9,10 @@ use Rattle.task_lang.specs.declared.syntax.Stmt.{Stmt}
 use Rattle.task_machine.specs.Standing.{left_of, IsSound}
 use Rattle.run_stack.specs.Frames.{Frames, IsByLevel}
 use Rattle.run_stack.specs.declared.stack.StackFrame.{StackFrame}
+use Rattle.tt_world.specs.declared.config.ConfigParts.{ConfigParts}
+use Rattle.tt_world.specs.declared.config.ModeDef.{ModeDef}
 use Rattle.tt_world.specs.ConfigRules.{are_distinct}
+use Rattle.tt_world.specs.Rows.{no_task, row_of}
 use Rattle.tt_world.specs.World.{Job}
 use Rattle.tt_world.specs.declared.world.Runner.{Runner}
 use Rattle.tt_world.specs.declared.world.Runner.TheVariants as runner
@@ -76,6 +79,12 @@ runner_for _ last = option_map (λ (place : ℕ). runner.Job place) last
 abbrev pub entries_after : Owner → List ℕ → List ℕ
 entries_after (By.Isr isr) entries = entries
 entries_after _ entries = take (length entries - 1) entries
+
+-- ---- words of stack
+
+-- the declared words of stack of the task of an entry number
+abbrev pub entry_words : ConfigParts → ModeDef → ℕ → ℕ
+entry_words c mode entry = (slice_index_or c.tasks (row_of mode entry).task.0 no_task).stack
 
 -- ---- what is kept
 

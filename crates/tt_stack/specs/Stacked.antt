@@ -1,13 +1,13 @@
 -- The activations of a round and the time-triggered routines: what is left of each, and who of them runs.
-use Rattle.std.specs.Prelude.{ℕ, ◌+◌, not, List, [], ◌∷◌, ◌++◌, length, Option, None, Some, unwrap_or, option_map, slice_index_or, slice_set}
-use Rattle.std.specs.List.{count_by}
+use Rattle.std.specs.Prelude.{ℕ, ◌+◌, List, [], ◌∷◌, ◌++◌, length, Option, None, Some, unwrap_or, option_map, slice_index_or, slice_set}
 use Rattle.task_lang.specs.declared.syntax.Stmt.{Stmt}
 use Rattle.task_machine.specs.Standing.{body_of}
 use Rattle.tt_world.specs.declared.world.Runner.{Runner}
 use Rattle.tt_world.specs.declared.world.Runner.TheVariants.{Isr, Nobody}
 use Rattle.tt_world.specs.declared.world.Runner.TheVariants as runner
+use Rattle.tt_world.specs.Load.{count_left, count_unfinished}
 use Rattle.tt_world.specs.World.{Job}
-use Rattle.tt_world.specs.Runners.{is_done, job_at, with_left, unfinished, highest, last_unfinished}
+use Rattle.tt_world.specs.Runners.{job_at, with_left, unfinished, highest, last_unfinished}
 
 pub record Stacked : Type 0 where
   -- the bodies by program number, the number of the program of the first routine, and the levels of the routines: these
@@ -71,14 +71,6 @@ leaving_in s _ left = s
 
 -- ---- how many are unfinished
 
--- how many activations have statements left
-abbrev pub count_unfinished : List Job → ℕ
-count_unfinished jobs = count_by (λ (job : Job). not (is_done job.left)) jobs
-
--- how many routines are unfinished
-abbrev pub count_left : List (List Stmt) → ℕ
-count_left lefts = count_by (λ (left : List Stmt). not (is_done left)) lefts
-
--- how many of both
+-- how many activations and routines
 abbrev pub depth_in : Stacked → ℕ
 depth_in s = count_unfinished s.jobs + count_left s.isrs

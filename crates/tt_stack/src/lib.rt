@@ -3,5 +3,6 @@
 #![tactic(auto)]
 
 mod state;
+mod words;
 
 pub use state::TtStack;

@@ -1,20 +1,22 @@
 //! The stack with what its frames stand for.
 
-ghost use Rattle.std.specs.Prelude.{◌≡◌, ◌≢◌, ◌≤◌, ◌<◌, ◌+◌, ◌-◌, ◌↔◌, List, [], ◌∷◌, ◌++◌, length, map, max, replicate, true, IfSome, IsSome, IsTrue, None, option_to_list, slice_get, slice_index_or};
+ghost use Rattle.std.specs.Prelude.{◌≡◌, ◌≢◌, ◌≤◌, ◌<◌, ◌+◌, ◌-◌, ◌*◌, ◌↔◌, List, [], ◌∷◌, ◌++◌, length, map, max, replicate, sum_by, true, IfSome, IsSome, IsTrue, None, option_to_list, slice_get, slice_index_or};
 ghost use Rattle.task_lang.specs.Tick.{supply_of, state_of, ticks};
 ghost use Rattle.task_machine.specs.Standing.{body_of, left_of, work_in_front, IsSound as IsSoundFrame};
 ghost use Rattle.tt_world.specs.declared.config.IsrDef.{IsrDef};
 ghost use Rattle.tt_world.specs.ConfigRules.{are_distinct};
-ghost use Rattle.tt_world.specs.Runners.{is_done, job_at};
+ghost use Rattle.tt_world.specs.Load.{count_left, count_unfinished, isr_words, words_in};
+ghost use Rattle.tt_world.specs.Runners.{is_done, job_at, unfinished};
 ghost use Rattle.tt_stack.specs.Kept.{entries_after, runner_for};
-ghost use Rattle.tt_stack.specs.Stacked.{with_job, with_isr, isr_body, runner_in, running, left_in, leaving_in, count_unfinished, depth_in};
+ghost use Rattle.tt_stack.specs.Stacked.{with_job, with_isr, isr_body, runner_in, running, left_in, leaving_in, depth_in};
 
+use crate::words::{isr_words, words_of_entries};
 use arrayvec::ArrayVec;
 use run_stack::RunStack;
 use std::marker::Model;
 use task_machine::{Codes, Env, Frame, Progress, advance};
 use tt_base::{IsrNo, Ledger, Owner, Steps, TaskNo};
-use tt_world::{IsrDef, Runner};
+use tt_world::{ConfigParts, IsrDef, ModeDef, Runner};
 
 /// The unfinished activations of the present round and the unfinished time-triggered routines, as
 /// frames on a stack. It takes no memory beside its own. Contracts see the activations of the
@@ -79,7 +81,7 @@ fn runner_for(owner: Owner, last: Option<usize>) -> Option<Runner>
 }
 
 /// The last entry goes where a frame of a task does.
-fn take_off(entries: &mut ArrayVec<usize, 64>, owner: Owner)
+fn drop_entry(entries: &mut ArrayVec<usize, 64>, owner: Owner)
     ensures { entries.new.items ≡ entries_after owner entries.old.items }
 {
     match owner {
@@ -122,9 +124,8 @@ impl TtStack {
         &self.codes
     }
 
-    /// The next activation of the round, of a task, begins with its whole body, and takes so many
-    /// words of stack.
-    pub fn activate(&mut self, task: TaskNo, words: u32)
+    /// The next activation of the round, of a task, begins with its whole body.
+    pub fn activate(&mut self, task: TaskNo)
         requires exists { task.0 < self.old.first }
         requires room { count_unfinished self.old.jobs < 64 }
         requires in_count { length self.old.jobs < usize.MAX }
@@ -134,12 +135,12 @@ impl TtStack {
         if frame.ended() {
             self.count();
         } else {
-            self.begin_task(task, frame, words);
+            self.begin_task(task, frame);
         }
     }
 
-    /// A routine begins with its whole body, and takes so many words of stack.
-    pub fn accept(&mut self, isr: IsrNo, words: u32)
+    /// A routine begins with its whole body.
+    pub fn accept(&mut self, isr: IsrNo)
         requires exists { isr.0 < length self.old.levels }
         requires finished { is_done (slice_index_or self.old.isrs isr.0 []) ≡ true }
         ensures { self.new ≡ with_isr isr.0 (isr_body self.old isr.0) self.old }
@@ -149,7 +150,7 @@ impl TtStack {
         if frame.ended() {
             return;
         }
-        self.begin_isr(isr, frame, words);
+        self.begin_isr(isr, frame);
     }
 
     /// Who runs: the unfinished routine of the highest level, else the last activation that has
@@ -256,9 +257,46 @@ impl TtStack {
         self.stack.depth()
     }
 
-    /// The sum of the words of stack of all that are unfinished.
-    pub fn words(&self) -> u64 {
-        self.stack.words()
+    /// The declared words of stack of the activations and routines that are unfinished, where the
+    /// activations are of the rows of a mode.
+    pub fn words(&self, config: &ConfigParts, mode: &ModeDef) -> u64
+        ensures { result ≡ words_in config.now mode.now self.now.jobs self.now.isrs }
+    {
+        let of_jobs = words_of_entries(config, mode, self.entries.as_slice());
+        if self.has_no_isr() {
+            return of_jobs;
+        }
+        of_jobs + self.words_of_isrs(config)
+    }
+
+    /// The declared words of stack of the unfinished routines.
+    fn words_of_isrs(&self, config: &ConfigParts) -> u64
+        ensures value { result ≡ sum_by (isr_words config.now) (unfinished self.now.isrs) }
+        ensures bounded { result ≤ 16 * u32.MAX }
+    {
+        let mut words = 0;
+        for number in 0..self.count_isrs() {
+            let isr = IsrNo(number as u16);
+            if !self.is_isr_done(isr) {
+                words += u64::from(isr_words(config, isr));
+            }
+        }
+        words
+    }
+
+    /// How many routines there are.
+    fn count_isrs(&self) -> usize
+        ensures value { result ≡ length self.now.isrs }
+        ensures few { result ≤ 16 }
+    {
+        self.levels.len()
+    }
+
+    /// Whether no routine is unfinished.
+    fn has_no_isr(&self) -> bool
+        ensures { IsTrue result ↔ (count_left self.now.isrs ≡ 0) }
+    {
+        self.depth() == self.entries.len()
     }
 
     /// The frame of the one that runs.
@@ -284,20 +322,21 @@ impl TtStack {
     }
 
     /// An activation that stands there.
-    fn begin_task(&mut self, task: TaskNo, frame: Frame, words: u32)
+    fn begin_task(&mut self, task: TaskNo, frame: Frame)
         requires room { count_unfinished self.old.jobs < 64 }
         requires in_count { length self.old.jobs < usize.MAX }
         requires sound { IsSoundFrame self.old.codes frame }
         requires some { left_of self.old.codes frame ≢ [] }
         ensures { self.new ≡ with_job (left_of self.old.codes frame) self.old }
     {
-        self.stack.push_task(task, frame, words);
+        // The words of an instant are summed from the tables, so that frames carry none.
+        self.stack.push_task(task, frame, 0);
         self.entries.push(self.reached);
         self.reached += 1;
     }
 
     /// A routine that stands there.
-    fn begin_isr(&mut self, isr: IsrNo, frame: Frame, words: u32)
+    fn begin_isr(&mut self, isr: IsrNo, frame: Frame)
         requires exists { isr.0 < length self.old.levels }
         requires finished { is_done (slice_index_or self.old.isrs isr.0 []) ≡ true }
         requires sound { IsSoundFrame self.old.codes frame }
@@ -305,7 +344,8 @@ impl TtStack {
         ensures { self.new ≡ with_isr isr.0 (left_of self.old.codes frame) self.old }
     {
         let level = self.levels[usize::from(isr.0)];
-        self.stack.accept_isr(isr, level, frame, words);
+        // As for a task, the frame carries no words.
+        self.stack.accept_isr(isr, level, frame, 0);
     }
 
     /// The one that runs stands there now, or has ended.
@@ -328,7 +368,7 @@ impl TtStack {
     {
         if let Some(top) = self.stack.top() {
             self.stack.pop();
-            take_off(&mut self.entries, top.owner);
+            drop_entry(&mut self.entries, top.owner);
         }
     }
 }

@@ -11,6 +11,7 @@ pub returns : goal.returns
 returns c =
     let busy = c.mark_oisrs.new.busy in
     let isrs = rw (sym c.mark_oisrs.ensures.isrs, ap length c.as_slice.ensures) at c.mark_isrs.ensures.isrs in
-    let oisrs = rw (ap length c.as_slice-2.ensures) at c.mark_oisrs.ensures.oisrs in
+    let oisrs = rw (ap length c.as_slice-2.ensures) at
+    (c.mark_oisrs.ensures.oisrs c.self.inside.stack.codes c.self.invariant.1) in
     subst (λ (z : RunState). AreUnfinished c.args.config.now busy z.world (window_in z)) c.self.view_is
     (are_unfinished c.args.config.now busy _ _ isrs oisrs)

@@ -12,7 +12,8 @@ returns-in-Some c =
     let here = c.offset.ensures in
     let start = c.start.ensures.value ∙ ap (λ (z : RunState). z.world.start) c.self.view_is in
     rows_free c.args.config.now c.args.self.now.world (Some c.in-Some.offset) c.saturating_add.result
-    (λ between l m. subst (λ (d : ModeDef). IsFree between d) mode (c.in-Some.ensures.free between (omega arith) m)) (omega arith)
+    (λ between l m. subst (λ (d : ModeDef). IsFree between d) mode (c.in-Some.ensures.free between (omega arith) m))
+    (omega arith)
 
 pub returns-in-None : goal.returns-in-None
 returns-in-None c =

@@ -1,38 +1,51 @@
-use Rattle.stack_dispatch.proofs.Foreseen.{not_ended, opens_accepting, opens_idle, idle_sources, ahead_accepted, ahead_idle}
+use Rattle.std.proofs.Common.{◌≡◌, false}
+use Rattle.stack_dispatch.proofs.Foreseen.{opens_accepting, opens_idle, idle_sources, ahead_accepted, ahead_idle}
 use Rattle.stack_dispatch.proofs.Opened.{left_kept}
+use Rattle.stack_dispatch.proofs.Telling.{telling}
 use Rattle.stack_dispatch.proofs.state.State.open_idle.Goals as goal
 
-pub returns-then-not-ahead-clause-gives : goal.returns-then-not-ahead-clause-gives
-returns-then-not-ahead-clause-gives c =
-    opens_idle c.args.config.now c.args.script.now c.args.self.now c.requires.can c.args.ahead.next c.requires.foresees.next c.requires.idle _
-    (c.requires.foresees.none (not_ended _ c.if-not-ahead.true))
+pub returns-then-ahead-clause-gives : goal.returns-then-ahead-clause-gives
+returns-then-ahead-clause-gives g c =
+    opens_accepting (telling g.R.Recorder) c.args.config.now c.args.script.now c.args.self.now c.requires.can
+    c.args.ahead.next
+    c.requires.foresees.next c.requires.idle _ _ _ c.accept_all.ensures.gives
 
-pub returns-then-not-ahead-clause-opened : goal.returns-then-not-ahead-clause-opened
-returns-then-not-ahead-clause-opened c = record {
-  sources = idle_sources c.args.config.now c.args.script.now c.args.self.now c.requires.can c.args.ahead.next c.requires.foresees.next c.requires.idle;
-  none = c.requires.foresees.none (not_ended _ c.if-not-ahead.true);
-}
-
-pub returns-then-not-ahead-clause-ahead : goal.returns-then-not-ahead-clause-ahead
-returns-then-not-ahead-clause-ahead c = ahead_idle c.args.config.now c.args.script.now c.args.self.now c.args.ahead.next c.requires.foresees.next
-
-pub returns-clause-gives : goal.returns-clause-gives
-returns-clause-gives c =
-    opens_accepting c.args.config.now c.args.script.now c.args.self.now c.requires.can c.args.ahead.next c.requires.foresees.next c.requires.idle
-    _ _ _ c.in_ok-accept_all.ensures.gives
-
-pub returns-clause-opened : goal.returns-clause-opened
-returns-clause-opened c =
-    let h = idle_sources c.args.config.now c.args.script.now c.args.self.now c.requires.can c.args.ahead.next c.requires.foresees.next c.requires.idle in
+pub returns-then-ahead-clause-opened : goal.returns-then-ahead-clause-opened
+returns-then-ahead-clause-opened g c =
+    let h = idle_sources (telling g.R.Recorder) c.args.config.now c.args.script.now c.args.self.now c.requires.can
+    c.args.ahead.next
+    c.requires.foresees.next c.requires.idle in
     record {
       sources = record {
-        sources = c.in_ok-accept_all.ensures.sources;
-        left = left_kept c.args.config.now c.args.script.now _ c.args.self.now c.accept_all.new.self c.in_ok-accept_all.ensures.beside h.left;
+        sources = c.accept_all.ensures.sources;
+        left = left_kept (telling g.R.Recorder) c.args.config.now c.args.script.now _ c.args.self.now
+            c.accept_all.new.self
+            c.accept_all.ensures.beside h.left;
       };
-      none = c.in_ok-accept_all.ensures.none;
+      none = c.accept_all.ensures.none;
     }
 
-pub returns-clause-ahead : goal.returns-clause-ahead
-returns-clause-ahead c =
-    ahead_accepted c.args.config.now c.args.script.now c.args.self.now c.accept_all.new.self c.args.ahead.next _ _ c.in_ok-accept_all.ensures.beside
-    c.in_ok-accept_all.ensures.gives c.requires.foresees.next
+pub returns-then-ahead-clause-ahead : goal.returns-then-ahead-clause-ahead
+returns-then-ahead-clause-ahead g c =
+    ahead_accepted (telling g.R.Recorder) c.args.config.now c.args.script.now c.args.self.now c.accept_all.new.self
+    c.args.ahead.next _ _
+    c.accept_all.ensures.beside c.accept_all.ensures.gives c.requires.foresees.next
+
+pub returns-else-ahead-clause-gives : goal.returns-else-ahead-clause-gives
+returns-else-ahead-clause-gives g c =
+    opens_idle (telling g.R.Recorder) c.args.config.now c.args.script.now c.args.self.now c.requires.can
+    c.args.ahead.next
+    c.requires.foresees.next c.requires.idle _ (c.requires.foresees.none c.if-ahead.false)
+
+pub returns-else-ahead-clause-opened : goal.returns-else-ahead-clause-opened
+returns-else-ahead-clause-opened g c = record {
+  sources = idle_sources (telling g.R.Recorder) c.args.config.now c.args.script.now c.args.self.now c.requires.can
+      c.args.ahead.next
+      c.requires.foresees.next c.requires.idle;
+  none = c.requires.foresees.none c.if-ahead.false;
+}
+
+pub returns-else-ahead-clause-ahead : goal.returns-else-ahead-clause-ahead
+returns-else-ahead-clause-ahead g c =
+    ahead_idle (telling g.R.Recorder) c.args.config.now c.args.script.now c.args.self.now c.args.ahead.next
+    c.requires.foresees.next

@@ -47,7 +47,7 @@ invariant_of-self c =
     (sym c.self.view_is) c.requires.finished in
     let codes = codes_are i c.self.invariant c.args.self.now c.self.view_is in
     rw (c.accept_isr.ensures, c.deref.ensures.0, c.from.ensures)
-    (isr_kept i c.self.invariant c.args.isr exists finished c.args.frame c.args.words
+    (isr_kept i c.self.invariant c.args.isr exists finished c.args.frame
     (subst (λ l. IsSound l c.args.frame) (sym codes) c.requires.sound)
     (subst (λ l. left_of l c.args.frame ≢ []) (sym codes) c.requires.some))
 
@@ -63,14 +63,14 @@ returns c =
     ∙ ap (λ l. stacked i.codes i.first i.levels.items
     (with_frame
     (isr_frame c.args.isr
-    (slice_index_or l c.from.result 0) c.args.frame c.args.words) i.stack) i.entries.items i.reached)
+    (slice_index_or l c.from.result 0) c.args.frame 0) i.stack) i.entries.items i.reached)
     c.deref.ensures.0
     ∙ ap (λ n. stacked i.codes i.first i.levels.items
     (with_frame
     (isr_frame c.args.isr
-    (slice_index_or i.levels.items n 0) c.args.frame c.args.words) i.stack) i.entries.items i.reached)
+    (slice_index_or i.levels.items n 0) c.args.frame 0) i.stack) i.entries.items i.reached)
     c.from.ensures
-    ∙ isr_begun i c.self.invariant c.args.isr exists finished c.args.frame c.args.words
+    ∙ isr_begun i c.self.invariant c.args.isr exists finished c.args.frame
     (subst (λ l. IsSound l c.args.frame) (sym codes) c.requires.sound)
     (subst (λ l. left_of l c.args.frame ≢ []) (sym codes) c.requires.some)
     ∙ ap (with_isr c.args.isr.0 (left_of i.codes c.args.frame)) c.self.view_is

@@ -1,8 +1,9 @@
 use Rattle.std.proofs.Common.{◌≢◌, ◌+◌, [], ap, ◌∙◌, length, subst, sym, arith}
 use Rattle.task_machine.specs.Standing.{left_of, IsSound}
 use Rattle.run_stack.specs.Frames.{task_frame, with_task}
+use Rattle.tt_world.specs.Load.{count_unfinished}
 use Rattle.tt_stack.specs.Kept.{stacked}
-use Rattle.tt_stack.specs.Stacked.{Stacked, count_unfinished, with_job}
+use Rattle.tt_stack.specs.Stacked.{Stacked, with_job}
 use Rattle.tt_stack.proofs.Calls.{count_tasks, length_jobs_is, task_begun, task_kept}
 use Rattle.tt_stack.proofs.Seen.{codes_are}
 use Rattle.tt_stack.proofs.state.TtStack.begin_task.Goals as goal
@@ -33,7 +34,7 @@ invariant_of-self c =
     let i = c.self.inside in
     let codes = codes_are i c.self.invariant c.args.self.now c.self.view_is in
     rw (c.push_task.ensures, c.push.ensures.items)
-    (task_kept i c.self.invariant c.args.task c.args.frame c.args.words
+    (task_kept i c.self.invariant c.args.task c.args.frame
     (subst (λ l. IsSound l c.args.frame) (sym codes) c.requires.sound)
     (subst (λ l. left_of l c.args.frame ≢ []) (sym codes) c.requires.some))
 
@@ -43,8 +44,8 @@ returns c =
     let codes = codes_are i c.self.invariant c.args.self.now c.self.view_is in
     ap (λ s. stacked i.codes i.first i.levels.items s c.push.new.self.items (i.reached + 1)) c.push_task.ensures
     ∙ ap (λ es. stacked i.codes i.first i.levels.items
-    (with_task (task_frame c.args.task c.args.frame c.args.words) i.stack) es (i.reached + 1)) c.push.ensures.items
-    ∙ task_begun i c.self.invariant c.args.task c.args.frame c.args.words
+    (with_task (task_frame c.args.task c.args.frame 0) i.stack) es (i.reached + 1)) c.push.ensures.items
+    ∙ task_begun i c.self.invariant c.args.task c.args.frame
     (subst (λ l. IsSound l c.args.frame) (sym codes) c.requires.sound)
     (subst (λ l. left_of l c.args.frame ≢ []) (sym codes) c.requires.some)
     ∙ ap (with_job (left_of i.codes c.args.frame)) c.self.view_is

@@ -1,4 +1,4 @@
-use Rattle.std.proofs.Common.{◌≡◌, ◌+◌, ap, sym, ◌∙◌, length, arith}
+use Rattle.std.proofs.Common.{◌≡◌, ◌+◌, ap, sym, ◌∙◌, arith}
 use Rattle.tt_world.specs.Runners.{job_at}
 use Rattle.tt_stack.specs.Kept.{lefts_of, task_lefts}
 use Rattle.tt_stack.specs.Stacked.{Stacked}

@@ -9,15 +9,15 @@ invariant_of-self c =
     let i = c.self.inside in
     let r = run_at i c.self.invariant c.args.self.now c.self.view_is c.in-Some.top
     (sym c.top.ensures.top ∙ c.in-Some.is) in
-    rw (c.pop.ensures, c.take_off.ensures) r.ended_kept
+    rw (c.pop.ensures, c.drop_entry.ensures) r.ended_kept
 
 pub returns-in-Some : goal.returns-in-Some
 returns-in-Some c =
     let i = c.self.inside in
     let r = run_at i c.self.invariant c.args.self.now c.self.view_is c.in-Some.top
     (sym c.top.ensures.top ∙ c.in-Some.is) in
-    ap (λ s. stacked i.codes i.first i.levels.items s c.take_off.new.entries.items i.reached) c.pop.ensures
-    ∙ ap (λ es. stacked i.codes i.first i.levels.items (popped i.stack) es i.reached) c.take_off.ensures
+    ap (λ s. stacked i.codes i.first i.levels.items s c.drop_entry.new.entries.items i.reached) c.pop.ensures
+    ∙ ap (λ es. stacked i.codes i.first i.levels.items (popped i.stack) es i.reached) c.drop_entry.ensures
     ∙ ended_now i c.self.invariant c.args.self.now c.self.view_is c.in-Some.top r
 
 pub returns-in_default : goal.returns-in_default

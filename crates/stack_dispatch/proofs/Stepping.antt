@@ -1,0 +1,150 @@
+-- The whole tick of the one who runs: what it told, and what follows from it.
+use Rattle.std.proofs.Common.{ℕ, ◌≡◌, List, [], ◌∷◌, true, Bool, refl, ap, sym, ◌∙◌, None, Some, subst}
+use Rattle.std.specs.Prelude.{◌&&◌}
+use Rattle.std.proofs.lemmas.Bool.{cond-true}
+use Rattle.task_lang.specs.Tick.{tick}
+use Rattle.task_lang.specs.declared.syntax.Stmt.{Stmt}
+use Rattle.task_lang.specs.declared.tick.Effect.{Effect}
+use Rattle.task_lang.specs.declared.tick.Effect.TheVariants as effect
+use Rattle.tt_base.specs.declared.event.Event.{Event}
+use Rattle.tt_base.specs.declared.event.Event.TheVariants.{Out, Called}
+use Rattle.tt_base.specs.declared.event.Call.{Call}
+use Rattle.tt_base.specs.declared.event.Owner.{Owner}
+use Rattle.tt_world.specs.declared.config.ConfigParts.{ConfigParts}
+use Rattle.tt_world.specs.declared.script.ScriptParts.{ScriptParts}
+use Rattle.tt_world.specs.declared.world.Runner.{Runner}
+use Rattle.tt_world.specs.declared.world.Runner.TheVariants as runner
+use Rattle.tt_world.specs.World.{World}
+use Rattle.tt_world.specs.Moved.{Moved, Outcome, IsTelling, Gives, goes_on, preceded, followed, is_over}
+use Rattle.tt_world.specs.Runners.{left_of, leaving, runner_of, owner_of}
+use Rattle.tt_world.specs.Hooks.{shuts_down}
+use Rattle.tt_world.specs.Services.{service, is_shutdown}
+use Rattle.tt_world.specs.declared.world.RunEnd.TheVariants as ending
+use Rattle.tt_world.specs.Step.{state_after, effected, runner_tick, is_somebody, run_line, tick_over, step}
+use Rattle.tt_world.proofs.Forward.{effected_mid}
+use Rattle.tt_world.proofs.Moves.{gives_next, gives_stop}
+use Rattle.tt_world.proofs.Still.{owner_ends}
+use Rattle.stack_dispatch.specs.declared.took.Did.{Did}
+use Rattle.stack_dispatch.specs.declared.took.Did.TheVariants as did
+use Rattle.stack_dispatch.specs.declared.took.Taken.{Taken}
+use Rattle.stack_dispatch.specs.Ticking.{IsTick, Took, TookBy, follows}
+
+leaving_tick : (w : World) (r : Runner) (left : List Stmt) → (leaving w r left).tick ≡ w.tick
+leaving_tick w (runner.Isr i) left = refl
+leaving_tick w r left = refl
+
+-- nobody's tick does nothing
+pub took_nobody : (c : ConfigParts) (s : ScriptParts) (w : World)
+    → Took c s runner.Nobody w (record { did = did.Nothing; ended = true }) w
+unfolding tick
+took_nobody c s w = record { did = refl; ended_is = refl; world_is = refl }
+
+module _ {L : Type 0} {Told : L → List Event → L → Type 0} (telling : IsTelling Told) where
+  module _ (c : ConfigParts) (s : ScriptParts) (r : Runner) (who : Owner) (a b : L) (v : World) (end : Outcome)
+      (taken : Taken) (after : World) where
+    follows_is : (d : Did) (x : World) → taken.did ≡ d → after ≡ x
+        → Gives Told a b v end (follows c who taken.did after)
+        → Gives Told a b v end (follows c who d x)
+    follows_is d x e f g =
+        subst (λ (y : World). Gives Told a b v end (follows c who d y)) f
+        (subst (λ (y : Did). Gives Told a b v end (follows c who y after)) e g)
+
+    out_same : (w : World) (left : List Stmt) (value : _)
+        → goes_on (leaving w r left) (Out (leaving w r left).tick who value ∷ [])
+        ≡ goes_on (leaving w r left) (Out w.tick who value ∷ [])
+    out_same w left value = ap (λ (n : ℕ). goes_on (leaving w r left) (Out n who value ∷ [])) (leaving_tick w r left)
+
+    by_effects : (w : World) (left : List Stmt) (es : List Effect) → TookBy c s r w left es taken after
+        → Gives Told a b v end (follows c who taken.did after)
+        → IsTick Told a b v end taken.ended (effected c s r who es left w)
+    by_effects w left [] t g = record {
+      gives = follows_is did.Nothing (leaving w r left) t.did t.world_is g;
+      ended_is = t.ended_is;
+    }
+    by_effects w left (effect.Out value ∷ rest) t g = record {
+      gives = subst (Gives Told a b v end) (out_same w left value)
+          (follows_is (did.Out value) (leaving w r left) t.did t.world_is g);
+      ended_is = t.ended_is;
+    }
+    by_effects w left (effect.Service k ∷ rest) t g =
+        let answer = service c s r k left w in
+        record {
+          gives = follows_is (did.Called k answer.result) (leaving answer.world r answer.left) t.did t.world_is g;
+          ended_is = t.ended_is;
+        }
+
+    -- a tick that was taken, and what follows from what it did
+    pub tick_from : (w : World) → Took c s r w taken after → Gives Told a b v end (follows c who taken.did after)
+        → IsTick Told a b v end taken.ended (runner_tick c s r who w)
+    tick_from w t g =
+        let state = state_after c s w (left_of w r) in
+        by_effects (record w { vars = state.vars; cursors = state.cursors }) state.left state.effects t g
+
+  gives_after : (a b d : L) (line : List Event) (w : World) (end : Outcome) (m : Moved) → Told a line b
+      → Gives Told b d w end m
+      → Gives Told a d w end (preceded line m)
+  gives_after a b d line w end m e g = record {
+    world_is = g.world_is;
+    told = telling.both a b d line m.events e g.told;
+    end_is = g.end_is;
+  }
+
+  -- a shutdown follows the line of its call
+  pub shut_down_follows : (c : ConfigParts) (who : Owner) (k : Call) (n : ℕ) (w : World) (at : ℕ) (a b d : L)
+      (v : World) (end : Outcome) (what : Did)
+      → at ≡ w.tick → what ≡ did.Called k n → Told a (Called at who k n ∷ []) b → is_shutdown k ≡ true
+      → Gives Told b d v end (shuts_down c (Some ending.Shutdown) w) → Gives Told a d v end (follows c who what w)
+  shut_down_follows c who k n w at a b d v end what same is told over g =
+      let line : List Event = Called w.tick who k n ∷ [] in
+      subst (λ (x : Did). Gives Told a d v end (follows c who x w)) (sym is)
+      (subst (Gives Told a d v end)
+      (sym (cond-true (is_shutdown k) (preceded line (shuts_down c (Some ending.Shutdown) w)) (goes_on w line) over))
+      (gives_after a b d line v end (shuts_down c (Some ending.Shutdown) w)
+      (subst (λ (t : ℕ). Told a (Called t who k n ∷ []) b) same told) g))
+
+  -- a tick that does not end the run leaves the present tick to be raised
+  tick_stays : (c : ConfigParts) (s : ScriptParts) (r : Runner) (who : Owner) (w v : World) (a b : L)
+      → Gives Told a b v None (runner_tick c s r who w).move → v.tick ≡ w.tick
+  tick_stays c s r who w v a b g =
+      let state = state_after c s w (left_of w r) in
+      ap (λ (x : World). x.tick) g.world_is
+      ∙ (effected_mid c s r who state.effects state.left w (record w { vars = state.vars; cursors = state.cursors })
+      refl refl refl refl
+      (ap is_over (sym g.end_is))).tick
+
+  module _ (c : ConfigParts) (s : ScriptParts) (w : World) (r : Runner) (who : Owner) (runs : r ≡ runner_of c w)
+      (owns : who ≡ owner_of c w r)
+      (a b d : L) (line : Told a (run_line w who) b) (v : World) (end : Outcome) (ended : Bool)
+      (t : IsTick Told b d v end ended (runner_tick c s r who w)) where
+    step_is : step c s w ≡ followed (preceded (run_line w who) (runner_tick c s r who w).move)
+        (tick_over who (is_somebody r && (runner_tick c s r who w).ended))
+    unfolding step
+    step_is = rw (owns, runs) refl
+
+    first : Gives Told a d v end (preceded (run_line w who) (runner_tick c s r who w).move)
+    first = gives_after a b d (run_line w who) v end _ line t.gives
+
+    -- where what follows ends the run, the step ends
+    pub step_ends : is_over end ≡ true → Gives Told a d v end (step c s w)
+    step_ends over = subst (Gives Told a d v end) (sym step_is) (gives_stop a d v end _ _ over first)
+
+    -- else the tick is over
+    pub step_goes_on : end ≡ None → (f : L) (u : World)
+        → Gives Told d f u None (tick_over who (is_somebody r && ended) v)
+        → Gives Told a f u None (step c s w)
+    step_goes_on e f u g = subst (Gives Told a f u None) (sym step_is)
+        (gives_next telling a d f v u None (preceded (run_line w who) (runner_tick c s r who w).move)
+        (tick_over who (is_somebody r && (runner_tick c s r who w).ended))
+        (subst (λ o. Gives Told a d v o (preceded (run_line w who) (runner_tick c s r who w).move)) e first)
+        (subst (λ x. Gives Told d f u None (tick_over who (is_somebody r && x) v)) t.ended_is g))
+
+    -- and the present tick was not raised before
+    pub step_room : end ≡ None → v.tick ≡ w.tick
+    step_room e = tick_stays c s r who w v b d
+        (subst (λ o. Gives Told b d v o (runner_tick c s r who w).move) e t.gives)
+
+    -- whether the owner has ended
+    pub ends_is : (over : Bool) → over ≡ (is_somebody r && ended) → over ≡ owner_ends c s w
+    ends_is over e =
+        let same : (is_somebody r && (runner_tick c s r who w).ended) ≡ owner_ends c s w = rw (owns, runs) refl in
+        e ∙ ap (λ x. is_somebody r && x) t.ended_is ∙ same

@@ -1,0 +1,86 @@
+use Rattle.std.proofs.Common.{◌≡◌, List, refl, sym, subst}
+use Rattle.std.specs.Prelude.{option_to_list}
+use Rattle.task_lang.specs.declared.syntax.Stmt.{Stmt}
+use Rattle.tt_world.specs.Runners.{runner_of, owner_of}
+use Rattle.osek_idle.specs.Standing.{IsSound, setup_of, subsystem_of, task_body}
+use Rattle.stack_dispatch.specs.Effects.{Effected, effected}
+use Rattle.stack_dispatch.specs.State.{RunState}
+use Rattle.stack_dispatch.specs.Ticking.{CanTick}
+use Rattle.stack_dispatch.proofs.Idling.{parts_are}
+use Rattle.stack_dispatch.proofs.Taking.{took_seen, stack_is_running, stack_may, stack_settled, stack_took}
+use Rattle.stack_dispatch.proofs.state.State.take_on_stack.Goals as goal
+
+pub advance-progress-requires-clause-runs : goal.advance-progress-requires-clause-runs
+advance-progress-requires-clause-runs g c =
+    let can = subst (λ (x : RunState). CanTick c.args.config.now c.args.script.now x) (sym c.self.view_is)
+    c.requires.can in
+    let runs = subst (λ (x : RunState). c.args.runner ≡ runner_of c.args.config.now x.world) (sym c.self.view_is)
+    c.requires.runs in
+    let owns = subst (λ (x : RunState). c.args.who ≡ owner_of c.args.config.now x.world c.args.runner)
+    (sym c.self.view_is) c.requires.owns in
+    stack_is_running c.args.config.now c.args.script.now _ c.args.runner c.args.who can runs owns c.requires.on_stack
+
+pub do_effect-effected-requires-clause-may : goal.do_effect-effected-requires-clause-may
+do_effect-effected-requires-clause-may g c =
+    let can = subst (λ (x : RunState). CanTick c.args.config.now c.args.script.now x) (sym c.self.view_is)
+    c.requires.can in
+    let runs = subst (λ (x : RunState). c.args.runner ≡ runner_of c.args.config.now x.world) (sym c.self.view_is)
+    c.requires.runs in
+    let owns = subst (λ (x : RunState). c.args.who ≡ owner_of c.args.config.now x.world c.args.runner)
+    (sym c.self.view_is) c.requires.owns in
+    let a = c.advance-progress in
+    stack_may c.args.config.now c.args.script.now _ c.args.runner c.args.who can runs owns c.requires.on_stack
+    a.new.self a.new.env.vars a.new.env.cursors (option_to_list a.result.effect) a.ensures.others a.ensures.ticks
+
+pub invariant_of-self : goal.invariant_of-self
+invariant_of-self g c =
+    let can = subst (λ (x : RunState). CanTick c.args.config.now c.args.script.now x) (sym c.self.view_is)
+    c.requires.can in
+    let runs = subst (λ (x : RunState). c.args.runner ≡ runner_of c.args.config.now x.world) (sym c.self.view_is)
+    c.requires.runs in
+    let owns = subst (λ (x : RunState). c.args.who ≡ owner_of c.args.config.now x.world c.args.runner)
+    (sym c.self.view_is) c.requires.owns in
+    let a = c.advance-progress in
+    let d = c.do_effect-effected in
+    let codes = c.codes-codes.result.now in
+    let x : Effected = record {
+      did = d.result.did;
+      round = d.new.round;
+      subsystem = subsystem_of codes d.new.osek;
+      ends = d.result.ends;
+    } in (
+      subst (λ (k : List (List Stmt)). IsSound k d.new.osek) c.codes-codes.ensures d.ensures.sound,
+      stack_settled c.args.config.now c.args.script.now _ c.args.runner c.args.who can runs owns c.requires.on_stack
+          a.new.self a.new.env.vars a.new.env.cursors (option_to_list a.result.effect) a.ensures.others a.ensures.ticks
+          c.self.inside.osek d.new.osek refl refl refl c.self.invariant.1 codes c.codes-codes.ensures x
+          (parts_are (effected (task_body codes (setup_of c.self.inside.osek)) c.self.inside.tick c.args.who
+          (option_to_list a.result.effect) c.self.inside.round
+          (subsystem_of codes c.self.inside.osek)) _ _ _ _ d.ensures.did d.ensures.round d.ensures.state
+          d.ensures.ends) refl,
+    )
+
+pub returns-clause-took : goal.returns-clause-took
+returns-clause-took g c =
+    let can = subst (λ (x : RunState). CanTick c.args.config.now c.args.script.now x) (sym c.self.view_is)
+    c.requires.can in
+    let runs = subst (λ (x : RunState). c.args.runner ≡ runner_of c.args.config.now x.world) (sym c.self.view_is)
+    c.requires.runs in
+    let owns = subst (λ (x : RunState). c.args.who ≡ owner_of c.args.config.now x.world c.args.runner)
+    (sym c.self.view_is) c.requires.owns in
+    let a = c.advance-progress in
+    let d = c.do_effect-effected in
+    let codes = c.codes-codes.result.now in
+    let x : Effected = record {
+      did = d.result.did;
+      round = d.new.round;
+      subsystem = subsystem_of codes d.new.osek;
+      ends = d.result.ends;
+    } in
+    took_seen c.args.config.now c.args.script.now c.args.runner _ c.args.self.now _ _ c.self.view_is
+    (stack_took c.args.config.now c.args.script.now _ c.args.runner c.args.who can runs owns c.requires.on_stack
+    a.new.self a.new.env.vars a.new.env.cursors (option_to_list a.result.effect) a.ensures.others a.ensures.ticks
+    c.self.inside.osek d.new.osek refl refl refl c.self.invariant.1 codes c.codes-codes.ensures x
+    (parts_are (effected (task_body codes (setup_of c.self.inside.osek)) c.self.inside.tick c.args.who
+    (option_to_list a.result.effect) c.self.inside.round
+    (subsystem_of codes c.self.inside.osek)) _ _ _ _ d.ensures.did d.ensures.round d.ensures.state d.ensures.ends) refl
+    a.result.ended a.ensures.ended)

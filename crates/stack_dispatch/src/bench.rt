@@ -1,0 +1,95 @@
+//! The bench: an application with its script, whose run is told to a recorder.
+
+ghost use Rattle.std.specs.Prelude.{◌≡◌, IfOk, IsTrue};
+ghost use Rattle.tt_world.specs.ScriptRules.{IsScript};
+
+use crate::report::Run;
+use crate::state::State;
+use crate::told::run_told;
+use round_table::Tables;
+use std::alloc::Global;
+use std::marker::Model;
+use trace_text::Recorder;
+use tt_base::{Ledger, Memory, Steps};
+use tt_world::{Config, Script};
+
+/// An application with its script, and all that its run needs. Contracts see it as both.
+#[derive(Drop)]
+pub struct Bench {
+    config: Config,
+    script: Script,
+    tables: Tables,
+    state: State,
+}
+
+impl Model for Bench {
+    ghost use Rattle.std.specs.Coded.{codes};
+    ghost use Rattle.task_lang.specs.contracts.syntax.Stmt as stmt;
+    ghost use Rattle.stack_dispatch.specs.Reports.{Benched, IsMade};
+
+    ghost Value = { Benched };
+
+    ghost coded = { Prim.hlevel (codes, stmt.the_row.coded) };
+
+    ghost view = { λ b. record { config = b.config; script = b.script } };
+
+    ghost invariant = { λ b. IsMade b.config b.script b.tables b.state };
+}
+
+impl Bench {
+    ghost use Rattle.tt_world.specs.Schedule.{schedule};
+    ghost use Rattle.schedule_check.specs.declared.answers.CheckAnswer.TheVariants.{Yes};
+    ghost use Rattle.schedule_check.specs.DeadlineLaws.{NoneMissed};
+    ghost use Rattle.schedule_check.specs.Kept.{KeepsBounds};
+    ghost use Rattle.schedule_check.specs.Responses.{answer_of};
+    ghost use Rattle.stack_dispatch.specs.Reports.{IsNotMissed, KeepsLaws, Ran};
+
+    /// A configuration on the bench, with a script that was made for it. It makes all codes,
+    /// tables and counters. Out of memory is its one refusal.
+    pub fn new(alloc: Global, config: Config, script: Script) -> Result<Bench, Memory>
+        requires { IsScript config script }
+        ensures { IfOk result (λ bench. bench ≡ record { config = config; script = script }) }
+    {
+        let tables = Tables::build(alloc, &config)?;
+        let state = State::new(alloc, &config, script.parts())?;
+        Ok(Bench {
+            config,
+            script,
+            tables,
+            state,
+        })
+    }
+
+    /// Runs, tick by tick, up to the first missed deadline, the call of ttShutdownOS or the last
+    /// round, and tells each event to the recorder. It takes no memory. After an event that the
+    /// recorder did not keep it ends with the instant. No clause speaks of the steps.
+    pub fn run_trace<R: Recorder, L: Ledger>(self, recorder: &mut R, steps: &mut Steps<L>) -> Run
+        requires { IsTrue (R.ready recorder.old) }
+        ensures ran { Ran R.Recorder self recorder.old recorder.new result }
+
+        // The laws of the events that an ended run told, read from them without a state of the run.
+        ensures laws { KeepsLaws self.config (schedule self.config self.script) }
+
+        // Where the check of the configuration says yes and the script keeps its bounds, no
+        // deadline is missed.
+        ensures no_miss { answer_of self.config ≡ Yes → KeepsBounds self.config self.script
+            → NoneMissed self.config (schedule self.config self.script) }
+        ensures not_missed { answer_of self.config ≡ Yes → KeepsBounds self.config self.script
+            → IsNotMissed result }
+    {
+        let Bench {
+            config,
+            script,
+            tables,
+            state,
+        } = self;
+        run_told(
+            config.parts(),
+            script.parts(),
+            &tables,
+            state,
+            recorder,
+            steps,
+        )
+    }
+}

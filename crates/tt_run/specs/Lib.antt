@@ -1,9 +1,0 @@
-pub mod Checking
-pub mod Due
-pub mod Effects
-pub mod First
-pub mod Reports
-pub mod Served
-pub mod State
-pub mod Ticking
-pub mod Told
