@@ -1,26 +1,26 @@
 -- The answer to the bytes of the document of some words, where they are told.
-use Rattle.std.proofs.Common.{◌≡◌, ◌≢◌, ℕ, ◌^◌, ◌≤◌, List, Option, Some, None, false, nat_lt, cond, length, refl, ap, sym, ◌∙◌, subst, arith}
+use Rattle.std.proofs.Common.{◌≡◌, ◌≢◌, ℕ, ◌^◌, ◌≤◌, List, Option, Some, None, [], false, nat_lt, cond, length, refl, ap, sym, ◌∙◌, subst, arith}
 use Rattle.std.specs.Prelude.{IfSome}
 use Rattle.std.proofs.lemmas.Bool.Decides.{nat_tests}
 use Rattle.tt_io.specs.Known.{WasAll}
 use Rattle.tt_read.specs.Document.{document_of}
 use Rattle.osektime_core.specs.declared.words.Command.{Command}
 use Rattle.osektime_core.specs.declared.words.Command.TheVariants.{Trace, Show, Table, Check, Load, Bulk}
-use Rattle.osektime_core.specs.declared.status.Status.TheVariants.{TooLong}
+use Rattle.osektime_core.specs.declared.status.Status.TheVariants.{Done, Memory, Usage, ReadFault, WriteFault, TooLong, Form, Rule, CheckNo, Missed, Shut}
+use Rattle.osektime_core.specs.declared.status.Status.{Status}
 use Rattle.osektime_core.specs.Words.{command_of}
-use Rattle.osektime_core.specs.BulkText.{bulk_text}
-use Rattle.osektime_core.specs.Answer.{Answer, IsReading, answer_of, bytes_answer, command_answer, document_answer, document_by, document_for, silent, words_answer}
+use Rattle.osektime_core.specs.Answer.{Answer, IsReading, OnAnswered, answer_of, bytes_answer, command_answer, document_answer, document_by, document_for, silent, words_answer}
 
--- ---- commands that read, and `bulk`
+-- ---- commands that read
 
 -- a command that is not `bulk` reads
-pub reads_unless_bulk : (command : Command) → ((number : ℕ) → command ≢ Bulk number) → IsReading (Some command)
-reads_unless_bulk Trace other = tt
-reads_unless_bulk Show other = tt
-reads_unless_bulk Table other = tt
-reads_unless_bulk Check other = tt
-reads_unless_bulk Load other = tt
-reads_unless_bulk (Bulk number) other = absurd (other number refl)
+pub is_reading : (command : Command) → ((number : ℕ) → command ≢ Bulk number) → IsReading (Some command)
+is_reading Trace other = tt
+is_reading Show other = tt
+is_reading Table other = tt
+is_reading Check other = tt
+is_reading Load other = tt
+is_reading (Bulk number) other = absurd (other number refl)
 
 -- it answers the bytes that it reads
 reading_answer : (command : Command) (bytes : List ℕ) → IsReading (Some command)
@@ -41,6 +41,28 @@ reading_document Table left reads = refl
 reading_document Check left reads = refl
 reading_document Load left reads = refl
 reading_document (Bulk number) left reads = absurd reads
+
+-- ---- by the status
+
+-- a fact of an answer that was given
+pub on_answered : (status : Status) (P : Type 0) → (status ≢ Memory → status ≢ WriteFault → P) → OnAnswered status P
+on_answered Done P fact = fact (λ is. cc is) (λ is. cc is)
+on_answered Memory P fact = tt
+on_answered Usage P fact = tt
+on_answered ReadFault P fact = tt
+on_answered WriteFault P fact = tt
+on_answered TooLong P fact = tt
+on_answered (Form line kind) P fact = fact (λ is. cc is) (λ is. cc is)
+on_answered (Rule number line) P fact = fact (λ is. cc is) (λ is. cc is)
+on_answered (CheckNo mode entry) P fact = fact (λ is. cc is) (λ is. cc is)
+on_answered (Missed task tick) P fact = fact (λ is. cc is) (λ is. cc is)
+on_answered (Shut tick) P fact = fact (λ is. cc is) (λ is. cc is)
+
+-- nothing of what was taken is left
+pub was_taken : (left after : Option (List ℕ)) (bytes : List ℕ) → WasAll left after bytes
+    → IfSome left (λ all. after ≡ Some [])
+was_taken None after bytes all = tt
+was_taken (Some told) after bytes all = all.1
 
 -- ---- the answer to few bytes
 
@@ -80,20 +102,3 @@ pub told_answer : (P : Answer → Type 0) (words : List (List ℕ)) (command : C
 told_answer P words command left after bytes is reads all fits fact =
     told_bytes (λ b. P (answer_of words b)) words command left after bytes is reads all
     (subst P (sym (answer_is words command bytes is reads fits)) fact)
-
--- a fact of the bytes of the bulk document
-pub bulk_bytes : (Q : List ℕ → Type 0) (words : List (List ℕ)) (number : ℕ) (left : Option (List ℕ)) (bytes : List ℕ)
-    → command_of words ≡ Some (Bulk number) → bytes ≡ bulk_text number → Q bytes → IfSome (document_for words left) Q
-bulk_bytes Q words number left bytes is document fact =
-    subst (λ (c : Option Command). IfSome (document_by c left) Q) (sym is) (subst Q document fact)
-
--- a fact of the answer to them
-pub bulk_answer : (P : Answer → Type 0) (words : List (List ℕ)) (number : ℕ) (left : Option (List ℕ)) (bytes : List ℕ)
-    → command_of words ≡ Some (Bulk number) → bytes ≡ bulk_text number → length bytes ≤ 2 ^ 20
-    → P (document_answer (Bulk number) (document_of bytes))
-    → IfSome (document_for words left) (λ b. P (answer_of words b))
-bulk_answer P words number left bytes is document fits fact =
-    let same : answer_of words bytes ≡ document_answer (Bulk number) (document_of bytes) =
-    ap (λ c. words_answer c bytes) is ∙ ap (bytes_answer (Bulk number)) (sym document)
-    ∙ few_bytes (Bulk number) bytes fits in
-    bulk_bytes (λ b. P (answer_of words b)) words number left bytes is document (subst P (sym same) fact)

@@ -1,7 +1,7 @@
 -- The answer to a command: what is written, and the status.
 use Rattle.std.specs.Prelude.{◌≡◌, ◌≢◌, ◌≤◌, ℕ, List, [], ◌∷◌, ◌++◌, ◌^◌, nat_lt, codes, decimal, Option, Some, None, IfSome, if◌then◌else◌, ⊤, length}
 use Rattle.std.specs.Io.KnownBytes.{Appends}
-use Rattle.tt_io.specs.Count.{Rose}
+use Rattle.tt_io.specs.Count.{Rose, counted}
 use Rattle.tt_io.specs.Known.{AppendsPart}
 use Rattle.tt_doc.specs.Words.{joined}
 use Rattle.trace_text.specs.Lines.{text_of}
@@ -93,13 +93,14 @@ abbrev pub check_answer : Option Broken → List NumberedRow → Answer
 check_answer (Some broken) rows = rule_answer broken.number broken.line
 check_answer None rows = checked_answer (config_of rows) (script_of rows)
 
--- what the run of a configuration and a script comes to, with the bounds of the configuration
+-- what the run of a configuration and a script comes to, with the bounds of the configuration; the counts of events and
+-- of activations stay at their last value, 2^64 - 1
 abbrev pub summary_of : ConfigParts → ScriptParts → Summary
 summary_of c s = record {
   ticks = ending.last_stamp (schedule c s);
   rounds = last_round (schedule c s);
-  events = length (schedule c s);
-  activations = activations_in (schedule c s);
+  events = counted 0 (length (schedule c s));
+  activations = counted 0 (activations_in (schedule c s));
   deepest = deepest c s;
   depth_bound = depth_bound c;
   words = most_words c s;

@@ -1,28 +1,55 @@
-use Rattle.std.proofs.Common.{◌≡◌, ◌≢◌, ℕ, List, Option, None, Some, IfSome, rules, subst}
-use Rattle.tt_io.specs.Known.{WasAll}
+use Rattle.std.proofs.Common.{◌≡◌, ◌≢◌, sym, subst, ap, ◌∙◌}
+use Rattle.std.specs.Io.KnownBytes.{Appends}
+use Rattle.tt_io.specs.Known.{AppendsPart}
 use Rattle.osektime_core.specs.NoMiss.{IsSchedulable, NoneIsMissed}
-use Rattle.osektime_core.specs.declared.status.Status.{Status}
-use Rattle.osektime_core.specs.declared.status.Status.TheVariants.{WriteFault}
+use Rattle.osektime_core.specs.declared.status.Status.TheVariants.{Memory, WriteFault}
 use Rattle.osektime_core.specs.Words.{command_of}
-use Rattle.osektime_core.proofs.Told.{told_answer}
+use Rattle.osektime_core.specs.Answer.{Answer, IsReading, IsAnswered}
+use Rattle.osektime_core.proofs.Told.{is_reading, on_answered, told_answer, told_bytes, was_taken}
+use Rattle.osektime_core.proofs.command.serve.Given.{Over}
 use Rattle.osektime_core.proofs.command.serve.Goals as goal
+
+-- the whole answer, where one was given
+given : (g : Over) (c : goal.After-drop-bytes-2 g) → c.respond-2.result ≢ Memory
+    → c.respond-2.result ≢ WriteFault
+    → IsAnswered c.args.words.now (g.I.Source.left c.args.input.now) c.respond-2.result
+    (g.O.Sink.written c.args.output.now) (g.O.Sink.written c.respond-2.new.output)
+given g c ample whole =
+    told_answer (λ a. (c.respond-2.result ≡ a.status)
+    × Appends (g.O.Sink.written c.args.output.now) (g.O.Sink.written c.respond-2.new.output) a.text)
+    c.args.words.now c.in-Some.command _ (g.I.Source.left c.take_all.new.source) c.in-Ok-take_all.bytes.items
+    (sym c.command.ensures ∙ c.in-Some.is) (is_reading c.in-Some.command c.in_default-command.not-Bulk)
+    c.in-Ok-take_all.ensures.bytes c.in-Ok-take_all.ensures.fits
+    (rw (← c.deref-2.ensures.value) (c.respond-2.ensures.responds.answered ample whole))
 
 pub returns-clause-complete : goal.returns-clause-complete
 returns-clause-complete g c = λ calm_input calm_output ample.
-    let written : c.respond.result ≢ WriteFault = λ fault. calm_output (c.respond.ensures.responds.cause fault) in
-    let is : command_of c.args.words.now ≡ Some c.in-Some.command = search rules in
-    told_answer c.args.words.now c.in-Some.command _ _ _ _ c.in-Ok.bytes.items c.respond.result is
-    c.in-Ok.ensures.bytes c.in-Ok.ensures.fits
-    (rw (← c.deref.ensures.value) (c.respond.ensures.responds.answered ample written))
+    given g c ample (λ fault. calm_output (c.respond-2.ensures.responds.cause fault))
 
--- the bytes that were taken are those that were left
-none_missed : (left after : Option (List ℕ)) (bytes : List ℕ) (status : Status) → WasAll left after bytes
-    → (IsSchedulable bytes → NoneIsMissed status)
-    → IfSome left (λ all. IsSchedulable all → NoneIsMissed status)
-none_missed None after bytes status is h = tt
-none_missed (Some all) after bytes status is h = λ s. h (subst IsSchedulable is.0 s)
+pub returns-clause-answered : goal.returns-clause-answered
+returns-clause-answered g c = on_answered c.respond-2.result _ (given g c)
+
+pub returns-clause-taken : goal.returns-clause-taken
+returns-clause-taken g c = λ reads. on_answered c.respond-2.result _
+    (λ ample whole. was_taken _ _ c.in-Ok-take_all.bytes.items c.in-Ok-take_all.ensures.bytes)
+
+pub returns-clause-not_read : goal.returns-clause-not_read
+returns-clause-not_read g c = λ other. absurd (other (subst IsReading (sym (sym c.command.ensures ∙ c.in-Some.is))
+    (is_reading c.in-Some.command c.in_default-command.not-Bulk)))
+
+pub returns-clause-write_fault : goal.returns-clause-write_fault
+returns-clause-write_fault g c = λ fault. (
+  c.respond-2.ensures.responds.cause fault,
+  told_answer (λ a. AppendsPart (g.O.Sink.written c.args.output.now) (g.O.Sink.written c.respond-2.new.output) a.text)
+      c.args.words.now c.in-Some.command _ (g.I.Source.left c.take_all.new.source) c.in-Ok-take_all.bytes.items
+      (sym c.command.ensures ∙ c.in-Some.is) (is_reading c.in-Some.command c.in_default-command.not-Bulk)
+      c.in-Ok-take_all.ensures.bytes c.in-Ok-take_all.ensures.fits
+      (rw (← c.deref-2.ensures.value) (c.respond-2.ensures.responds.part fault)),
+)
 
 pub returns-clause-no_miss : goal.returns-clause-no_miss
 returns-clause-no_miss g c =
-    none_missed _ _ c.in-Ok.bytes.items c.respond.result c.in-Ok.ensures.bytes
-    (rw (← c.deref.ensures.value) c.respond.ensures.no_miss)
+    told_bytes (λ bytes. IsSchedulable bytes → NoneIsMissed c.respond-2.result) c.args.words.now c.in-Some.command _
+    (g.I.Source.left c.take_all.new.source) c.in-Ok-take_all.bytes.items
+    (sym c.command.ensures ∙ c.in-Some.is) (is_reading c.in-Some.command c.in_default-command.not-Bulk)
+    c.in-Ok-take_all.ensures.bytes (rw (← c.deref-2.ensures.value) c.respond-2.ensures.no_miss)
