@@ -2,9 +2,25 @@
 #![tactic(auto)]
 
 #[cfg(test)]
+mod dispatcher_rounds;
+#[cfg(test)]
 mod documents;
 #[cfg(test)]
+mod event_lines;
+#[cfg(test)]
+mod flat_code;
+#[cfg(test)]
+mod interrupt_sources;
+#[cfg(test)]
 mod names;
+#[cfg(test)]
+mod preemption_stack;
+#[cfg(test)]
+mod reading_and_showing;
+#[cfg(test)]
+mod recorders;
+#[cfg(test)]
+mod runs;
 #[cfg(test)]
 mod series;
 #[cfg(test)]

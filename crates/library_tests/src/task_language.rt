@@ -11,7 +11,7 @@ use task_lang::worst::worst;
 use task_lang::{Body, Expr, Op, OwnerKind, Stmt, Vars};
 use tt_base::{Call, ModeNo, OsekNo, Series, VarNo};
 
-const X: VarNo = VarNo(0);
+pub(crate) const X: VarNo = VarNo(0);
 
 #[test]
 fn operators_wrap_around(rt: HostRuntime) {
@@ -79,7 +79,7 @@ fn owners_have_their_services(rt: HostRuntime) {
     assert_eq!(rt; row(&Stmt::Out(Expr::Const(1))), [true; 5]);
 }
 
-fn only(alloc: Global, stmt: Stmt) -> Result<Body, AllocError>
+pub(crate) fn only(alloc: Global, stmt: Stmt) -> Result<Body, AllocError>
     ensures { IfOk result (λ body. body ≡ stmt ∷ []) }
 {
     let mut body = Items::new(alloc);

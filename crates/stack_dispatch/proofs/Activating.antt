@@ -1,22 +1,21 @@
 -- The activation of an entry: it is the next one of the round, and there is room for it.
-use Rattle.std.proofs.Common.{ℕ, ◌≡◌, ◌<◌, ◌≤◌, ◌+◌, List, [], ◌++◌, Option, None, Some, refl, ap, sym, ◌∙◌, subst, arith, length, get_or, ⊎_elim}
-use Rattle.std.specs.Prelude.{map, IfSome, slice_index_or}
+use Rattle.std.proofs.Common.{ℕ, ◌≡◌, ◌<◌, ◌≤◌, List, [], Option, None, Some, ap, sym, ◌∙◌, subst, arith, length, ⊎_elim}
+use Rattle.std.specs.Prelude.{IfSome, slice_index_or}
 use Rattle.std.proofs.lemmas.Bool.{cases_lt}
 use Rattle.std.proofs.lemmas.List.{get_or_past}
 use Rattle.std.proofs.lemmas.List.Elements.{All-get_or}
 use Rattle.task_lang.specs.declared.syntax.Stmt.{Stmt}
 use Rattle.tt_world.specs.declared.config.ConfigParts.{ConfigParts}
-use Rattle.tt_world.specs.declared.config.TaskDef.{TaskDef}
 use Rattle.tt_world.specs.declared.config.ModeDef.{ModeDef}
 use Rattle.tt_world.specs.declared.script.ScriptParts.{ScriptParts}
 use Rattle.tt_world.specs.World.{World}
 use Rattle.tt_world.specs.ConfigRules.{IsConfig, IsMode}
-use Rattle.tt_world.specs.Rows.{offset_of, mode_at, mode_of, no_mode, row_of, entry_at, body_of, no_task}
+use Rattle.tt_world.specs.Rows.{offset_of, mode_at, mode_of, no_mode, row_of, entry_at}
 use Rattle.tt_world.proofs.Places.{next_row}
 use Rattle.tt_world.proofs.Room.{room_for, task_exists}
 use Rattle.round_table.specs.declared.due.Due.{Due}
 use Rattle.round_table.specs.TableRows.{TableRows}
-use Rattle.stack_dispatch.specs.Served.{CanActivate, HasRoom, IsTableOf, StandsAt}
+use Rattle.stack_dispatch.specs.Served.{CanActivate, IsTableOf, StandsAt}
 use Rattle.stack_dispatch.specs.State.{Fixed, RunState, IsFor, bodies_of}
 use Rattle.stack_dispatch.proofs.Opened.{BeforeActivation}
 use Rattle.stack_dispatch.proofs.ProgramBodies.{task_program}

@@ -1,6 +1,6 @@
 -- The state before tick 0: the codes of all bodies, and the OSEK subsystem.
 use Rattle.std.proofs.Common.{ℕ, ◌≡◌, ◌≢◌, ◌<◌, ◌≤◌, ◌+◌, Bool, true, false, List, [], ◌∷◌, ◌++◌, Option, None, Some, length, get_or, refl, ap, sym, ◌∙◌, subst, arith, append_assoc}
-use Rattle.std.specs.Prelude.{map, IfSome, slice_index_or, replicate, if◌then◌else◌}
+use Rattle.std.specs.Prelude.{map, IfSome, replicate, if◌then◌else◌}
 use Rattle.std.proofs.lemmas.List.Elements.{All-map}
 use Rattle.std.proofs.lemmas.List.{length-append, length-map, get_or-map}
 use Rattle.task_lang.specs.declared.syntax.Stmt.{Stmt}

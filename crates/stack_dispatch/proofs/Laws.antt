@@ -1,10 +1,8 @@
 -- What holds of the events of every run.
-use Rattle.std.proofs.Common.{◌≡◌, ◌≢◌, ap, sym, ◌∙◌, subst}
-use Rattle.tt_base.specs.declared.number.TaskNo.{TaskNo}
+use Rattle.std.proofs.Common.{◌≡◌, ap, sym, ◌∙◌}
 use Rattle.tt_world.specs.declared.config.ConfigParts.{ConfigParts}
 use Rattle.tt_world.specs.declared.script.ScriptParts.{ScriptParts}
 use Rattle.tt_world.specs.declared.world.RunEnd.{RunEnd}
-use Rattle.tt_world.specs.declared.world.RunEnd.TheVariants as ending
 use Rattle.tt_world.specs.ConfigRules.{IsConfig}
 use Rattle.tt_world.specs.ScriptRules.{IsScript}
 use Rattle.tt_world.specs.Schedule.{schedule}
@@ -20,7 +18,7 @@ use Rattle.schedule_check.proofs.NoMiss.{no_miss}
 use Rattle.trace_text.specs.declared.recorder.Recorder.{Ghosts}
 use Rattle.stack_dispatch.specs.declared.report.Run.{Run}
 use Rattle.stack_dispatch.specs.declared.report.Run.TheVariants.{Ended, Failed}
-use Rattle.stack_dispatch.specs.Reports.{Benched, IsNotMissed, KeepsLaws, Ran}
+use Rattle.stack_dispatch.specs.Reports.{IsNotMissed, KeepsLaws, Ran}
 
 module _ (c : ConfigParts) (s : ScriptParts) (rules : IsConfig c) (script : IsScript c s) where
   -- the laws that are read from events
@@ -33,7 +31,8 @@ module _ (c : ConfigParts) (s : ScriptParts) (rules : IsConfig c) (script : IsSc
   }
 
   -- where the check says yes and the bounds are kept, a run that ended did not end by a missed deadline
-  pub run_meets : {S : Type 0} (r : Ghosts S) (before after : S) (run : Run) → Ran r (record { config = c; script = s }) before after run
+  pub run_meets : {S : Type 0} (r : Ghosts S) (before after : S) (run : Run)
+      → Ran r (record { config = c; script = s }) before after run
       → answer_of c ≡ Yes → KeepsBounds c s → IsNotMissed run
   run_meets r before after (Ended report) ran said kept = λ task is.
       (no_miss c s rules script said kept).status task report.ticks

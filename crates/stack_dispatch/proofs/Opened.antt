@@ -1,5 +1,5 @@
 -- What is known of a state after the parts of an opening, and after the tick.
-use Rattle.std.proofs.Common.{ℕ, ◌≡◌, ◌<◌, ◌+◌, ◌-◌, ◌^◌, List, [], ◌∷◌, Bool, true, false, Option, None, Some, refl, ap, sym, ◌∙◌, subst, eqb, length, get_or}
+use Rattle.std.proofs.Common.{ℕ, ◌≡◌, ◌<◌, ◌+◌, ◌-◌, ◌^◌, List, [], false, Option, None, Some, refl, ap, sym, ◌∙◌, subst, eqb, length, get_or}
 use Rattle.std.specs.Prelude.{map, slice_range}
 use Rattle.std.proofs.lemmas.List.{length-replicate}
 use Rattle.std.proofs.lemmas.Bool.{cond_both, cond-true, cond-false, eqb-true, false_from_ne_true}
@@ -17,7 +17,7 @@ use Rattle.tt_world.specs.Correction.{is_length}
 use Rattle.tt_world.specs.Gates.{enable, enables, arrivals, acceptances, is_accepted}
 use Rattle.tt_world.specs.Monitoring.{monitored, is_at, is_at_end}
 use Rattle.tt_world.specs.Moved.{IsTelling, Moved, Gives, Outcome, is_over, chain}
-use Rattle.tt_world.specs.Opening.{checks, due, first_parts, later_parts, opening}
+use Rattle.tt_world.specs.Opening.{checks, due, later_parts, opening}
 use Rattle.tt_world.specs.Rounds.{head, latch, next_round, round_end}
 use Rattle.tt_world.specs.Rows.{offset_of, mode_of, enables_at, entry_at}
 use Rattle.tt_world.specs.Runners.{runner_of}
@@ -28,14 +28,14 @@ use Rattle.tt_world.proofs.Keeps.{Holds, IgnoresGates, monitored_holds, enables_
 use Rattle.tt_world.proofs.Late.{Late, late_at}
 use Rattle.tt_world.proofs.Modes.{Named, has_mode, opening_named, run_named}
 use Rattle.tt_world.proofs.Moves.{gives_first, gives_over, gives_done, gives_next, gives_stop}
-use Rattle.tt_world.proofs.Openings.{activated_in, due_from, due_same}
+use Rattle.tt_world.proofs.Openings.{activated_in, due_same}
 use Rattle.tt_world.proofs.Parts.{Before, Latched, Begun, Alone, Anything, Leads, followed_leads, chain_each, led_on}
 use Rattle.tt_world.proofs.Points.{Ahead, latch_ahead, round_end_ahead, checks_ahead, ahead_at}
 use Rattle.tt_world.proofs.Places.{Placed, latch_placed, round_end_placed, placed_at}
 use Rattle.tt_world.proofs.Stamps.{AtTick as AtStamp, EndsAtTick, opening_at_tick}
-use Rattle.tt_world.proofs.Still.{Still, step_still}
+use Rattle.tt_world.proofs.Still.{step_still}
 use Rattle.tt_world.proofs.Time.{Timed, latch_timed, round_end_timed, opening_timed, opening_keeps, timed_at}
-use Rattle.isr_window.specs.Window.{Window, left_at, new_window}
+use Rattle.isr_window.specs.Window.{left_at, new_window}
 use Rattle.isr_window.specs.Played.{AreSourcesOf, AreLeftFrom, source_at}
 use Rattle.isr_window.proofs.Arrivals.{new_left}
 use Rattle.round_table.specs.declared.due.Due.{Due}

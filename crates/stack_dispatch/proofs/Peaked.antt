@@ -1,5 +1,5 @@
 -- The greatest depth and the most words of stack, instant after instant.
-use Rattle.std.proofs.Common.{◌≡◌, ◌+◌, ℕ, suc, Bool, true, false, None, Some, refl, ap, sym, ◌∙◌, add-one, arith}
+use Rattle.std.proofs.Common.{◌≡◌, ℕ, suc, None, Some, refl, ap, sym, ◌∙◌, arith}
 use Rattle.std.specs.Prelude.{max, if◌then◌else◌}
 use Rattle.tt_world.specs.declared.config.ConfigParts.{ConfigParts}
 use Rattle.tt_world.specs.declared.script.ScriptParts.{ScriptParts}

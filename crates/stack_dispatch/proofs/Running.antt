@@ -1,5 +1,5 @@
 -- What a run keeps: the world and the events are those of the schedule at the present tick.
-use Rattle.std.proofs.Common.{ℕ, zero, suc, ◌≡◌, ◌<◌, ◌≤◌, ◌+◌, ◌-◌, ◌*◌, ◌^◌, List, [], ◌++◌, true, false, Some, refl, ap, sym, ◌∙◌, subst, arith, add-one, append_assoc, append-nil, ⊎_elim}
+use Rattle.std.proofs.Common.{ℕ, zero, suc, ◌≡◌, ◌<◌, ◌≤◌, ◌+◌, ◌-◌, ◌*◌, ◌^◌, List, ◌++◌, true, false, Some, refl, ap, sym, ◌∙◌, subst, arith, add-one, append_assoc, append-nil, ⊎_elim}
 use Rattle.std.specs.Prelude.{None}
 use Rattle.std.proofs.Math.Nat.{mul-le-mul_right}
 use Rattle.std.proofs.lemmas.Bool.{cases_lt, true≢false}
@@ -8,10 +8,8 @@ use Rattle.tt_world.specs.declared.config.ConfigParts.{ConfigParts}
 use Rattle.tt_world.specs.declared.script.ScriptParts.{ScriptParts}
 use Rattle.tt_world.specs.declared.world.RunEnd.{RunEnd}
 use Rattle.tt_world.specs.World.{World}
-use Rattle.tt_world.specs.ConfigRules.{IsConfig}
-use Rattle.tt_world.specs.ScriptRules.{IsScript}
 use Rattle.tt_world.specs.Moved.{IsTelling, Outcome, Gives, is_over}
-use Rattle.tt_world.specs.Schedule.{IsBounded, instant, instant_at, world_at, events_before, events_between, ends_at, last_instant, most_ticks, schedule, first_world}
+use Rattle.tt_world.specs.Schedule.{IsBounded, instant, instant_at, world_at, events_before, events_between, ends_at, last_instant, schedule, first_world}
 use Rattle.tt_world.specs.Status.{status_by, status_of, last_stamp}
 use Rattle.tt_world.specs.Load.{last_round}
 use Rattle.tt_world.proofs.Parts.{GoesOnBefore}

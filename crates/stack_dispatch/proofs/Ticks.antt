@@ -37,7 +37,7 @@ use Rattle.tt_services.specs.Performed.{Performed, performed, MayCall, IsOsek, c
 use Rattle.tt_services.proofs.Agreeing.{agree}
 use Rattle.stack_dispatch.specs.declared.took.Did.TheVariants as did
 use Rattle.stack_dispatch.specs.declared.took.Taken.{Taken}
-use Rattle.stack_dispatch.specs.Effects.{Effected, effected, MayDo}
+use Rattle.stack_dispatch.specs.Effects.{effected, MayDo}
 use Rattle.stack_dispatch.specs.Ticking.{IsInIdleTime, GaveAnswer, TookBy}
 
 -- ---- the one who runs has something left

@@ -1,21 +1,19 @@
 -- A run that is told to a recorder.
-use Rattle.std.proofs.Common.{◌≡◌, ◌≤◌, ℕ, IsTrue, Bool, true, false, List, ◌++◌, refl, sym, ap, ◌∙◌, subst}
+use Rattle.std.proofs.Common.{◌≡◌, ℕ, IsTrue, Bool, true, false, List, ◌++◌, refl, sym, ap, ◌∙◌, subst}
 use Rattle.std.specs.Borrow.{MutBor}
 use Rattle.std.specs.Prelude.{Option, Some, None, MatchOption, if◌then◌else◌}
 use Rattle.tt_base.specs.declared.event.Event.{Event}
 use Rattle.tt_base.specs.declared.names.NameEntry.{NameEntry}
-use Rattle.tt_io.specs.Count.{counted}
 use Rattle.tt_world.specs.Schedule.{schedule}
 use Rattle.trace_text.specs.declared.recorder.Recorder.{Ghosts}
 use Rattle.trace_text.specs.Records.{CutWithin, Notes}
 use Rattle.trace_text.proofs.Recording.{cut_before}
 use Rattle.stack_dispatch.specs.declared.peaks.Peaks.{Peaks}
 use Rattle.stack_dispatch.specs.declared.run.Last.{Last}
-use Rattle.stack_dispatch.specs.declared.report.Report.{Report}
 use Rattle.stack_dispatch.specs.declared.report.Run.{Run}
 use Rattle.stack_dispatch.specs.declared.report.Run.TheVariants.{Ended, Failed}
 use Rattle.stack_dispatch.specs.Reports.{Benched, EndsAll, FailsWithin, OnEnded, Ran, answered}
-use Rattle.stack_dispatch.specs.Told.{Logged, IsFresh, Keeps, ByFailed, Tells}
+use Rattle.stack_dispatch.specs.Told.{Logged, IsFresh, ByFailed, Tells}
 
 module _ {S : Type 0} (r : Ghosts S) (names : List NameEntry) where
   cut_by : (failed : Bool) (s t : S) (events : List Event) → failed ≡ true → ByFailed r names false s events failed t
@@ -51,7 +49,8 @@ module _ {S : Type 0} (r : Ghosts S) (b : Benched) (lent : MutBor S) (after : Lo
       → Tells r (fresh lent b.config.names) front after
       → after.failed ≡ true → CutWithin r b.config.names lent.now events after.recorder.now
   ran_failed front rest split told failed =
-      cut_before rest events split (cut_by r b.config.names after.failed lent.now after.recorder.now front failed told.told)
+      cut_before rest events split
+      (cut_by r b.config.names after.failed lent.now after.recorder.now front failed told.told)
 
   ran_by : (failed : Bool) → after.failed ≡ failed → (last : Last)
       → EndsAll r b.config b.script (fresh lent b.config.names) after last

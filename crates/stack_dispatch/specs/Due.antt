@@ -1,20 +1,15 @@
 -- What is done at the sources of interrupts at an instant.
-use Rattle.std.specs.Prelude.{◌≡◌, ℕ, ◌<◌, not, Bool, true, false, List, [], ◌∷◌, length, map, slice_index_or}
+use Rattle.std.specs.Prelude.{◌≡◌, ℕ, ◌<◌, not, Bool, true, false, List, [], length, map, slice_index_or}
 use Rattle.task_lang.specs.declared.syntax.Stmt.{Stmt}
 use Rattle.tt_base.specs.declared.event.Owner.{Owner}
 use Rattle.tt_base.specs.declared.event.Owner.TheVariants as owner
 use Rattle.tt_base.specs.declared.number.IsrNo.{IsrNo}
-use Rattle.tt_world.specs.declared.config.ModeDef.{ModeDef}
 use Rattle.tt_world.specs.declared.config.ConfigParts.{ConfigParts}
-use Rattle.tt_world.specs.declared.script.ScriptParts.{ScriptParts}
 use Rattle.tt_world.specs.World.{World}
 use Rattle.tt_world.specs.Runners.{is_done}
 use Rattle.isr_window.specs.Played.{source_at}
 use Rattle.tt_world.specs.Moved.{Moved, chain}
-use Rattle.tt_world.specs.Rows.{enables_at, entry_at}
-use Rattle.tt_world.specs.Monitoring.{is_at, monitored}
-use Rattle.tt_world.specs.Gates.{enable, arrivals, acceptances, is_accepted, sources}
-use Rattle.tt_world.specs.Opening.{activated}
+use Rattle.tt_world.specs.Gates.{enable, is_accepted, sources}
 
 -- the enables of routines, in their order
 abbrev pub enables_by : List IsrNo → World → Moved

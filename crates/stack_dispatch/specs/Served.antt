@@ -2,7 +2,6 @@
 use Rattle.std.specs.Prelude.{◌≡◌, ℕ, ◌+◌, ◌^◌, ◌<◌, ◌≤◌, false, not, List, [], Option, None, Some, IfSome, length, slice_index_or, slice_range}
 use Rattle.std.specs.List.{count_by}
 use Rattle.std.specs.Option.{ForSome}
-use Rattle.tt_base.specs.declared.number.IsrNo.{IsrNo}
 use Rattle.tt_world.specs.declared.config.ConfigParts.{ConfigParts}
 use Rattle.tt_world.specs.declared.script.ScriptParts.{ScriptParts}
 use Rattle.tt_world.specs.ConfigRules.{IsConfig}

@@ -8,8 +8,8 @@ use Rattle.tt_world.specs.Load.{activations_in}
 use Rattle.trace_text.specs.declared.recorder.Recorder.{Ghosts}
 use Rattle.trace_text.specs.Records.{KeptAll, CutWithin}
 
--- the recorder that is lent, the names of the events' things, whether a note has failed, and how many events and activations were
--- told
+-- the recorder that is lent, the names of the events' things, whether a note has failed, and how many events and
+-- activations were told
 pub record Logged (S : Type 0) : Type 0 where
   pub recorder : MutBor S
   pub names : List NameEntry

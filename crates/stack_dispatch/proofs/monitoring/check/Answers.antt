@@ -1,4 +1,4 @@
-use Rattle.std.proofs.Common.{sym, ◌∙◌}
+use Rattle.std.proofs.Common.{◌∙◌}
 use Rattle.std.specs.Prelude.{slice_range}
 use Rattle.round_table.specs.DueRows.{checks_of}
 use Rattle.stack_dispatch.specs.Checking.{checked_entries}

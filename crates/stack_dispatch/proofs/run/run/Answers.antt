@@ -1,9 +1,9 @@
-use Rattle.std.proofs.Common.{ℕ, suc, add-one, ◌≡◌, ◌+◌, List, [], sym, ◌∙◌, ap, subst, refl}
-use Rattle.tt_world.specs.Schedule.{first_world, most_ticks, events_before}
+use Rattle.std.proofs.Common.{ℕ, suc, add-one, ◌≡◌, ◌+◌, sym, ◌∙◌, ap, subst}
+use Rattle.tt_world.specs.Schedule.{most_ticks, events_before}
 use Rattle.tt_world.specs.Status.{status_by}
 use Rattle.tt_world.proofs.Ends.{are_bounded, few_ticks}
 use Rattle.stack_dispatch.specs.Served.{Foresees, HasSources}
-use Rattle.stack_dispatch.specs.State.{RunState, IsFor, fixed_in}
+use Rattle.stack_dispatch.specs.State.{RunState, fixed_in}
 use Rattle.stack_dispatch.specs.Told.{Tells}
 use Rattle.stack_dispatch.proofs.Foreseen.{foresees_first}
 use Rattle.stack_dispatch.proofs.Opened.{can_pass, first_sources}

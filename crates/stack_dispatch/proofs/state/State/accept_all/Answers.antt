@@ -1,5 +1,4 @@
-use Rattle.std.proofs.Common.{◌≡◌, ◌<◌, ℕ, List, [], ◌∷◌, ◌++◌, None, refl, sym, ap, ◌∙◌, subst}
-use Rattle.tt_base.specs.declared.event.Event.{Event}
+use Rattle.std.proofs.Common.{◌<◌, [], ◌∷◌, None, refl, sym, ap, ◌∙◌, subst}
 use Rattle.tt_base.specs.declared.event.Event.TheVariants.{Accept}
 use Rattle.tt_world.specs.Gates.{acceptances}
 use Rattle.tt_world.specs.Moved.{Gives}
@@ -10,7 +9,7 @@ use Rattle.isr_window.proofs.Acceptances.{accepting_begin, accepting_more, accep
 use Rattle.isr_window.proofs.Fewer.{held_in, fewer_held}
 use Rattle.stack_dispatch.specs.Told.{Tells}
 use Rattle.stack_dispatch.proofs.Telling.{telling}
-use Rattle.stack_dispatch.specs.State.{RunState, Beside, window_in, with_sources}
+use Rattle.stack_dispatch.specs.State.{RunState, window_in}
 use Rattle.stack_dispatch.specs.Due.{CanBegin, NoneAccepted}
 use Rattle.stack_dispatch.proofs.Marks.{accepted_window, accepting_beside, begins_with, can_begin}
 use Rattle.stack_dispatch.proofs.state.State.accept_all.Goals as goal

@@ -1,4 +1,4 @@
-use Rattle.std.proofs.Common.{◌≡◌, ◌<◌, ℕ, Option, Some, length, ap, subst, arith}
+use Rattle.std.proofs.Common.{ℕ, Option, length, ap, subst, arith}
 use Rattle.stack_dispatch.specs.Served.{CanActivate, HasRoom}
 use Rattle.stack_dispatch.specs.State.{RunState}
 use Rattle.stack_dispatch.proofs.state.State.activate_entry.Goals as goal

@@ -3,9 +3,8 @@ use Rattle.task_lang.specs.declared.syntax.Stmt.{Stmt}
 use Rattle.tt_base.specs.declared.event.Owner.{Owner}
 use Rattle.tt_world.specs.declared.world.Runner.TheVariants as runner
 use Rattle.tt_world.specs.Runners.{leaving}
-use Rattle.tt_world.specs.World.{World}
 use Rattle.isr_window.specs.Played.{begun}
-use Rattle.osek_idle.specs.Subsystem.{Subsystem, begun as oisr_begun, lefts, IsSettled}
+use Rattle.osek_idle.specs.Subsystem.{Subsystem, begun as oisr_begun, IsSettled}
 use Rattle.osek_idle.specs.Standing.{routine_body, setup_of, subsystem_of, IsSound}
 use Rattle.stack_dispatch.specs.Due.{CanBegin}
 use Rattle.tt_stack.specs.Stacked.{Stacked}

@@ -1,9 +1,6 @@
-use Rattle.std.proofs.Common.{◌≡◌, List, Bool, length, sym, ap, subst, ◌∙◌}
-use Rattle.tt_world.specs.World.{World}
-use Rattle.stack_dispatch.specs.contracts.state.State.{the_view}
+use Rattle.std.proofs.Common.{length, sym, ap, subst}
 use Rattle.stack_dispatch.specs.State.{RunState, window_in}
 use Rattle.isr_window.specs.Played.{AreUnfinished}
-use Rattle.stack_dispatch.specs.Due.{AreMarked}
 use Rattle.stack_dispatch.proofs.Marks.{are_unfinished}
 use Rattle.stack_dispatch.proofs.state.State.busy.Goals as goal
 

@@ -1,4 +1,4 @@
-use Rattle.std.proofs.Common.{◌≡◌, ◌+◌, None, ap, sym, ◌∙◌, subst}
+use Rattle.std.proofs.Common.{◌+◌, ap, ◌∙◌, subst}
 use Rattle.isr_window.specs.Played.{AreLeftFrom}
 use Rattle.stack_dispatch.specs.State.{fixed_in, window_in}
 use Rattle.stack_dispatch.proofs.Activating.{activates}

@@ -1,4 +1,4 @@
-use Rattle.std.proofs.Common.{ap, sym, ◌∙◌, subst}
+use Rattle.std.proofs.Common.{sym, ◌∙◌}
 use Rattle.stack_dispatch.proofs.Served.{ended_next, ended_stop}
 use Rattle.stack_dispatch.proofs.Telling.{telling}
 use Rattle.stack_dispatch.proofs.state.State.end_round.Goals as goal

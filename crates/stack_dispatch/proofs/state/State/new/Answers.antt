@@ -1,10 +1,8 @@
 use Rattle.std.proofs.Common.{◌≡◌, ◌+◌, ℕ, List, [], length, ap, sym, ◌∙◌, subst}
 use Rattle.std.specs.Prelude.{map, replicate}
 use Rattle.task_lang.specs.declared.syntax.Stmt.{Stmt}
-use Rattle.task_machine.specs.Stored.{Store}
 use Rattle.tt_world.specs.declared.config.ConfigParts.{ConfigParts}
 use Rattle.tt_world.specs.declared.config.IsrDef.{IsrDef}
-use Rattle.tt_world.specs.declared.script.Arrivals.{Arrivals}
 use Rattle.tt_stack.specs.Stacked.{Stacked}
 use Rattle.isr_window.specs.Window.{new_window}
 use Rattle.round_end.specs.Round.{first_round}

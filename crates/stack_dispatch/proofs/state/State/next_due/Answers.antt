@@ -1,9 +1,8 @@
-use Rattle.std.proofs.Common.{◌≡◌, ◌≤◌, ℕ, Some, None, sym, ap, ◌∙◌, subst, arith}
-use Rattle.std.specs.Option.{ForSome}
+use Rattle.std.proofs.Common.{◌≡◌, Some, None, sym, ◌∙◌, subst, arith}
 use Rattle.isr_window.specs.Window.{next_tick}
 use Rattle.stack_dispatch.specs.contracts.state.State.{the_view}
 use Rattle.stack_dispatch.specs.Served.{AreRowsFree, IsAhead}
-use Rattle.stack_dispatch.specs.State.{RunState, window_in}
+use Rattle.stack_dispatch.specs.State.{RunState}
 use Rattle.stack_dispatch.proofs.Foreseen.{looks_ahead}
 use Rattle.stack_dispatch.proofs.state.State.next_due.Goals as goal
 

@@ -1,4 +1,4 @@
-use Rattle.std.proofs.Common.{◌≡◌, Some, None, sym, ap, ◌∙◌, subst, arith}
+use Rattle.std.proofs.Common.{Some, None, ap, ◌∙◌, subst, arith}
 use Rattle.tt_world.specs.declared.config.ModeDef.{ModeDef}
 use Rattle.round_table.specs.ExpiryPoints.{IsFree}
 use Rattle.round_table.specs.TableRows.{TableRows}

@@ -1,4 +1,4 @@
-use Rattle.std.proofs.Common.{◌≡◌, ap, sym, ◌∙◌}
+use Rattle.std.proofs.Common.{ap, sym, ◌∙◌}
 use Rattle.stack_dispatch.specs.State.{RunState}
 use Rattle.stack_dispatch.proofs.Opened.{first_served, opens_first, opens_later}
 use Rattle.stack_dispatch.proofs.Telling.{telling}

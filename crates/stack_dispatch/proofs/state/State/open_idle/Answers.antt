@@ -1,4 +1,3 @@
-use Rattle.std.proofs.Common.{◌≡◌, false}
 use Rattle.stack_dispatch.proofs.Foreseen.{opens_accepting, opens_idle, idle_sources, ahead_accepted, ahead_idle}
 use Rattle.stack_dispatch.proofs.Opened.{left_kept}
 use Rattle.stack_dispatch.proofs.Telling.{telling}

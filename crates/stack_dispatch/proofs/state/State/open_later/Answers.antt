@@ -1,4 +1,4 @@
-use Rattle.std.proofs.Common.{◌≡◌, ◌+◌, None, refl, ap, sym, ◌∙◌, subst}
+use Rattle.std.proofs.Common.{refl, ◌∙◌, subst}
 use Rattle.tt_world.specs.Moved.{Outcome, Gives}
 use Rattle.tt_world.specs.Rounds.{latch, round_end}
 use Rattle.tt_world.proofs.Moves.{gives_first, gives_over}

@@ -1,4 +1,4 @@
-use Rattle.std.proofs.Common.{◌≡◌, ◌+◌, None, refl, ap, sym, ◌∙◌, subst}
+use Rattle.std.proofs.Common.{refl, sym, ◌∙◌, subst}
 use Rattle.tt_world.specs.Moved.{Outcome, Gives}
 use Rattle.tt_world.specs.Opening.{opening}
 use Rattle.tt_world.specs.Step.{step}
