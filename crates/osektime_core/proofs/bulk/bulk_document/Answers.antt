@@ -1,4 +1,4 @@
-use Rattle.std.proofs.Common.{◌≡◌, ℕ, ◌≤◌, ◌^◌, List, length, refl, sym, ap, ◌∙◌, ◌+◌, ◌*◌, ◌%◌, ◌++◌, subst}
+use Rattle.std.proofs.Common.{ℕ, ◌≤◌, ◌^◌, List, length, refl, sym, ap, ◌∙◌, ◌+◌, ◌*◌, ◌%◌, ◌++◌, subst}
 use Rattle.osektime_core.specs.BulkText.{first_rows}
 use Rattle.osektime_core.proofs.BulkTexts.{bulk_is_short, bulk_joined}
 use Rattle.osektime_core.proofs.bulk.bulk_document.Goals as goal

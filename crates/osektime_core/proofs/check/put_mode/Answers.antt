@@ -1,4 +1,4 @@
-use Rattle.std.proofs.Common.{◌≡◌, ◌∙◌, length, arith}
+use Rattle.std.proofs.Common.{◌≡◌, length, arith}
 use Rattle.osektime_core.proofs.CheckTexts.{entries_all, entries_more}
 use Rattle.osektime_core.proofs.TableTexts.{texts_none}
 use Rattle.osektime_core.proofs.check.put_mode.Goals as goal

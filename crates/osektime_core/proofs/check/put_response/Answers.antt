@@ -1,4 +1,4 @@
-use Rattle.std.proofs.Common.{◌≡◌, ap, arith}
+use Rattle.std.proofs.Common.{◌≡◌, ap}
 use Rattle.tt_world.specs.declared.config.Activation.{Activation}
 use Rattle.tt_world.specs.Rows.{row_of}
 use Rattle.schedule_check.specs.TablesOf.{IsTableOf}

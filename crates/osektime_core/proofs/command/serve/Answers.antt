@@ -1,10 +1,9 @@
-use Rattle.std.proofs.Common.{◌≡◌, ◌≢◌, sym, subst, ap, ◌∙◌}
+use Rattle.std.proofs.Common.{◌≡◌, ◌≢◌, sym, subst, ◌∙◌}
 use Rattle.std.specs.Io.KnownBytes.{Appends}
 use Rattle.tt_io.specs.Known.{AppendsPart}
 use Rattle.osektime_core.specs.NoMiss.{IsSchedulable, NoneIsMissed}
 use Rattle.osektime_core.specs.declared.status.Status.TheVariants.{Memory, WriteFault}
-use Rattle.osektime_core.specs.Words.{command_of}
-use Rattle.osektime_core.specs.Answer.{Answer, IsReading, IsAnswered}
+use Rattle.osektime_core.specs.Answer.{IsReading, IsAnswered}
 use Rattle.osektime_core.proofs.Told.{is_reading, on_answered, told_answer, told_bytes, was_taken}
 use Rattle.osektime_core.proofs.command.serve.Given.{Over}
 use Rattle.osektime_core.proofs.command.serve.Goals as goal
