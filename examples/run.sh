@@ -77,7 +77,7 @@ summary() { # NUMBER
   printf '%s\n' "ticks $((200000 * n))" "rounds 10000" "events $((10000 * (5 * n + 7) + 2))" "activations $((10000 * n))" \
     "depth $n of $((n + 1))" "words $words of $((16 * n + 32))" "end last round"
 }
-for number in 0 1 2 7 30 31 4294967295; do
+for number in {0..31} 4294967295; do
   if [ -z "${knows[bulk]:-}" ]; then
     left_out=$((left_out + 1))
     continue
