@@ -20,8 +20,6 @@ mod reading_and_showing;
 #[cfg(test)]
 mod recorders;
 #[cfg(test)]
-mod runs;
-#[cfg(test)]
 mod series;
 #[cfg(test)]
 mod sources_and_sinks;
