@@ -2,8 +2,7 @@
 # Runs the documents of the folders beside it through the built program: NAME.osektime on standard input of each command for which there
 # is a NAME.COMMAND.out, which is the text that must be written. The exit status must be that of the folder's statuses.txt, or 0. A row
 # `NAME COMMAND STATUS TEXT` of an answers.txt is the same for a text of one line. A command that the program does not know yet is
-# left out, and that is told. A NAME.COMMAND.later is a text that is not tried yet: its run is too long to go tick by tick, and waits for
-# a run that jumps over ticks.
+# left out, and that is told. A NAME.COMMAND.ends has the number of lines and the last line of a text that is too long to keep.
 set -u
 here=$(cd "$(dirname "${BASH_SOURCE[0]}")" && pwd)
 program=$here/../osektime
@@ -61,6 +60,13 @@ for expected in "$here"/*/*.out "$here"/*/*/*.out; do
   name=${expected%.out}
   command=${name##*.}
   answers "${name%.*}" "$command" "${name%.*}.osektime" "${wanted[$name]:-0}" "$expected"
+done
+for expected in "$here"/*/*.ends; do
+  name=${expected%.ends}
+  "$program" "${name##*.}" <"${name%.*}.osektime" 2>"$work/err" >"$work/long"
+  status=$?
+  { wc -l <"$work/long"; tail -n 1 "$work/long"; } >"$work/out"
+  check "$name" "${wanted[$name]:-0}" "$expected"
 done
 for table in "$here"/*/answers.txt; do
   while read -r name command status text; do

@@ -1,6 +1,7 @@
 #!/usr/bin/env python3
-"""Runs the commands that the pages show: in a block of README.md or docs/, each line `$ COMMAND` is run at the top of the repository, and
-what it writes must be the lines that follow, up to the next command or the end of the block."""
+"""Holds the pages against the program and the sources. In a block of README.md or docs/, each line `$ COMMAND` is run at the top of the
+repository, and what it writes must be the lines that follow, up to the next command or the end of the block. A block of definitions,
+marked `antt`, must stand in a source file, but for its indents."""
 import pathlib
 import re
 import subprocess
@@ -18,8 +19,24 @@ def commands(page):
                 yield command, text
 
 
+def definitions(page):
+    """The blocks of definitions of a page."""
+    return re.findall(r"^```antt\n(.*?)^```", page.read_text(encoding="utf-8"), re.M | re.S)
+
+
+def flat(text):
+    """A text with one space between its words."""
+    return " ".join(text.split())
+
+
+def sources():
+    """The sources of all crates, each flat."""
+    files = [file for file in (TOP / "crates").rglob("*") if file.suffix in (".antt", ".rt") and "out" not in file.parts]
+    return [flat(file.read_text(encoding="utf-8")) for file in files]
+
+
 def main():
-    passed, failed = 0, 0
+    passed, failed, texts = 0, 0, sources()
     for page in [TOP / "README.md", *sorted((TOP / "docs").glob("*.md"))]:
         for command, text in commands(page):
             done = subprocess.run(["bash", "-c", command], cwd=TOP, capture_output=True, text=True, check=False)
@@ -28,7 +45,13 @@ def main():
             else:
                 failed += 1
                 print(f"FAILED: {page.name}: {command}\n{done.stdout}{done.stderr}")
-    print(f"{passed} commands of the pages passed, {failed} failed")
+        for block in definitions(page):
+            if any(flat(block) in text for text in texts):
+                passed += 1
+            else:
+                failed += 1
+                print(f"FAILED: {page.name}: no source has\n{block}")
+    print(f"{passed} commands and definitions of the pages passed, {failed} failed")
     sys.exit(failed > 0)
 
 

@@ -8,6 +8,8 @@ mod documents;
 #[cfg(test)]
 mod event_lines;
 #[cfg(test)]
+mod faults;
+#[cfg(test)]
 mod flat_code;
 #[cfg(test)]
 mod interrupt_sources;
@@ -19,6 +21,8 @@ mod preemption_stack;
 mod reading_and_showing;
 #[cfg(test)]
 mod recorders;
+#[cfg(test)]
+mod runs;
 #[cfg(test)]
 mod series;
 #[cfg(test)]

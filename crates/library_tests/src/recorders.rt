@@ -8,7 +8,7 @@ use tt_base::{Event, Owner};
 use tt_io::{MemSink, WriteFault};
 
 /// The run of one round with one task that takes three ticks and meets its deadline.
-const RUN: [Event; 8] = [
+pub(crate) const RUN: [Event; 8] = [
     Event::OsStart { at: 0, mode: M },
     Event::Round {
         at: 0,

@@ -100,6 +100,30 @@ fn reads_from_a_reader(rt: HostRuntime) -> Result<(), Fail> {
     Ok(())
 }
 
+/// Gives four bytes at each read, but for its second, which finds an end, as a terminal may.
+#[derive(Drop)]
+struct Pausing {
+    reads: u32,
+}
+
+impl Read for Pausing {
+    fn read(&mut self, buf: &mut [u8]) -> io::Result<usize> {
+        self.reads = self.reads.saturating_add(1);
+        if self.reads == 2 {
+            return Ok(0);
+        }
+        Ok(buf.len().min(4))
+    }
+}
+
+#[test]
+fn reads_up_to_the_first_end(rt: HostRuntime) -> Result<(), Fail> {
+    let mut source = StdSource::new(Pausing { reads: 0 });
+    assert_eq!(rt; take_all(rt.alloc(), &mut source, 25)?.len(), 4);
+    assert_eq!(rt; source.read(&mut [0; 8]), ReadStep::Got(4));
+    Ok(())
+}
+
 /// How the second write of a writer goes wrong.
 #[derive(Clone, Copy)]
 enum Wrong {

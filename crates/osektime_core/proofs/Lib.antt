@@ -3,5 +3,7 @@ pub mod TablePlaces
 pub mod TableTexts
 pub mod CheckTexts
 pub mod BulkTexts
+pub mod Hearing
 pub mod LoadTexts
 pub mod Traces
+pub mod InBounds

@@ -2,12 +2,9 @@
 use Rattle.std.proofs.Common.{◌≡◌, ℕ, ◌≤◌, List, [], ◌++◌, Option, ap, sym, ◌∙◌, subst}
 use Rattle.std.specs.Io.KnownBytes.{Appends}
 use Rattle.std.proofs.KnownBytes.{Appends-trans}
-use Rattle.tt_base.specs.declared.event.Event.{Event}
-use Rattle.tt_base.specs.declared.names.NameEntry.{NameEntry}
 use Rattle.tt_io.specs.Count.{Rose}
 use Rattle.tt_io.specs.Known.{AppendsPart}
 use Rattle.trace_text.specs.SinkRecorder.{Puts, sink_of, waiting_in}
-use Rattle.trace_text.specs.declared.recorder.Recorder.{Ghosts}
 use Rattle.trace_text.specs.declared.sink_recorder.SinkRecorder.{SinkRecorder}
 use Rattle.trace_text.proofs.Sending.{cut_text, noted_text, sent_part, to_sink}
 use Rattle.tt_world.specs.Schedule.{schedule}
@@ -45,17 +42,11 @@ module _ {O : Type 0} (written : O → Option (List ℕ)) (s t : SinkRecorder O)
       let same : text ≡ all.sent ++ waiting_in t = ap (λ w. w ++ text) (sym none) ∙ all.split in
       subst (λ a. Appends a after text) begun
       (subst (Appends (written (sink_of s).now) after) (sym same)
-      (Appends-trans (written (sink_of s).now) (written (sink_of t).now) after all.sent (waiting_in t) all.appended sent))
+      (Appends-trans (written (sink_of s).now) (written (sink_of t).now) after all.sent
+      (waiting_in t) all.appended sent))
 
   -- a text was put, and of what waited a part was sent
   pub sent_some : waiting_in s ≡ [] → written (sink_of s).now ≡ before → Puts written s text t
       → AppendsPart (written (sink_of t).now) after (waiting_in t) → AppendsPart before after text
   sent_some none begun put sent =
       subst (λ a. AppendsPart a after text) begun (sent_part written s t text after none put sent)
-
--- a recorder that is never cut does not fail
-pub never_fails : {S : Type 0} (r : Ghosts S) (b : Benched) (s t : S) (run : Run)
-    → ((before : S) (event : Event) (names : List NameEntry) (after : S) → r.cut before event names after → ⊥)
-    → Ran r b s t run → run ≡ Failed → ⊥
-never_fails r b s t (Ended report) none p is = cc is
-never_fails r b s t Failed none p is = none p.middle p.next b.config.names t p.cut

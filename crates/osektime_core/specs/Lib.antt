@@ -6,6 +6,8 @@ pub use Rattle.tt_io.specs.Count
 pub use Rattle.tt_io.specs.Known
 pub mod CheckText
 pub mod BulkText
+pub mod Heard
 pub mod LoadText
 pub mod NoMiss
 pub mod Runs
+pub mod InBounds

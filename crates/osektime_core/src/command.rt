@@ -5,6 +5,8 @@ ghost use Rattle.tt_io.specs.Count.{Rose, counted};
 ghost use Rattle.tt_io.specs.Known.{AppendsPart, HadMore};
 ghost use Rattle.osektime_core.specs.Words.{command_of};
 ghost use Rattle.osektime_core.specs.Answer.{answer_of, document_for, IsAnswered, IsReading, OnAnswered};
+ghost use Rattle.osektime_core.specs.Heard.{Heard, HeardPart};
+ghost use Rattle.osektime_core.specs.InBounds.{IsLoading, OnRun, TellsInBounds};
 ghost use Rattle.osektime_core.specs.NoMiss.{IsSchedulable, NoneIsMissed};
 
 use crate::document::respond;
@@ -48,6 +50,21 @@ pub fn serve<I: Source, O: Sink, L: Ledger>(
         (IfSome (I.left input.old) (λ _. I.left input.new ≡ Some [])) }
     ensures not_read { ¬ IsReading (command_of words.now) → input.new ≡ input.old }
 
+    // The same over a source that does not tell what it has left, as standard input: the answer is
+    // that to the bytes that the source gave, up to its first end and not after it.
+    ensures heard { IsReading (command_of words.now)
+        → ¬ Rose (I.faults input.old) (I.faults input.new)
+        → ¬ Rose (O.faults output.old) (O.faults output.new)
+        → result ≢ Status.Memory
+        → Heard words.now result (I.gave input.old) (I.gave input.new) (O.written output.old)
+        (O.written output.new) }
+    ensures heard_answered { IsReading (command_of words.now) → OnAnswered result
+        (Heard words.now result (I.gave input.old) (I.gave input.new) (O.written output.old)
+        (O.written output.new)) }
+    ensures heard_part { IsReading (command_of words.now) → result ≡ Status.WriteFault
+        → HeardPart words.now (I.gave input.old) (I.gave input.new) (O.written output.old)
+        (O.written output.new) }
+
     ensures memory { result ≡ Status.Memory → output.new ≡ output.old }
     ensures usage { (result ≡ Status.Usage) ↔ (command_of words.now ≡ None) }
     ensures usage_untouched { result ≡ Status.Usage
@@ -69,6 +86,11 @@ pub fn serve<I: Source, O: Sink, L: Ledger>(
     // keeps its declared bounds are met.
     ensures no_miss { IfSome (document_for words.now (I.left input.old))
         (λ bytes. IsSchedulable bytes → NoneIsMissed result) }
+
+    // The depth and the words that `load` and `bulk` write of a run are at most the bounds beside
+    // them, whatever the check of the document says and whether its script keeps its bounds.
+    ensures bounded { IsLoading (command_of words.now) → OnRun result
+        (TellsInBounds (O.written output.old) (O.written output.new)) }
 
     ensures never_falls { (I.faults input.old ≤ I.faults input.new)
         × (O.faults output.old ≤ O.faults output.new) }

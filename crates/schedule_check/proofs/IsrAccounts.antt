@@ -1,6 +1,6 @@
 -- The ticks of one time-triggered routine in any consecutive instants.
 use Rattle.std.proofs.Common.{ℕ, ◌≡◌, ◌≢◌, ◌<◌, ◌≤◌, ◌+◌, ◌*◌, List, [], ◌∷◌, ◌++◌, Bool, true, false, refl, ap, sym, ◌∙◌, subst, cond, arith, length, ◌⊎◌, ⊎_elim, get_or, set, get_or-set_same, get_or-set_other}
-use Rattle.std.specs.Prelude.{◌==◌, count_by}
+use Rattle.std.specs.Prelude.{count_by}
 use Rattle.std.proofs.Math.Nat.{mul-add, mul-le-mul_left}
 use Rattle.std.proofs.lemmas.List.{length-set}
 use Rattle.std.proofs.lemmas.List.Sums.{sum_by-append}
@@ -8,7 +8,6 @@ use Rattle.std.proofs.lemmas.List.Elements.{All-get_or}
 use Rattle.std.proofs.lemmas.Bool.{false≢true}
 use Rattle.tt_base.specs.declared.event.Event.{Event}
 use Rattle.tt_base.specs.declared.number.IsrNo.{IsrNo}
-use Rattle.tt_base.specs.declared.event.Owner.TheVariants as owner
 use Rattle.task_lang.specs.declared.syntax.Stmt.{Stmt}
 use Rattle.task_lang.specs.Limits.{AreNumbersInRange}
 use Rattle.task_lang.specs.Tick.{supply_of, state_of}
@@ -252,5 +251,5 @@ module _ (c : ConfigParts) (s : ScriptParts) (rules : IsConfig c) (bounds : Keep
         subst
             (λ (x : List Stmt). worst_in c.demands x + 1 ≤ worst_in c.demands old) (sym e) (omega arith),
       ))
-      (λ (o : IsOsek (runner.Isr number)). absurd o) o)
+      (λ (o : IsOsek (runner.Isr number)). cc) o)
       l

@@ -132,14 +132,23 @@ module _ (c : ConfigParts) (s : ScriptParts) where
       (λ (g : length w.isrs ≤ j.0). absurd (false≢true (sym undone ∙ ap is_done (get_or_past w.isrs j.0 [] g))))
       (cases_lt j.0 (length w.isrs))
 
+  opened_sized : (n : ℕ) → GoesOnBefore c s n → is_over (opening c s (world_at c s n)).end ≡ false
+      → Sized (opening c s (world_at c s n)).world
+  opened_sized n g on =
+      led_on (Alone Sized) Anything [] (opening c s (world_at c s n)) on
+      (opening_leads c s (λ _. Alone Sized) Anything opening_sized (world_at c s n) [] (sized_at n g))
+
+  -- after an opening at which the run goes on
+  pub isrs_opened : (n : ℕ) → GoesOnBefore c s n → is_over (opening c s (world_at c s n)).end ≡ false
+      → length (opening c s (world_at c s n)).world.isrs ≡ length c.isrs
+  unfolding Sized
+  isrs_opened n g on = opened_sized n g on
+
   opening_within : (n : ℕ) → GoesOnBefore c s n → (over : Bool) → is_over (opening c s (world_at c s n)).end ≡ over
       → (j : IsrNo) → runner_if over (runner_of c (opening c s (world_at c s n)).world) ≡ runner.Isr j
       → j.0 < length c.isrs
   opening_within n g true o j e = cc
-  opening_within n g false o j e =
-      runs_within (opening c s (world_at c s n)).world
-      (led_on (Alone Sized) Anything [] (opening c s (world_at c s n)) o
-      (opening_leads c s (λ _. Alone Sized) Anything opening_sized (world_at c s n) [] (sized_at n g))) j e
+  opening_within n g false o j e = runs_within (opening c s (world_at c s n)).world (opened_sized n g o) j e
 
   runner_within : (n : ℕ) → GoesOnBefore c s n → (j : IsrNo) → runner_at c s n ≡ runner.Isr j → j.0 < length c.isrs
   unfolding runner_at

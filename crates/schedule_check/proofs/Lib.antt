@@ -27,3 +27,4 @@ pub mod Fates
 pub mod FateParts
 pub mod NoMiss
 pub mod KeepsBounds
+pub mod StackBound

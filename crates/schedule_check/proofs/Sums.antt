@@ -70,3 +70,16 @@ module _ {X : Type 0} (f : X → ℕ) where
       let same = ap (λ k. sum_by (λ (i : ℕ). f (get_or xs i d)) (range_with_len 0 k)) z in
       let same' = ap (λ k. sum_by f (take k xs)) z in
       omega arith
+
+module _ {A B : Type 0} (f : A → ℕ) (g : B → ℕ) (a : A) (b : B) where
+  -- a sum of terms that are no larger than those at the same places of a list that is no shorter
+  pub sum_le_places : (xs : List A) (ys : List B) → length xs ≤ length ys
+      → ((i : ℕ) → i < length xs → f (get_or xs i a) ≤ g (get_or ys i b)) → sum_by f xs ≤ sum_by g ys
+  sum_le_places [] ys l h = omega arith
+  sum_le_places (x ∷ xs) [] l h = absurd (omega arith)
+  sum_le_places (x ∷ xs) (y ∷ ys) l h =
+      let p = sum_by-cons f x xs in
+      let q = sum_by-cons g y ys in
+      let r = sum_le_places xs ys (omega arith) (λ i m. h (suc i) (omega arith)) in
+      let here = h 0 (omega arith) in
+      omega arith

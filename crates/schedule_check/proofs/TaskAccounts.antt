@@ -129,7 +129,7 @@ module _ (c : ConfigParts) (s : ScriptParts) (rules : IsConfig c) (bounds : Keep
         subst
             (λ (x : List Stmt). worst_in c.demands x + 1 ≤ worst_in c.demands old) (sym e) (omega arith),
       ))
-      (λ (o : IsOsek (runner.Job q)). absurd o) o)
+      (λ (o : IsOsek (runner.Job q)). cc) o)
       l
 
   place_numbers : (xs : List Job) (q place : ℕ) (after : List Stmt) → q < length xs → AreNumbersInRange after

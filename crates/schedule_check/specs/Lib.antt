@@ -5,6 +5,7 @@ pub mod Counts
 pub mod Kept
 pub mod Responses
 pub mod Windows
+pub mod StackLaw
 pub mod Measures
 pub mod DeadlineLaws
 pub mod KeepsBounds

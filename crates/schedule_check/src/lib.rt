@@ -15,6 +15,6 @@ mod windows;
 pub use answers::{CheckAnswer, check};
 pub use bounds::kept;
 pub use demands::demand;
-pub use laws::{isr_is_bounded, no_miss};
+pub use laws::{isr_is_bounded, no_miss, stack_is_bounded};
 pub use responses::response;
 pub use windows::{depth_bound, words_bound};

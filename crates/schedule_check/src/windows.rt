@@ -1,8 +1,11 @@
 //! How deep activations and routines are nested at most, and how many stack words they take.
 
 ghost use Rattle.std.specs.Prelude.{◌≡◌, ◌≤◌, ◌<◌, ◌+◌, ◌*◌, ◌^◌, length, take, sum_by};
+ghost use Rattle.tt_world.specs.declared.script.ScriptParts.{ScriptParts};
 ghost use Rattle.tt_world.specs.ConfigRules.{IsConfig};
+ghost use Rattle.tt_world.specs.Load.{deepest, most_words};
 ghost use Rattle.tt_world.specs.Rows.{row_of};
+ghost use Rattle.tt_world.specs.ScriptRules.{IsScript};
 ghost use Rattle.round_table.specs.DueRows.{checks_of};
 ghost use Rattle.round_table.specs.TableRows.{tables_of};
 ghost use Rattle.schedule_check.specs.Measures.{counted, weight_of};
@@ -105,7 +108,9 @@ fn most_open(measure: Measure, config: &Config, tables: &Tables) -> u64
 /// round's. The tables are those of the configuration.
 pub fn depth_bound(config: &Config, tables: &Tables) -> u64
     requires { tables.now ≡ tables_of config.now }
-    ensures { result ≡ depth_bound config.now }
+    ensures exact { result ≡ depth_bound config.now }
+    ensures every_run { (s : ScriptParts) → IsScript config.now s
+        → deepest config.now s ≤ result }
 {
     most_open(Measure::Depth, config, tables) + config.parts().isrs.len() as u64
 }
@@ -115,7 +120,9 @@ pub fn depth_bound(config: &Config, tables: &Tables) -> u64
 /// the time-triggered routines. The tables are those of the configuration.
 pub fn words_bound(config: &Config, tables: &Tables) -> u64
     requires { tables.now ≡ tables_of config.now }
-    ensures { result ≡ words_bound config.now }
+    ensures exact { result ≡ words_bound config.now }
+    ensures every_run { (s : ScriptParts) → IsScript config.now s
+        → most_words config.now s ≤ result }
 {
     let mut stacks = 0;
     for isr in config.parts().isrs.as_slice() {

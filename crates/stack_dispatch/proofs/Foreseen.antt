@@ -29,6 +29,7 @@ use Rattle.isr_window.proofs.Arrivals.{arrivals_silent, left_jump}
 use Rattle.round_end.specs.Round.{Round, next_own}
 use Rattle.round_table.specs.ExpiryPoints.{IsFree}
 use Rattle.stack_dispatch.specs.First.{first_state}
+use Rattle.stack_dispatch.specs.Counts.{IsDueAt}
 use Rattle.stack_dispatch.specs.Due.{NoneAccepted}
 use Rattle.stack_dispatch.specs.Served.{AreRowsFree, CanPass, Foresees, HasSources, IsAhead, round_in}
 use Rattle.stack_dispatch.specs.State.{RunState, Beside, window_in}
@@ -50,7 +51,8 @@ none_kept p n (suc m) e j l u =
 
 -- ---- the own ticks of a round
 
-own_is : (r : Round) (latched : Option ℕ) → r.latched ≡ latched → next_own r ≡ next_own (record r { latched = latched })
+-- by whether the length of the round is fixed
+pub own_is : (r : Round) (latched : Option ℕ) → r.latched ≡ latched → next_own r ≡ next_own (record r { latched = latched })
 own_is r latched e = ap (λ l. next_own (record r { latched = l })) e
 
 not_over : (r : Round) (latched : Option ℕ) (offset next : ℕ) → r.latched ≡ latched → next ≤ next_own r
@@ -181,15 +183,23 @@ module _ {L : Type 0} {Told : L → List Event → L → Type 0} (telling : IsTe
         let start = r.start in
         ahead_kept 0 1 st v next beside r.start r.mode r.latched (λ z. absurd (omega arith)) (omega arith) h
 
+    pub due_accepted : (w v : World) (next : ℕ) (a b : L) → Gives Told a b v None (acceptances c w)
+        → IsDueAt c s w next → IsDueAt c s v next
+    due_accepted w v next a b g due u at start mode latched =
+        let r = accepted_round w v a b g in due u at (start ∙ r.start) (mode ∙ r.mode) (latched ∙ r.latched)
+
+    pub tick_accepted : (w v : World) (a b : L) → Gives Told a b v None (acceptances c w) → v.tick ≡ w.tick
+    tick_accepted w v a b g = (accepted_round w v a b g).tick
+
     pub ahead_idle : (st : RunState) (next : ℕ) → IsAhead c 0 st next → IsAhead c 1 st next
     ahead_idle st next h = ahead_kept 0 1 st st next refl refl refl refl (λ z. absurd (omega arith)) (omega arith) h
 
     pub foresees : (st v : RunState) (next : ℕ) (ended : Bool) (a b : L) → v.beside ≡ st.beside
         → st.world.start ≤ st.world.tick
         → Gives Told a b v.world None (step c s st.world) → ended ≡ owner_ends c s st.world → NoneAccepted c st.world
-        → IsAhead c 1 st next
-        → Foresees c v (record { next = next; ended = ended })
-    foresees st v next ended a b beside started g is none h =
+        → IsAhead c 1 st next → IsDueAt c s st.world next
+        → Foresees c s v (record { next = next; ended = ended })
+    foresees st v next ended a b beside started g is none h due =
         let on = ap is_over (sym g.end_is) in
         let still = subst (Still st.world) (sym g.world_is) (step_still c s st.world on) in
         let tick = still.tick in
@@ -197,14 +207,17 @@ module _ {L : Type 0} {Told : L → List Event → L → Type 0} (telling : IsTe
         record {
           next = ahead_kept 1 0 st v next beside still.start still.mode still.latched (λ z. absurd (omega arith))
               (omega arith) h;
+          due = λ _ u at from mode latched.
+              due u at (from ∙ still.start) (mode ∙ still.mode) (latched ∙ still.latched);
           none = λ undone place l.
               ap (λ (w : World). is_accepted w (source_at c place)) g.world_is
               ∙ step_accepts c s st.world (source_at c place) on (sym is ∙ undone) (none place l);
         }
 
     -- before tick 0
-    pub foresees_first : Foresees c (first_state c s) (record { next = 0; ended = true })
+    pub foresees_first : Foresees c s (first_state c s) (record { next = 0; ended = true })
     foresees_first = record {
+      due = λ l. absurd (omega arith);
       next = record {
         head = λ _. refl;
         free = λ offset l m. absurd (omega arith);

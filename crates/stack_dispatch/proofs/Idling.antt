@@ -1,16 +1,16 @@
--- The tick of an owner in idle time, as the code takes it.
+-- Ticks of an owner in idle time, as the code takes them.
 use Rattle.std.proofs.Common.{ℕ, ◌≡◌, ◌≢◌, List, [], ◌∷◌, Bool, true, false, Option, Some, refl, ap, sym, ◌∙◌, subst, length}
 use Rattle.std.specs.Prelude.{ℤ, ◌||◌, ◌↔◌, IsTrue}
 use Rattle.tt_base.specs.declared.event.Owner.{Owner}
 use Rattle.task_lang.specs.declared.syntax.Stmt.{Stmt}
 use Rattle.task_lang.specs.declared.tick.Effect.{Effect}
-use Rattle.task_lang.specs.Tick.{State, supply_of, state_of, tick, ticks}
+use Rattle.task_lang.specs.Tick.{State, supply_of, state_of, ticks}
 use Rattle.task_machine.specs.Stored.{Store}
 use Rattle.tt_world.specs.Runners.{is_done}
 use Rattle.round_end.specs.Round.{Round}
 use Rattle.osek_idle.specs.Subsystem.{Subsystem, Setup, lefts, finished, owner_left, owner_leaving, IsSettled}
 use Rattle.stack_dispatch.specs.declared.took.Did.{Did}
-use Rattle.stack_dispatch.specs.Effects.{Effected, effected, MayDo, HaveSome, GaveIdle, finished_at, idle_tick}
+use Rattle.stack_dispatch.specs.Effects.{Effected, effected, MayDo, HaveSome, GaveIdle, finished_at, idle_ticks}
 use Rattle.stack_dispatch.proofs.Settling.{settles, tasks_then, routines_then}
 
 -- an owner that no service has ended, and of which nothing is left
@@ -39,43 +39,33 @@ done_from false [] is = is.1 refl
 done_from false (front ∷ rest) is = refl
 done_from true (front ∷ rest) is = let none : front ∷ rest ≡ [] = is.0 refl in cc
 
--- one tick
-pub one_tick : (env : Store) (left after : List Stmt) (vars : List ℤ) (cursors : List ℕ) (effects : List Effect)
-    → state_of after vars cursors effects ≡ ticks (supply_of env.demands env.values) 1
-    (state_of left env.vars env.cursors [])
-    → state_of after vars cursors effects ≡ tick (supply_of env.demands env.values)
-    (state_of left env.vars env.cursors [])
-unfolding ticks
-one_tick env left after vars cursors effects h = h
-
-module _ (who : Owner) (env : Store) (sub sub1 : Subsystem) (o : Option Owner) (picks : o ≡ Some who)
+module _ (who : Owner) (k : ℕ) (env : Store) (sub sub1 : Subsystem) (o : Option Owner) (picks : o ≡ Some who)
     (vars : List ℤ) (cursors : List ℕ) (effects : List Effect)
     (ticked : state_of (owner_left sub1 o) vars cursors effects
-    ≡ ticks (supply_of env.demands env.values) 1 (state_of (owner_left sub o) env.vars env.cursors [])) where
-  -- the tick is that of the owner
-  pub tick_is : state_of (owner_left sub1 (Some who)) vars cursors effects ≡ idle_tick who env sub
+    ≡ ticks (supply_of env.demands env.values) k (state_of (owner_left sub o) env.vars env.cursors [])) where
+  -- the ticks are those of the owner
+  pub tick_is : state_of (owner_left sub1 (Some who)) vars cursors effects ≡ idle_ticks k who env sub
   tick_is =
       subst (λ (x : Option Owner). state_of (owner_left sub1 x) vars cursors effects
-      ≡ tick (supply_of env.demands env.values) (state_of (owner_left sub x) env.vars env.cursors [])) picks
-      (one_tick env (owner_left sub o) (owner_left sub1 o) vars cursors effects ticked)
+      ≡ ticks (supply_of env.demands env.values) k (state_of (owner_left sub x) env.vars env.cursors [])) picks ticked
 
   -- so are its effects
-  pub effects_are : effects ≡ (idle_tick who env sub).effects
+  pub effects_are : effects ≡ (idle_ticks k who env sub).effects
   effects_are = ap (λ (st : State). st.effects) tick_is
 
-  -- what may be called may be called of the subsystem after the tick
+  -- what may be called may be called of the subsystem after the ticks
   pub may_still : (now : ℕ) (r : Round) (setup setup1 : Setup) → setup1 ≡ setup
-      → MayDo now who (idle_tick who env sub).effects r setup
+      → MayDo now who (idle_ticks k who env sub).effects r setup
       → MayDo now who effects r setup1
   may_still now r setup setup1 same may =
       subst (λ (x : Setup). MayDo now who effects r x) (sym same)
       (subst (λ (es : List Effect). MayDo now who es r setup) (sym effects_are) may)
 
   module _ (others : sub1 ≡ owner_leaving o (owner_left sub1 o) sub) where
-    left_is : owner_left sub1 (Some who) ≡ (idle_tick who env sub).left
+    left_is : owner_left sub1 (Some who) ≡ (idle_ticks k who env sub).left
     left_is = ap (λ (st : State). st.left) tick_is
 
-    sub_is : sub1 ≡ owner_leaving (Some who) (idle_tick who env sub).left sub
+    sub_is : sub1 ≡ owner_leaving (Some who) (idle_ticks k who env sub).left sub
     sub_is =
         subst (λ (x : Option Owner). sub1 ≡ owner_leaving x (owner_left sub1 x) sub) picks others
         ∙ ap (λ (l : List Stmt). owner_leaving (Some who) l sub) left_is
@@ -85,8 +75,8 @@ module _ (who : Owner) (env : Store) (sub sub1 : Subsystem) (o : Option Owner) (
         (x_is : x ≡ effected body1 now who effects r sub1)
         (final : Subsystem) (final_is : final ≡ finished_at who ended x.ends x.subsystem) where
       E : Effected
-      E = effected body now who (idle_tick who env sub).effects r
-          (owner_leaving (Some who) (idle_tick who env sub).left sub)
+      E = effected body now who (idle_ticks k who env sub).effects r
+          (owner_leaving (Some who) (idle_ticks k who env sub).left sub)
 
       x_made : x ≡ E
       unfolding E
@@ -94,21 +84,21 @@ module _ (who : Owner) (env : Store) (sub sub1 : Subsystem) (o : Option Owner) (
           x_is
           ∙ ap (λ (b : ℕ → List Stmt). effected b now who effects r sub1) same
           ∙ ap (λ (es : List Effect). effected body now who es r sub1) effects_are
-          ∙ ap (λ (z : Subsystem). effected body now who (idle_tick who env sub).effects r z) sub_is
+          ∙ ap (λ (z : Subsystem). effected body now who (idle_ticks k who env sub).effects r z) sub_is
 
       final_made : final ≡ finished_at who ended E.ends E.subsystem
       unfolding E
       final_made = final_is ∙ ap (λ (y : Effected). finished_at who ended y.ends y.subsystem) x_made
 
-      none_left : IsTrue ended ↔ ((idle_tick who env sub).left ≡ [])
+      none_left : IsTrue ended ↔ ((idle_ticks k who env sub).left ≡ [])
       none_left =
-          let same_left : owner_left sub1 o ≡ (idle_tick who env sub).left =
+          let same_left : owner_left sub1 o ≡ (idle_ticks k who env sub).left =
           ap (owner_left sub1) picks ∙ left_is in
           (λ t. sym same_left ∙ ended_is.0 t, λ e. ended_is.1 (same_left ∙ e))
 
-      -- what was made is what the tick gives
+      -- what was made is what the ticks give
       pub gave : owner_left sub (Some who) ≢ [] → (over : Bool) → over ≡ (x.ends || ended)
-          → GaveIdle body now who (idle_tick who env sub) r sub (record { did = x.did; ended = over }) x.round final
+          → GaveIdle body now who (idle_ticks k who env sub) r sub (record { did = x.did; ended = over }) x.round final
       unfolding E
       gave some over over_is = record {
         did = ap (λ (y : Effected). y.did) x_made;
@@ -116,19 +106,19 @@ module _ (who : Owner) (env : Store) (sub sub1 : Subsystem) (o : Option Owner) (
             ∙ ap (λ (b : Bool). E.ends || b) (done_from ended _ none_left);
         round_is = ap (λ (y : Effected). y.round) x_made;
         tasks = ap (λ (y : Subsystem). lefts y.tasks) final_made
-            ∙ tasks_then body now r who (idle_tick who env sub).effects sub (idle_tick who env sub).left ended
+            ∙ tasks_then body now r who (idle_ticks k who env sub).effects sub (idle_ticks k who env sub).left ended
             none_left some;
         routines = ap (λ (y : Subsystem). lefts y.routines) final_made
-            ∙ routines_then body now r who (idle_tick who env sub).effects sub (idle_tick who env sub).left ended
+            ∙ routines_then body now r who (idle_ticks k who env sub).effects sub (idle_ticks k who env sub).left ended
             none_left some;
       }
 
       -- the subsystem is settled again
       pub settled : (setup : Setup) → HaveSome body (length setup.tasks)
-          → MayDo now who (idle_tick who env sub).effects r setup → IsSettled sub
+          → MayDo now who (idle_ticks k who env sub).effects r setup → IsSettled sub
           → IsSettled final
       unfolding E
       settled setup all may h =
           subst IsSettled (sym final_made)
-          (settles body now r setup all who (idle_tick who env sub).effects sub (idle_tick who env sub).left ended
+          (settles body now r setup all who (idle_ticks k who env sub).effects sub (idle_ticks k who env sub).left ended
           none_left may h)

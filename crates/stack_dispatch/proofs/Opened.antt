@@ -44,11 +44,12 @@ use Rattle.round_table.specs.TableRows.{TableRows}
 use Rattle.stack_dispatch.specs.Checking.{monitored_entries}
 use Rattle.stack_dispatch.specs.First.{first_state}
 use Rattle.stack_dispatch.specs.Due.{enables_by, NoneAccepted}
+use Rattle.stack_dispatch.specs.Jumps.{IsOnSchedule}
 use Rattle.stack_dispatch.specs.Served.{IsServed, IsTableOf, StandsAt, HasSources, IsOpened, CanPass}
 use Rattle.stack_dispatch.specs.State.{RunState, Beside, IsFor, window_in}
 use Rattle.stack_dispatch.specs.Ticking.{CanTick}
 use Rattle.stack_dispatch.proofs.Enabling.{enables_are}
-use Rattle.stack_dispatch.proofs.Running.{AtTick, has_number}
+use Rattle.stack_dispatch.proofs.Running.{has_number}
 use Rattle.stack_dispatch.proofs.Served.{due_given, checked_same}
 
 -- ---- the sources
@@ -377,10 +378,9 @@ module _ {L : Type 0} {Told : L → List Event → L → Type 0} (telling : IsTe
     -- ---- the run
 
     -- at each tick of a run
-    pub can_pass : (st : RunState) (first now : L) → IsConfig c → IsScript c s → AtTick Told c s first st.world now
-        → IsFor c s st.beside
+    pub can_pass : (st : RunState) → IsConfig c → IsScript c s → IsOnSchedule c s st.world → IsFor c s st.beside
         → HasSources c s st.world.tick st → CanPass c s st
-    can_pass st first now rules script a fixed sources =
+    can_pass st rules script a fixed sources =
         let bounded = are_bounded c s rules script in
         let n = st.world.tick in
         record {
@@ -395,7 +395,7 @@ module _ {L : Type 0} {Told : L → List Event → L → Type 0} (telling : IsTe
           named = subst (Named c) (sym a.world) (run_named c s rules script n a.going);
           fixed = fixed;
           sources = sources;
-          tick = has_number telling c s bounded first st.world now a;
+          tick = has_number c s bounded st.world a;
         }
 
     pub first_sources : IsScript c s → HasSources c s 0 (first_state c s)

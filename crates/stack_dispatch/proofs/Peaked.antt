@@ -22,7 +22,7 @@ in_tick_over number m end last is same =
     ap (λ (o : Outcome). if is_over o then 0 else number m.world) (sym same ∙ is)
 
 -- the number of the world after an opening
-in_tick_on : (number : World → ℕ) (m : Moved) (end : Outcome) (v : World) → end ≡ None → end ≡ m.end → v ≡ m.world
+pub in_tick_on : (number : World → ℕ) (m : Moved) (end : Outcome) (v : World) → end ≡ None → end ≡ m.end → v ≡ m.world
     → in_tick number m ≡ number v
 in_tick_on number m end v on same world =
     ap (λ (o : Outcome). if is_over o then 0 else number m.world) (sym same ∙ on) ∙ ap number (sym world)

@@ -8,11 +8,12 @@ use Rattle.tt_world.specs.declared.config.ConfigParts.{ConfigParts}
 use Rattle.tt_world.specs.declared.script.ScriptParts.{ScriptParts}
 use Rattle.tt_world.specs.declared.world.RunEnd.{RunEnd}
 use Rattle.tt_world.specs.World.{World}
-use Rattle.tt_world.specs.Moved.{IsTelling, Outcome, Gives, is_over}
-use Rattle.tt_world.specs.Schedule.{IsBounded, instant, instant_at, world_at, events_before, events_between, ends_at, last_instant, schedule, first_world}
+use Rattle.tt_world.specs.Moved.{IsTelling, Outcome, is_over}
+use Rattle.tt_world.specs.Schedule.{IsBounded, instant_at, world_at, events_before, events_between, ends_at, last_instant, schedule, first_world}
 use Rattle.tt_world.specs.Status.{status_by, status_of, last_stamp}
 use Rattle.tt_world.specs.Load.{last_round}
 use Rattle.tt_world.proofs.Parts.{GoesOnBefore}
+use Rattle.stack_dispatch.specs.Jumps.{IsOnSchedule, Passes}
 use Rattle.stack_dispatch.proofs.RoundNumbers.{last_round_is}
 use Rattle.tt_world.proofs.Ends.{tick_at, few_ticks, last_is, last_unique, goes_on_more}
 use Rattle.tt_world.proofs.Stamps.{EndsAs}
@@ -23,13 +24,23 @@ use Rattle.tt_world.proofs.Closing.{schedule_says, ended_status, ended_stamp}
 pub record AtTick {L : Type 0} (Told : L → List Event → L → Type 0) (c : ConfigParts) (s : ScriptParts) (first : L)
     (w : World) (now : L)
     : Type 0 where
-  pub world : w ≡ world_at c s w.tick
+  pub on : IsOnSchedule c s w
   pub told : Told first (events_before c s w.tick) now
-  pub going : GoesOnBefore c s w.tick
 
--- each instant but the last leaves fewer to come
-pub nearer : (most a b : ℕ) → a ≤ most → b ≡ a + 1 → most + 1 - b < most + 1 - a
-nearer most a b l e = omega arith
+-- instants that were passed leave fewer to come
+pub nearer : (most a n b : ℕ) → a ≤ most → a ≤ n → b ≡ n + 1 → most + 1 - b < most + 1 - a
+nearer most a n b l m e = omega arith
+
+-- the next tick has a number
+pub has_number : (c : ConfigParts) (s : ScriptParts) → IsBounded c s → (w : World) → IsOnSchedule c s w
+    → w.tick + 1 < 2 ^ 64
+has_number c s bounded w a =
+    let few : w.tick ≤ s.rounds * (c.round + c.adjust) = few_ticks c s bounded w.tick a.going in
+    let m : s.rounds * (c.round + c.adjust) ≤ 100000 * (c.round + c.adjust) =
+    mul-le-mul_right (c.round + c.adjust) bounded.few_rounds in
+    let adjust = bounded.adjust in
+    let short = bounded.round_short in
+    omega arith
 
 -- ---- the events of a front of a run, and the others
 
@@ -42,6 +53,15 @@ front_is c s n (suc k) =
     let z : n + suc k ≡ suc (n + k) = omega arith in
     ap (events_before c s) z ∙ ap (λ es. es ++ (instant_at c s (n + k)).events) (front_is c s n k)
     ∙ append_assoc (events_before c s n) (events_between c s n k) (instant_at c s (n + k)).events
+
+-- an instant at which the run goes on is before the last one
+pub before_last : (c : ConfigParts) (s : ScriptParts) → IsBounded c s → (n : ℕ) → GoesOnBefore c s (n + 1)
+    → n < last_instant c s
+before_last c s bounded n going =
+    let last = last_is c s bounded in
+    ⊎_elim (λ (l : n < last_instant c s). l)
+    (λ (g : last_instant c s ≤ n).
+    absurd (true≢false (sym last.ends ∙ going (last_instant c s) (omega arith)))) (cases_lt n (last_instant c s))
 
 pub schedule_rest : ConfigParts → ScriptParts → ℕ → List Event
 schedule_rest c s n = events_between c s n (suc (last_instant c s) - n)
@@ -61,89 +81,81 @@ schedule_split c s bounded n going =
 module _ {L : Type 0} {Told : L → List Event → L → Type 0} (telling : IsTelling Told) where
   pub at_first : (c : ConfigParts) (s : ScriptParts) (first : L) → AtTick Told c s first (first_world c s) first
   unfolding world_at events_before
-  at_first c s first = record { world = refl; told = telling.none first; going = λ k l. absurd (omega arith) }
+  at_first c s first = record {
+    on = record { world = refl; going = λ k l. absurd (omega arith) };
+    told = telling.none first;
+  }
 
-  -- the next tick has a number
-  pub has_number : (c : ConfigParts) (s : ScriptParts) → IsBounded c s → (first : L) (w : World) (now : L)
-      → AtTick Told c s first w now
-      → w.tick + 1 < 2 ^ 64
-  has_number c s bounded first w now a =
-      let few : w.tick ≤ s.rounds * (c.round + c.adjust) = few_ticks c s bounded w.tick a.going in
-      let m : s.rounds * (c.round + c.adjust) ≤ 100000 * (c.round + c.adjust) =
-      mul-le-mul_right (c.round + c.adjust) bounded.few_rounds in
-      let adjust = bounded.adjust in
-      let short = bounded.round_short in
-      omega arith
+  -- ---- some instants after others, of which the last is n
 
-  -- ---- an instant after another
-
-  module _ (c : ConfigParts) (s : ScriptParts) (first : L) (v w : World) (now next : L) (end : Outcome)
+  module _ (c : ConfigParts) (s : ScriptParts) (first : L) (v w : World) (n : ℕ) (now next : L) (end : Outcome)
       (a : AtTick Told c s first v now)
-      (g : Gives Told now next w end (instant c s v)) where
-    ends_is : is_over end ≡ ends_at c s v.tick
-    unfolding instant_at
-    ends_is = ap is_over g.end_is ∙ ap (λ x. is_over (instant c s x).end) a.world
+      (g : Passes Told c s v.tick n now next w end) where
+    ends_is : is_over end ≡ ends_at c s n
+    ends_is = ap is_over g.end_is
 
-    world_next : w ≡ world_at c s (v.tick + 1)
-    unfolding world_at
-    world_next = g.world_is ∙ rw add-one (ap (λ x. (instant c s x).world) a.world)
+    world_next : w ≡ world_at c s (n + 1)
+    unfolding world_at instant_at
+    world_next = g.world_is ∙ ap (world_at c s) (sym (add-one n))
 
-    events_same : events_before c s v.tick ++ (instant c s v).events ≡ events_before c s (v.tick + 1)
-    unfolding events_before instant_at
-    events_same = rw add-one (ap (λ x. events_before c s v.tick ++ (instant c s x).events) a.world)
-
-    pub told_next : Told first (events_before c s (v.tick + 1)) next
-    told_next = subst (λ es. Told first es next) events_same (telling.both first now next _ _ a.told g.told)
+    pub told_next : Told first (events_before c s (n + 1)) next
+    told_next =
+        let later = g.later in
+        let number : v.tick + (suc n - v.tick) ≡ n + 1 = omega arith in
+        subst (λ es. Told first es next)
+        (sym (front_is c s v.tick (suc n - v.tick)) ∙ ap (events_before c s) number)
+        (telling.both first now next _ _ a.told g.told)
 
     -- where the run goes on
     module _ (on : end ≡ None) where
-      pub going_next : GoesOnBefore c s (v.tick + 1)
+      pub going_next : GoesOnBefore c s (n + 1)
       going_next =
-          let less : ends_at c s v.tick ≡ false = sym ends_is ∙ ap is_over on in
-          goes_on_more c s v.tick a.going less
+          let less : ends_at c s n ≡ false = sym ends_is ∙ ap is_over on in
+          goes_on_more c s n g.going less
 
-      pub tick_next : w.tick ≡ v.tick + 1
-      tick_next = ap (λ x. x.tick) world_next ∙ tick_at c s (v.tick + 1) going_next
+      pub tick_next : w.tick ≡ n + 1
+      tick_next = ap (λ x. x.tick) world_next ∙ tick_at c s (n + 1) going_next
 
       pub at_next : AtTick Told c s first w next
       at_next = record {
-        world = world_next ∙ ap (world_at c s) (sym tick_next);
+        on = record {
+          world = world_next ∙ ap (world_at c s) (sym tick_next);
+          going = subst (GoesOnBefore c s) (sym tick_next) going_next;
+        };
         told = subst (λ (k : ℕ). Told first (events_before c s k) next) (sym tick_next) told_next;
-        going = rw tick_next going_next;
       }
 
     -- where it has ended
     module _ (last : RunEnd) (is : end ≡ Some last) (bounded : IsBounded c s) where
-      over : ends_at c s v.tick ≡ true
+      over : ends_at c s n ≡ true
       over = sym ends_is ∙ ap is_over is
 
-      pub at_last : v.tick ≡ last_instant c s
-      at_last = last_unique c s v.tick (last_instant c s) (record { ends = over; first = a.going })
+      pub at_last : n ≡ last_instant c s
+      at_last = last_unique c s n (last_instant c s) (record { ends = over; first = g.going })
           (last_is c s bounded)
 
       pub all_told : Told first (schedule c s) next
       unfolding schedule
-      all_told = subst (λ (k : ℕ). Told first (events_before c s k) next) (add-one v.tick ∙ ap suc at_last) told_next
+      all_told = subst (λ (k : ℕ). Told first (events_before c s k) next) (add-one n ∙ ap suc at_last) told_next
 
       -- the number of the round is that of the last round
       pub number_is : w.number ≡ last_round (schedule c s)
-      unfolding schedule instant_at
+      unfolding schedule
       number_is =
-          ap (λ (x : World). x.number) g.world_is ∙ ap (λ x. (instant c s x).world.number) a.world
-          ∙ sym (last_round_is c s v.tick a.going)
+          ap (λ (x : World). x.number) g.world_is
+          ∙ sym (last_round_is c s n g.going)
           ∙ ap (λ (k : ℕ). last_round (events_before c s (suc k))) at_last
 
-      says : EndsAs (Some last) v.tick (schedule c s)
-      unfolding schedule instant_at
+      says : EndsAs (Some last) n (schedule c s)
+      unfolding schedule
       says =
-          let outcome : (instant_at c s v.tick).end ≡ Some last =
-          ap (λ x. (instant c s x).end) (sym a.world) ∙ sym g.end_is ∙ is in
-          subst (λ (k : ℕ). EndsAs (Some last) v.tick (events_before c s (suc k))) at_last
-          (subst (λ o. EndsAs o v.tick (events_before c s (suc v.tick))) outcome
-          (schedule_says c s v.tick a.going over))
+          let outcome : (instant_at c s n).end ≡ Some last = sym g.end_is ∙ is in
+          subst (λ (k : ℕ). EndsAs (Some last) n (events_before c s (suc k))) at_last
+          (subst (λ o. EndsAs o n (events_before c s (suc n))) outcome
+          (schedule_says c s n g.going over))
 
-      pub status_is : status_by last v.tick ≡ status_of (schedule c s)
-      status_is = ended_status last v.tick (schedule c s) says
+      pub status_is : status_by last n ≡ status_of (schedule c s)
+      status_is = ended_status last n (schedule c s) says
 
-      pub stamp_is : v.tick ≡ last_stamp (schedule c s)
-      stamp_is = sym (ended_stamp last v.tick (schedule c s) says)
+      pub stamp_is : n ≡ last_stamp (schedule c s)
+      stamp_is = sym (ended_stamp last n (schedule c s) says)

@@ -110,7 +110,8 @@ owner_left_then owner.ErrorHook sub left h some = absurd (some refl)
 owner_left_then owner.ShutdownHook sub left h some = absurd (some refl)
 owner_left_then owner.Idle sub left h some = absurd (some refl)
 
-leaving_settled : (who : Owner) (sub : Subsystem) (left : List Stmt) → left ≢ [] → IsSettled sub
+-- one of which something is left stays settled
+pub leaving_settled : (who : Owner) (sub : Subsystem) (left : List Stmt) → left ≢ [] → IsSettled sub
     → IsSettled (owner_leaving (Some who) left sub)
 leaving_settled (owner.Osek task) sub left some h = record
     { tasks = set_settled sub.tasks task.0 (Some left) some h.tasks; routines = h.routines }

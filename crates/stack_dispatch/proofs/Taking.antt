@@ -1,8 +1,8 @@
 -- The tick of the one who runs, taken from the parts of a state.
 use Rattle.std.proofs.Common.{ℕ, ◌≡◌, ◌≢◌, ◌<◌, ◌+◌, List, [], ◌∷◌, Bool, true, false, Option, Some, refl, ap, sym, ◌∙◌, subst, length, ⊎_elim}
-use Rattle.std.specs.Prelude.{ℤ, not, ◌||◌, ◌↔◌, IsSome, IsTrue, unwrap_or, slice_index_or, slice_set}
+use Rattle.std.specs.Prelude.{ℤ, not, ◌||◌, ◌↔◌, IsTrue, slice_index_or, slice_set}
 use Rattle.std.proofs.lemmas.Bool.{cases_Bool}
-use Rattle.task_lang.specs.Tick.{State, supply_of, state_of, tick, ticks}
+use Rattle.task_lang.specs.Tick.{State, supply_of, state_of, tick}
 use Rattle.task_lang.specs.declared.demand.Demand.{Demand}
 use Rattle.task_lang.specs.declared.syntax.Stmt.{Stmt}
 use Rattle.task_lang.specs.declared.tick.Effect.{Effect}
@@ -22,21 +22,21 @@ use Rattle.tt_world.specs.Step.{state_after}
 use Rattle.round_end.specs.Round.{Round}
 use Rattle.osek_idle.specs.declared.subsystem.Osek.{Osek}
 use Rattle.osek_idle.specs.Standing.{setup_of, subsystem_of, setup_for, task_body}
-use Rattle.osek_idle.specs.Subsystem.{Subsystem, Setup, is_ready, lefts, owner_left, owner_leaving, picked, IsSettled}
+use Rattle.osek_idle.specs.Subsystem.{Subsystem, Setup, is_ready, lefts, owner_left, owner_leaving, IsSettled}
 use Rattle.osek_idle.proofs.Picking.{left_at}
 use Rattle.tt_services.specs.Agreement.{RunsAs, IsCall}
 use Rattle.tt_services.specs.Performed.{IsOsek}
 use Rattle.stack_dispatch.specs.declared.took.Taken.{Taken}
-use Rattle.stack_dispatch.specs.Effects.{Effected, effected, MayDo, HaveSome, GaveIdle, idle_tick}
+use Rattle.stack_dispatch.specs.Effects.{Effected, effected, MayDo, HaveSome, GaveIdle}
 use Rattle.stack_dispatch.specs.Served.{round_in}
-use Rattle.tt_stack.specs.Stacked.{Stacked, runner_in, running, left_in, leaving_in}
+use Rattle.tt_stack.specs.Stacked.{Stacked, left_in, leaving_in}
 use Rattle.stack_dispatch.specs.State.{RunState, Fixed, bodies_of}
 use Rattle.stack_dispatch.specs.Ticking.{CanTick, IsOnStack, IsInIdleTime, Took, TookBy}
 use Rattle.stack_dispatch.proofs.OsekTasks.{task_bodies, count_tasks, have_some}
-use Rattle.stack_dispatch.proofs.Idling.{one_tick, done_from}
+use Rattle.stack_dispatch.proofs.Idling.{done_from}
 use Rattle.stack_dispatch.proofs.Settling.{Readied, owner_ready, owner_stays, done_at, ready_set, lefts_set, effect_settled}
 use Rattle.stack_dispatch.proofs.Ticks.{idle_some, may_do, ends_osek, served, built, built_is, took_by, round_kept, routines_kept}
-use Rattle.stack_dispatch.proofs.WhoRuns.{stack_of, is_of, on_stack_runs, idle_picks}
+use Rattle.stack_dispatch.proofs.WhoRuns.{stack_of}
 
 -- the variables, the demands and their values of a state
 abbrev pub store_of : RunState → Store
@@ -47,15 +47,9 @@ store_of st = record {
   values = st.beside.values;
 }
 
--- what is seen of a state is what its fields give
-pub took_seen : (c : ConfigParts) (s : ScriptParts) (r : Runner) (v st : RunState) (taken : Taken) (now : World)
-    → v ≡ st → Took c s r v.world taken now
-    → Took c s r st.world taken now
-took_seen c s r v st taken now seen t = subst (λ (x : RunState). Took c s r x.world taken now) seen t
-
 -- ---- one who runs on the stack
 
-stack_left : (st : RunState) (r : Runner) → IsOnStack r → left_in (stack_of st) r ≡ left_of st.world r
+pub stack_left : (st : RunState) (r : Runner) → IsOnStack r → left_in (stack_of st) r ≡ left_of st.world r
 stack_left st (runner.Isr i) on = refl
 stack_left st (runner.Job p) on = refl
 stack_left st (runner.Oisr i) on = absurd on
@@ -78,14 +72,14 @@ stack_isrs st (runner.Oisr i) left on = absurd on
 stack_isrs st (runner.Osek t) left on = absurd on
 stack_isrs st runner.Nobody left on = absurd on
 
-stack_oisrs : (w : World) (r : Runner) (left : List Stmt) → IsOnStack r → w.oisrs ≡ (leaving w r left).oisrs
+pub stack_oisrs : (w : World) (r : Runner) (left : List Stmt) → IsOnStack r → w.oisrs ≡ (leaving w r left).oisrs
 stack_oisrs w (runner.Isr i) left on = refl
 stack_oisrs w (runner.Job p) left on = refl
 stack_oisrs w (runner.Oisr i) left on = absurd on
 stack_oisrs w (runner.Osek t) left on = absurd on
 stack_oisrs w runner.Nobody left on = absurd on
 
-stack_oseks : (w : World) (r : Runner) (left : List Stmt) → IsOnStack r → (leaving w r left).oseks ≡ w.oseks
+pub stack_oseks : (w : World) (r : Runner) (left : List Stmt) → IsOnStack r → (leaving w r left).oseks ≡ w.oseks
 stack_oseks w (runner.Isr i) left on = refl
 stack_oseks w (runner.Job p) left on = refl
 stack_oseks w (runner.Oisr i) left on = absurd on
@@ -123,7 +117,7 @@ effect_ends body now who r sub setup (effect.Service k ∷ rest) may e = ends_os
 
 -- ---- one who runs in idle time
 
-idle_left : (c : ConfigParts) (w : World) (sub : Subsystem) (r : Runner) → IsInIdleTime r → w.oseks ≡ lefts sub.tasks
+pub idle_left : (c : ConfigParts) (w : World) (sub : Subsystem) (r : Runner) → IsInIdleTime r → w.oseks ≡ lefts sub.tasks
     → w.oisrs ≡ lefts sub.routines
     → left_of w r ≡ owner_left sub (Some (owner_of c w r))
 idle_left c w sub (runner.Oisr i) on a b = ap (λ (xs : List (List Stmt)). slice_index_or xs i.0 []) b
@@ -134,7 +128,7 @@ idle_left c w sub (runner.Isr i) on a b = absurd on
 idle_left c w sub (runner.Job p) on a b = absurd on
 idle_left c w sub runner.Nobody on a b = absurd on
 
-idle_oseks : (c : ConfigParts) (w v : World) (sub : Subsystem) (r : Runner) (left : List Stmt) → IsInIdleTime r
+pub idle_oseks : (c : ConfigParts) (w v : World) (sub : Subsystem) (r : Runner) (left : List Stmt) → IsInIdleTime r
     → w.oseks ≡ lefts sub.tasks
     → (leaving w r left).oseks ≡ lefts (owner_leaving (Some (owner_of c v r)) left sub).tasks
 idle_oseks c w v sub (runner.Oisr i) left on a = a
@@ -144,7 +138,7 @@ idle_oseks c w v sub (runner.Isr i) left on a = absurd on
 idle_oseks c w v sub (runner.Job p) left on a = absurd on
 idle_oseks c w v sub runner.Nobody left on a = absurd on
 
-idle_oisrs : (c : ConfigParts) (w v : World) (sub : Subsystem) (r : Runner) (left : List Stmt) → IsInIdleTime r
+pub idle_oisrs : (c : ConfigParts) (w v : World) (sub : Subsystem) (r : Runner) (left : List Stmt) → IsInIdleTime r
     → w.oisrs ≡ lefts sub.routines
     → (leaving w r left).oisrs ≡ lefts (owner_leaving (Some (owner_of c v r)) left sub).routines
 idle_oisrs c w v sub (runner.Oisr i) left on a = ap (λ (xs : List (List Stmt)). slice_set xs i.0 left) a
@@ -154,14 +148,14 @@ idle_oisrs c w v sub (runner.Isr i) left on a = absurd on
 idle_oisrs c w v sub (runner.Job p) left on a = absurd on
 idle_oisrs c w v sub runner.Nobody left on a = absurd on
 
-idle_jobs : (w : World) (r : Runner) (left : List Stmt) → IsInIdleTime r → w.jobs ≡ (leaving w r left).jobs
+pub idle_jobs : (w : World) (r : Runner) (left : List Stmt) → IsInIdleTime r → w.jobs ≡ (leaving w r left).jobs
 idle_jobs w (runner.Oisr i) left on = refl
 idle_jobs w (runner.Osek t) left on = refl
 idle_jobs w (runner.Isr i) left on = absurd on
 idle_jobs w (runner.Job p) left on = absurd on
 idle_jobs w runner.Nobody left on = absurd on
 
-idle_isrs : (w : World) (r : Runner) (left : List Stmt) → IsInIdleTime r → w.isrs ≡ (leaving w r left).isrs
+pub idle_isrs : (w : World) (r : Runner) (left : List Stmt) → IsInIdleTime r → w.isrs ≡ (leaving w r left).isrs
 idle_isrs w (runner.Oisr i) left on = refl
 idle_isrs w (runner.Osek t) left on = refl
 idle_isrs w (runner.Isr i) left on = absurd on
@@ -198,7 +192,7 @@ module _ (c : ConfigParts) (s : ScriptParts) (st : RunState) (r : Runner) (who :
   setup_is = ap (λ (f : Fixed). f.setup) can.kept
 
   -- the tick of what is left of the one who runs, with the demands and the values that are kept
-  state_is : (left : List Stmt) → tick (supply_of st.beside.demands st.beside.values)
+  pub state_is : (left : List Stmt) → tick (supply_of st.beside.demands st.beside.values)
       (state_of left st.world.vars st.world.cursors [])
       ≡ state_after c s st.world left
   state_is left =
@@ -216,7 +210,7 @@ module _ (c : ConfigParts) (s : ScriptParts) (st : RunState) (r : Runner) (who :
   some_bodies = have_some c st.beside.codes st.beside.setup codes_are setup_is can.rules
 
   -- what the tick calls may be called
-  may_now : MayDo st.world.tick who (state_after c s st.world (left_of st.world r)).effects (round_in st)
+  pub may_now : MayDo st.world.tick who (state_after c s st.world (left_of st.world r)).effects (round_in st)
       st.beside.setup
   may_now =
       subst (λ (o : Owner). MayDo st.world.tick o (state_after c s st.world (left_of st.world r)).effects
@@ -288,225 +282,128 @@ module _ (c : ConfigParts) (s : ScriptParts) (st : RunState) (r : Runner) (who :
 
   -- ---- on the stack
 
-  module _ (on : IsOnStack r) where
-    stack_runs : runner_in (stack_of st) ≡ Some r
-    stack_runs = on_stack_runs c s st can.kept r runs on
+  module _ (on : IsOnStack r) (stack : Stacked) (vars : List ℤ) (cursors : List ℕ) (es : List Effect)
+      (others : stack ≡ leaving_in (stack_of st) r (left_in stack r))
+      (ticked : state_of (left_in stack r) vars cursors es ≡ state_after c s st.world (left_of st.world r)) where
+    abbrev now_left : List Stmt
+    now_left = left_in stack r
 
-    -- one runs on the stack
-    pub stack_is_running : IsSome (runner_in (stack_of st))
-    stack_is_running = subst (λ (o : Option Runner). IsSome o) (sym stack_runs) refl
+    codes_stay : stack.codes ≡ st.beside.codes
+    codes_stay = ap (λ (x : Stacked). x.codes) others ∙ same_codes (stack_of st) r now_left
 
-    running_is : running (stack_of st) ≡ r
-    running_is = ap (λ (o : Option Runner). unwrap_or o runner.Nobody) stack_runs
+    -- what its tick calls may be called
+    pub stack_may : MayDo st.world.tick who es (round_in st) st.beside.setup
+    stack_may = subst (λ (xs : List Effect). MayDo st.world.tick who xs (round_in st) st.beside.setup)
+        (sym (ap (λ (x : State). x.effects) ticked)) may_now
 
-    module _ (stack : Stacked) (vars : List ℤ) (cursors : List ℕ) (es : List Effect)
-        (others : stack ≡ leaving_in (stack_of st) (running (stack_of st)) (left_in stack (running (stack_of st))))
-        (ticked : state_of (left_in stack (running (stack_of st))) vars cursors es
-        ≡ ticks (supply_of st.beside.demands st.beside.values) 1
-        (state_of (left_in (stack_of st) (running (stack_of st))) st.world.vars st.world.cursors [])) where
-      now_left : List Stmt
-      now_left = left_in stack r
+    module _ (osek osek1 : Osek) (same : setup_of osek ≡ st.beside.setup)
+        (tasks : st.world.oseks ≡ lefts (subsystem_of st.beside.codes osek).tasks)
+        (routines : st.world.oisrs ≡ lefts (subsystem_of st.beside.codes osek).routines)
+        (settled : IsSettled (subsystem_of st.beside.codes osek))
+        (codes : List (List Stmt)) (codes_is : codes ≡ stack.codes) (x : Effected)
+        (x_is : x ≡ effected (task_body codes (setup_of osek)) st.world.tick who es (round_in st)
+        (subsystem_of codes osek))
+        (sub_is : subsystem_of codes osek1 ≡ x.subsystem) where
+      sub : Subsystem
+      sub = subsystem_of st.beside.codes osek
 
-      tick_on_stack : state_of now_left vars cursors es ≡ state_after c s st.world (left_of st.world r)
-      unfolding now_left
-      tick_on_stack =
-          subst (λ (q : Runner). state_of (left_in stack q) vars cursors es
-          ≡ tick (supply_of st.beside.demands st.beside.values)
-          (state_of (left_in (stack_of st) q) st.world.vars st.world.cursors [])) running_is
-          (one_tick (store_of st) (left_in (stack_of st) (running (stack_of st)))
-          (left_in stack (running (stack_of st))) vars cursors es ticked)
-          ∙ ap (λ (l : List Stmt). tick (supply_of st.beside.demands st.beside.values)
-          (state_of l st.world.vars st.world.cursors [])) (stack_left st r on)
-          ∙ state_is (left_of st.world r)
+      made : Effected
+      made = effected (task_body st.beside.codes st.beside.setup) st.world.tick who es (round_in st) sub
 
-      stack_is : stack ≡ leaving_in (stack_of st) r now_left
-      unfolding now_left
-      stack_is = subst (λ (q : Runner). stack ≡ leaving_in (stack_of st) q (left_in stack q)) running_is others
+      x_made : x ≡ made
+      unfolding made sub
+      x_made =
+          x_is
+          ∙ ap (λ (k : List (List Stmt)). effected (task_body k (setup_of osek)) st.world.tick who es (round_in st)
+          (subsystem_of k osek)) (codes_is ∙ codes_stay)
+          ∙ ap (λ (k : Setup). effected (task_body st.beside.codes k) st.world.tick who es (round_in st)
+          (subsystem_of st.beside.codes osek)) same
 
-      codes_stay : stack.codes ≡ st.beside.codes
-      codes_stay = ap (λ (x : Stacked). x.codes) stack_is ∙ same_codes (stack_of st) r now_left
+      now_sub : subsystem_of stack.codes osek1 ≡ made.subsystem
+      now_sub = ap (λ (k : List (List Stmt)). subsystem_of k osek1) (sym codes_is) ∙ sub_is
+          ∙ ap (λ (y : Effected). y.subsystem) x_made
 
-      -- what its tick calls may be called
-      pub stack_may : MayDo st.world.tick who es (round_in st) st.beside.setup
-      stack_may = subst (λ (xs : List Effect). MayDo st.world.tick who xs (round_in st) st.beside.setup)
-          (sym (ap (λ (x : State). x.effects) tick_on_stack)) may_now
+      -- the subsystem is settled after the effect
+      pub stack_settled : IsSettled (subsystem_of stack.codes osek1)
+      unfolding made sub
+      stack_settled =
+          subst IsSettled (sym now_sub)
+          (effect_settled (task_body st.beside.codes st.beside.setup) st.world.tick (round_in st) st.beside.setup
+          some_bodies who es sub stack_may settled)
 
-      module _ (osek osek1 : Osek) (same : setup_of osek ≡ st.beside.setup)
-          (tasks : st.world.oseks ≡ lefts (subsystem_of st.beside.codes osek).tasks)
-          (routines : st.world.oisrs ≡ lefts (subsystem_of st.beside.codes osek).routines)
-          (settled : IsSettled (subsystem_of st.beside.codes osek))
-          (codes : List (List Stmt)) (codes_is : codes ≡ stack.codes) (x : Effected)
-          (x_is : x ≡ effected (task_body codes (setup_of osek)) st.world.tick who es (round_in st)
-          (subsystem_of codes osek))
-          (sub_is : subsystem_of codes osek1 ≡ x.subsystem) where
-        sub : Subsystem
-        sub = subsystem_of st.beside.codes osek
+      no_ends : made.ends ≡ false
+      unfolding made sub
+      no_ends =
+          ⊎_elim (λ (e : made.ends ≡ true).
+          absurd (no_osek_there c st.world r on (subst IsOsek owns
+          (effect_ends (task_body st.beside.codes st.beside.setup) st.world.tick who (round_in st) sub
+          st.beside.setup es stack_may e))))
+          (λ (e : made.ends ≡ false). e)
+          (cases_Bool made.ends)
 
-        made : Effected
-        made = effected (task_body st.beside.codes st.beside.setup) st.world.tick who es (round_in st) sub
-
-        x_made : x ≡ made
-        unfolding made sub
-        x_made =
-            x_is
-            ∙ ap (λ (k : List (List Stmt)). effected (task_body k (setup_of osek)) st.world.tick who es (round_in st)
-            (subsystem_of k osek)) (codes_is ∙ codes_stay)
-            ∙ ap (λ (k : Setup). effected (task_body st.beside.codes k) st.world.tick who es (round_in st)
-            (subsystem_of st.beside.codes osek)) same
-
-        now_sub : subsystem_of stack.codes osek1 ≡ made.subsystem
-        now_sub = ap (λ (k : List (List Stmt)). subsystem_of k osek1) (sym codes_is) ∙ sub_is
-            ∙ ap (λ (y : Effected). y.subsystem) x_made
-
-        -- the subsystem is settled after the effect
-        pub stack_settled : IsSettled (subsystem_of stack.codes osek1)
-        unfolding made sub
-        stack_settled =
-            subst IsSettled (sym now_sub)
-            (effect_settled (task_body st.beside.codes st.beside.setup) st.world.tick (round_in st) st.beside.setup
-            some_bodies who es sub stack_may settled)
-
-        no_ends : made.ends ≡ false
-        unfolding made sub
-        no_ends =
-            ⊎_elim (λ (e : made.ends ≡ true).
-            absurd (no_osek_there c st.world r on (subst IsOsek owns
-            (effect_ends (task_body st.beside.codes st.beside.setup) st.world.tick who (round_in st) sub
-            st.beside.setup es stack_may e))))
-            (λ (e : made.ends ≡ false). e)
-            (cases_Bool made.ends)
-
-        -- the tick is the one of the definition
-        pub stack_took : (ended : Bool) → (IsTrue ended ↔ (left_in stack (running (stack_of st)) ≡ []))
-            → Took c s r st.world (record { did = x.did; ended = ended })
-            (built (served (record st.world { vars = vars; cursors = cursors }) x.round.wanted x.round.pending
-            x.round.times_used
-            (lefts (subsystem_of stack.codes osek1).tasks)) x.round stack.jobs stack.isrs
-            (lefts (subsystem_of stack.codes osek1).routines))
-        unfolding made sub now_left E
-        stack_took ended ended_is =
-            took_world sub sub now_left vars cursors tasks settled
-            (subst (λ (o : Owner). RunsAs sub r o) (sym owns) (stack_runs_as c st.world sub r on)) (λ n. refl)
-            (stack_oseks (record st.world { vars = vars; cursors = cursors }) r now_left on ∙ tasks)
-            es tick_on_stack (record { did = x.did; ended = ended })
-            x.round stack.jobs stack.isrs (lefts (subsystem_of stack.codes osek1).routines)
-            (lefts (subsystem_of stack.codes osek1).tasks)
-            (ap (λ (y : Effected). y.round) x_made) (ap (λ (y : Effected). y.did) x_made)
-            (done_from ended now_left (subst (λ (q : Runner). IsTrue ended ↔ (left_in stack q ≡ [])) running_is
-            ended_is)
-            ∙ ap (λ (b : Bool). b || is_done now_left) (sym no_ends))
-            (ap (λ (y : Stacked). y.jobs) stack_is ∙ stack_jobs st r now_left on)
-            (ap (λ (y : Stacked). y.isrs) stack_is ∙ stack_isrs st r now_left on)
-            (ap (λ (y : Subsystem). lefts y.routines) now_sub
-            ∙ ap (λ (k : List (Option (List Stmt))). lefts k)
-            (routines_kept (task_body st.beside.codes st.beside.setup) st.world.tick who (round_in st) sub es)
-            ∙ sym routines ∙ stack_oisrs st.world r now_left on)
-            (ap (λ (y : Subsystem). lefts y.tasks) now_sub)
+      -- the tick is the one of the definition
+      pub stack_took : (ended : Bool) → (IsTrue ended ↔ (left_in stack r ≡ []))
+          → Took c s r st.world (record { did = x.did; ended = ended })
+          (built (served (record st.world { vars = vars; cursors = cursors }) x.round.wanted x.round.pending
+          x.round.times_used
+          (lefts (subsystem_of stack.codes osek1).tasks)) x.round stack.jobs stack.isrs
+          (lefts (subsystem_of stack.codes osek1).routines))
+      unfolding made sub E
+      stack_took ended ended_is =
+          took_world sub sub now_left vars cursors tasks settled
+          (subst (λ (o : Owner). RunsAs sub r o) (sym owns) (stack_runs_as c st.world sub r on)) (λ n. refl)
+          (stack_oseks (record st.world { vars = vars; cursors = cursors }) r now_left on ∙ tasks)
+          es ticked (record { did = x.did; ended = ended })
+          x.round stack.jobs stack.isrs (lefts (subsystem_of stack.codes osek1).routines)
+          (lefts (subsystem_of stack.codes osek1).tasks)
+          (ap (λ (y : Effected). y.round) x_made) (ap (λ (y : Effected). y.did) x_made)
+          (done_from ended now_left ended_is
+          ∙ ap (λ (b : Bool). b || is_done now_left) (sym no_ends))
+          (ap (λ (y : Stacked). y.jobs) others ∙ stack_jobs st r now_left on)
+          (ap (λ (y : Stacked). y.isrs) others ∙ stack_isrs st r now_left on)
+          (ap (λ (y : Subsystem). lefts y.routines) now_sub
+          ∙ ap (λ (k : List (Option (List Stmt))). lefts k)
+          (routines_kept (task_body st.beside.codes st.beside.setup) st.world.tick who (round_in st) sub es)
+          ∙ sym routines ∙ stack_oisrs st.world r now_left on)
+          (ap (λ (y : Subsystem). lefts y.tasks) now_sub)
 
   -- ---- in idle time
 
-  module _ (on : IsInIdleTime r) (osek : Osek) (same : setup_of osek ≡ st.beside.setup)
-      (tasks : st.world.oseks ≡ lefts (subsystem_of st.beside.codes osek).tasks)
-      (routines : st.world.oisrs ≡ lefts (subsystem_of st.beside.codes osek).routines)
-      (settled : IsSettled (subsystem_of st.beside.codes osek))
-      (codes : List (List Stmt)) (codes_is : codes ≡ st.beside.codes) where
-    here : Subsystem
-    here = subsystem_of st.beside.codes osek
-
-    there : subsystem_of codes osek ≡ here
-    unfolding here
-    there = ap (λ (k : List (List Stmt)). subsystem_of k osek) codes_is
-
-    -- each body of an OSEK task has a statement
-    pub idle_bodies : HaveSome (task_body codes (setup_of osek)) (length (setup_of osek).tasks)
-    idle_bodies =
-        subst (λ (k : List (List Stmt)). HaveSome (task_body k (setup_of osek)) (length (setup_of osek).tasks))
-        (sym codes_is)
-        (subst (λ (k : Setup). HaveSome (task_body st.beside.codes k) (length k.tasks)) (sym same) some_bodies)
-
-    -- the owner is the one who is picked
-    pub idle_picked : picked (setup_of osek) (subsystem_of codes osek) ≡ Some who
-    unfolding here
-    idle_picked =
-        ap (picked (setup_of osek)) there
-        ∙ idle_picks c s st can.kept (setup_of osek) here r runs on
-        (is_of c s st can.kept (setup_of osek) here tasks routines (sym same) settled)
-        ∙ ap (λ (o : Owner). Some o) (sym owns)
-
+  module _ (on : IsInIdleTime r) (here : Subsystem) (tasks : st.world.oseks ≡ lefts here.tasks)
+      (routines : st.world.oisrs ≡ lefts here.routines) (settled : IsSettled here) where
     left_here : left_of st.world r ≡ owner_left here (Some who)
-    unfolding here
     left_here = idle_left c st.world here r on tasks routines ∙ ap (λ (o : Owner). owner_left here (Some o)) (sym owns)
 
     some_here : owner_left here (Some who) ≢ []
     some_here none = idle_some c st.world r runs on (left_here ∙ none)
 
-    -- something is left of it
-    pub idle_left_some : owner_left (subsystem_of codes osek) (Some who) ≢ []
-    idle_left_some none = some_here (ap (λ (x : Subsystem). owner_left x (Some who)) (sym there) ∙ none)
-
-    idle_state : idle_tick who (store_of st) (subsystem_of codes osek) ≡ state_after c s st.world (left_of st.world r)
-    idle_state =
-        ap (λ (x : Subsystem). idle_tick who (store_of st) x) there
-        ∙ ap (λ (l : List Stmt). tick (supply_of st.beside.demands st.beside.values)
-        (state_of l st.world.vars st.world.cursors [])) (sym left_here)
-        ∙ state_is (left_of st.world r)
-
-    -- what its tick calls may be called
-    pub idle_may : MayDo st.world.tick who (idle_tick who (store_of st) (subsystem_of codes osek)).effects
-        (round_in st) (setup_of osek)
-    idle_may =
-        subst (λ (k : Setup). MayDo st.world.tick who (idle_tick who (store_of st) (subsystem_of codes osek)).effects
-        (round_in st) k) (sym same)
-        (subst (λ (x : State). MayDo st.world.tick who x.effects (round_in st) st.beside.setup) (sym idle_state)
-        may_now)
-
     ready_here : Readied (owner_of c st.world r) here
     ready_here = subst (λ (o : Owner). Readied o here) owns (owner_ready who here some_here)
 
-    module _ (vars : List ℤ) (cursors : List ℕ)
-        (vars_are : vars ≡ (idle_tick who (store_of st) (subsystem_of codes osek)).vars)
-        (cursors_are : cursors ≡ (idle_tick who (store_of st) (subsystem_of codes osek)).cursors) (taken : Taken)
-        (round : Round) (osek1 : Osek)
-        (gave : GaveIdle (task_body codes (setup_of osek)) st.world.tick who
-        (idle_tick who (store_of st) (subsystem_of codes osek)) (round_in st)
-        (subsystem_of codes osek) taken round (subsystem_of codes osek1)) where
-      after : State
-      after = state_after c s st.world (left_of st.world r)
+    abbrev after : State
+    after = state_after c s st.world (left_of st.world r)
 
+    module _ (vars : List ℤ) (cursors : List ℕ)
+        (vars_are : vars ≡ (state_after c s st.world (left_of st.world r)).vars)
+        (cursors_are : cursors ≡ (state_after c s st.world (left_of st.world r)).cursors) (taken : Taken)
+        (round : Round) (sub1 : Subsystem)
+        (gave_here : GaveIdle (task_body st.beside.codes st.beside.setup) st.world.tick who
+        (state_after c s st.world (left_of st.world r)) (round_in st) here taken round sub1) where
       left_after : Subsystem
       left_after = owner_leaving (Some who) after.left here
 
-      gave_here : GaveIdle (task_body st.beside.codes st.beside.setup) st.world.tick who after (round_in st) here
-          taken round
-          (subsystem_of st.beside.codes osek1)
-      unfolding here after
-      gave_here =
-          subst (λ (x : State). GaveIdle (task_body st.beside.codes st.beside.setup) st.world.tick who x
-          (round_in st) here taken round
-          (subsystem_of st.beside.codes osek1))
-          (ap (λ (k : List (List Stmt)). idle_tick who (store_of st) (subsystem_of k osek)) (sym codes_is) ∙ idle_state)
-          (subst (λ (k : List (List Stmt)). GaveIdle (task_body k st.beside.setup) st.world.tick who
-          (idle_tick who (store_of st) (subsystem_of k osek)) (round_in st)
-          (subsystem_of k osek) taken round (subsystem_of k osek1)) codes_is
-          (subst (λ (k : Setup). GaveIdle (task_body codes k) st.world.tick who
-          (idle_tick who (store_of st) (subsystem_of codes osek)) (round_in st)
-          (subsystem_of codes osek) taken round (subsystem_of codes osek1)) same gave))
-
       state_then : state_of after.left vars cursors after.effects ≡ after
-      unfolding after
       state_then =
-          ap (λ (x : List ℤ). state_of after.left x cursors after.effects)
-          (vars_are ∙ ap (λ (x : State). x.vars) idle_state)
-          ∙ ap (λ (x : List ℕ). state_of after.left after.vars x after.effects)
-          (cursors_are ∙ ap (λ (x : State). x.cursors) idle_state)
+          ap (λ (x : List ℤ). state_of after.left x cursors after.effects) vars_are
+          ∙ ap (λ (x : List ℕ). state_of after.left after.vars x after.effects) cursors_are
 
       -- the tick is the one of the definition
       pub idle_took : Took c s r st.world taken
           (built (served (record st.world { vars = vars; cursors = cursors }) round.wanted round.pending
           round.times_used
-          (lefts (subsystem_of st.beside.codes osek1).tasks)) round st.world.jobs st.world.isrs
-          (lefts (subsystem_of st.beside.codes osek1).routines))
-      unfolding here after left_after E
+          (lefts sub1.tasks)) round st.world.jobs st.world.isrs
+          (lefts sub1.routines))
+      unfolding left_after E
       idle_took =
           let mid : World = record st.world { vars = vars; cursors = cursors } in
           let mine : left_after ≡ owner_leaving (Some (owner_of c st.world r)) after.left here =
@@ -520,8 +417,8 @@ module _ (c : ConfigParts) (s : ScriptParts) (st : RunState) (r : Runner) (who :
           ∙ idle_ready c st.world here r after.left on ready_here n)
           (idle_oseks c mid st.world here r after.left on tasks ∙ ap (λ (x : Subsystem). lefts x.tasks) (sym mine))
           after.effects state_then taken
-          round st.world.jobs st.world.isrs (lefts (subsystem_of st.beside.codes osek1).routines)
-          (lefts (subsystem_of st.beside.codes osek1).tasks)
+          round st.world.jobs st.world.isrs (lefts sub1.routines)
+          (lefts sub1.tasks)
           gave_here.round_is gave_here.did gave_here.ended
           (idle_jobs st.world r after.left on) (idle_isrs st.world r after.left on)
           (gave_here.routines

@@ -3,7 +3,7 @@ use Rattle.std.specs.Prelude.{◌≡◌, ◌≢◌, ℕ, ◌<◌, ◌||◌, Bool
 use Rattle.task_lang.specs.declared.tick.Effect.{Effect}
 use Rattle.task_lang.specs.declared.tick.Effect.TheVariants as effect
 use Rattle.task_lang.specs.declared.syntax.Stmt.{Stmt}
-use Rattle.task_lang.specs.Tick.{State, supply_of, state_of, tick}
+use Rattle.task_lang.specs.Tick.{State, supply_of, state_of, ticks}
 use Rattle.task_machine.specs.Stored.{Store}
 use Rattle.tt_base.specs.declared.event.Owner.{Owner}
 use Rattle.tt_world.specs.Runners.{is_done}
@@ -21,7 +21,7 @@ pub record Effected : Type 0 where
   pub subsystem : Subsystem
   pub ends : Bool
 
--- what the effects of a tick make of them; a tick has at most one
+-- what the effects of some ticks make of them; they have at most one
 abbrev pub effected : (body : ℕ → List Stmt) → (now : ℕ) → Owner → List Effect → Round → Subsystem → Effected
 effected body now who [] r s = record { did = did.Nothing; round = r; subsystem = s; ends = false }
 effected body now who (effect.Out value ∷ rest) r s = record
@@ -46,12 +46,12 @@ finished_at who ended true s = s
 finished_at who true false s = finished who s
 finished_at who false false s = s
 
--- a tick of an owner in idle time
-abbrev pub idle_tick : Owner → Store → Subsystem → State
-idle_tick who env s = tick (supply_of env.demands env.values)
+-- k ticks of an owner in idle time
+abbrev pub idle_ticks : ℕ → Owner → Store → Subsystem → State
+idle_ticks k who env s = ticks (supply_of env.demands env.values) k
     (state_of (owner_left s (Some who)) env.vars env.cursors [])
 
--- what a tick of an owner in idle time gave, of which this is left: what it did, whether the owner has ended, the
+-- what ticks of an owner in idle time gave, of which this is left: what they did, whether the owner has ended, the
 -- round, and what is left of the tasks and routines
 pub record GaveIdle (body : ℕ → List Stmt) (now : ℕ) (who : Owner) (left : State) (r : Round) (s : Subsystem)
     (taken : Taken)

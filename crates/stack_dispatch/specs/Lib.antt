@@ -1,7 +1,9 @@
 pub mod Checking
+pub mod Counts
 pub mod Due
 pub mod Effects
 pub mod First
+pub mod Jumps
 pub mod Peaks
 pub mod Reports
 pub mod Served

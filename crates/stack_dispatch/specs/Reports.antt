@@ -1,5 +1,5 @@
 -- What a run gives.
-use Rattle.std.specs.Prelude.{◌≡◌, ◌≢◌, suc, ⊤, true, List, ◌++◌, length, Option, None, Some, if◌then◌else◌}
+use Rattle.std.specs.Prelude.{◌≡◌, ◌≢◌, ◌≤◌, suc, ⊤, true, List, ◌++◌, length, Option, None, Some, if◌then◌else◌}
 use Rattle.tt_base.specs.declared.event.Event.{Event}
 use Rattle.tt_base.specs.declared.number.TaskNo.{TaskNo}
 use Rattle.tt_io.specs.Count.{counted}
@@ -11,6 +11,7 @@ use Rattle.tt_world.specs.ScriptRules.{IsScript}
 use Rattle.tt_world.specs.Schedule.{last_instant, schedule}
 use Rattle.tt_world.specs.Status.{last_stamp, status_by, status_of}
 use Rattle.round_table.specs.TableRows.{TableRows, tables_of}
+use Rattle.schedule_check.specs.Windows.{depth_bound, words_bound}
 use Rattle.trace_text.specs.declared.recorder.Recorder.{Ghosts}
 use Rattle.trace_text.specs.Records.{CutWithin, Notes}
 use Rattle.stack_dispatch.specs.declared.report.Report.{Report}
@@ -77,6 +78,11 @@ Ran r b before after Failed = CutWithin r b.config.names before (schedule b.conf
 abbrev pub OnEnded : Run → (Report → Type 0) → Type 0
 OnEnded (Ended report) P = P report
 OnEnded Failed P = ⊤
+
+-- the depth and the words that a report tells are at most the bounds of the configuration
+pub record IsWithinBounds (c : ConfigParts) (report : Report) : Type 0 where
+  pub depth : report.deepest ≤ depth_bound c
+  pub words : report.words ≤ words_bound c
 
 -- the laws that are read from the events alone: the activations of each round are those of its mode; the owner of each
 -- tick is the one whom the order of the standard names, also in idle time; each check comes at its point; and each

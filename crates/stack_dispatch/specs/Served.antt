@@ -24,6 +24,7 @@ use Rattle.round_table.specs.ExpiryPoints.{IsFree}
 use Rattle.round_table.specs.DueRows.{checks_of, enables_of, entries_due, isrs_of}
 use Rattle.round_table.specs.TableRows.{TableRows, table_of}
 use Rattle.stack_dispatch.specs.declared.ahead.Ahead.{Ahead}
+use Rattle.stack_dispatch.specs.Counts.{IsDueAt}
 use Rattle.stack_dispatch.specs.Due.{NoneAccepted}
 use Rattle.stack_dispatch.specs.State.{RunState, IsFor, window_in}
 
@@ -117,8 +118,9 @@ pub record IsAhead (c : ConfigParts) (k : ℕ) (st : RunState) (next : ℕ) : Ty
   pub own : next ≤ next_own (round_in st)
   pub arrivals : ForSome (next_tick (window_in st)) (λ tick. next ≤ tick)
 
--- what the runner sees ahead before an instant: until when nothing is due, and, unless an owner has ended, that
--- nothing can be accepted
-pub record Foresees (c : ConfigParts) (st : RunState) (ahead : Ahead) : Type 0 where
+-- what the runner sees ahead before an instant: until when nothing is due, that something is due then, and, unless an
+-- owner has ended, that nothing can be accepted
+pub record Foresees (c : ConfigParts) (s : ScriptParts) (st : RunState) (ahead : Ahead) : Type 0 where
   pub next : IsAhead c 0 st ahead.next
+  pub due : st.world.tick < ahead.next → IsDueAt c s st.world ahead.next
   pub none : ahead.ended ≡ false → NoneAccepted c st.world

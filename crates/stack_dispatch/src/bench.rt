@@ -1,6 +1,6 @@
 //! The bench: an application with its script, whose run is told to a recorder.
 
-ghost use Rattle.std.specs.Prelude.{◌≡◌, IfOk, IsTrue};
+ghost use Rattle.std.specs.Prelude.{◌≡◌, ◌≤◌, ◌+◌, IfOk, IsTrue};
 ghost use Rattle.tt_world.specs.ScriptRules.{IsScript};
 
 use crate::report::Run;
@@ -42,7 +42,8 @@ impl Bench {
     ghost use Rattle.schedule_check.specs.DeadlineLaws.{NoneMissed};
     ghost use Rattle.schedule_check.specs.Kept.{KeepsBounds};
     ghost use Rattle.schedule_check.specs.Responses.{answer_of};
-    ghost use Rattle.stack_dispatch.specs.Reports.{IsNotMissed, KeepsLaws, Ran};
+    ghost use Rattle.stack_dispatch.specs.Counts.{most_moves, runs_in};
+    ghost use Rattle.stack_dispatch.specs.Reports.{IsNotMissed, IsWithinBounds, KeepsLaws, OnEnded, Ran};
 
     /// A configuration on the bench, with a script that was made for it. It makes all codes,
     /// tables and counters. Out of memory is its one refusal.
@@ -60,9 +61,10 @@ impl Bench {
         })
     }
 
-    /// Runs, tick by tick, up to the first missed deadline, the call of ttShutdownOS or the last
-    /// round, and tells each event to the recorder. It takes no memory. After an event that the
-    /// recorder did not keep it ends with the instant. No clause speaks of the steps.
+    /// Runs up to the first missed deadline, the call of ttShutdownOS or the last round, and tells
+    /// each event to the recorder. It takes no memory. After an event that the recorder did not
+    /// keep it goes on to the next instant at which something may happen, and ends. A step is
+    /// counted for each move: the ticks of the one who runs that are taken at once.
     pub fn run_trace<R: Recorder, L: Ledger>(self, recorder: &mut R, steps: &mut Steps<L>) -> Run
         requires { IsTrue (R.ready recorder.old) }
         ensures ran { Ran R.Recorder self recorder.old recorder.new result }
@@ -76,6 +78,17 @@ impl Bench {
             → NoneMissed self.config (schedule self.config self.script) }
         ensures not_missed { answer_of self.config ≡ Yes → KeepsBounds self.config self.script
             → IsNotMissed result }
+
+        // The stack is never deeper than the bound of the configuration, and never has more words.
+        ensures bounded { OnEnded result (IsWithinBounds self.config) }
+
+        // No more moves are counted than there are statements that are begun and instants at which
+        // something is due, and one.
+        ensures few { steps.new ≤ steps.old + most_moves self.config self.script }
+
+        // And no less than there are changes of the owner, where the run has ended.
+        ensures enough { OnEnded result (λ _. steps.old
+            + runs_in (schedule self.config self.script) ≤ steps.new) }
     {
         let Bench {
             config,

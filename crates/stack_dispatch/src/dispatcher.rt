@@ -1,15 +1,17 @@
-//! The opening of an instant, and the instant.
+//! The opening of an instant, and the instants that are passed at once.
 
-ghost use Rattle.std.specs.Prelude.{◌≡◌, ◌+◌, ◌<◌, ◌≤◌, ◌^◌, length, None};
+ghost use Rattle.std.specs.Prelude.{◌≡◌, ◌+◌, ◌<◌, ◌≤◌, ◌⊎◌, ◌^◌, length, None};
 ghost use Rattle.tt_world.specs.Moved.{Gives, chain};
 ghost use Rattle.tt_world.specs.Opening.{due as due_parts, later_parts, opening};
 ghost use Rattle.tt_world.specs.Rows.{offset_of};
-ghost use Rattle.tt_world.specs.Schedule.{instant};
 ghost use Rattle.tt_world.proofs.Late.{Late};
 ghost use Rattle.tt_world.proofs.Openings.{activated_in};
 ghost use Rattle.tt_world.proofs.Parts.{Before, Begun};
+ghost use Rattle.tt_world.proofs.Time.{Timed};
 ghost use Rattle.round_table.specs.TableRows.{tables_of};
-ghost use Rattle.stack_dispatch.specs.Peaks.{raised};
+ghost use Rattle.stack_dispatch.specs.Counts.{Counted, FewMoves, IsDueAt};
+ghost use Rattle.stack_dispatch.specs.Jumps.{IsOnSchedule, Passes};
+ghost use Rattle.stack_dispatch.specs.Peaks.{peaks_before};
 ghost use Rattle.stack_dispatch.specs.State.{IsFor, fixed_in};
 ghost use Rattle.stack_dispatch.specs.Served.{AreRowsFree, CanActivate, CanPass, Foresees, HasSources, IsAhead, IsOpened, IsServed, IsTableOf, StandsAt};
 ghost use Rattle.stack_dispatch.specs.Told.{Tells};
@@ -18,6 +20,7 @@ use crate::ahead::Ahead;
 use crate::log::Log;
 use crate::peaks::Peaks;
 use crate::state::State;
+use crate::took::Passed;
 use round_table::{Due, Table, Tables};
 use trace_text::Recorder;
 use tt_base::{Event, Ledger, Steps, Tick};
@@ -168,7 +171,12 @@ impl State {
     fn next_row(&self, config: &ConfigParts, tables: &Tables) -> Tick
         requires modes { self.now.beside.modes ≡ length config.now.modes }
         requires tables { tables.now ≡ tables_of config.now }
-        ensures { AreRowsFree config.now self.now.world result }
+        requires started { self.now.world.start ≤ self.now.world.tick }
+        requires number { self.now.world.tick + 1 < 2 ^ 64 }
+        ensures free { AreRowsFree config.now self.now.world result }
+        ensures later { self.now.world.tick < result }
+        ensures due { (s : ScriptParts)
+            → IsDueAt config.now s self.now.world result ⊎ (u64.MAX ≤ result) }
     {
         let table = self.table(config, tables);
         match table.next_after(self.offset()) {
@@ -177,11 +185,16 @@ impl State {
         }
     }
 
-    /// The least tick after the present one at which something is due.
-    fn next_due(&self, config: &ConfigParts, tables: &Tables) -> Tick
-        requires modes { self.now.beside.modes ≡ length config.now.modes }
+    /// The least tick after the present one at which something is due. Something is due then.
+    fn next_due(&self, config: &ConfigParts, script: &ScriptParts, tables: &Tables) -> Tick
+        requires fixed { IsFor config.now script.now self.now.beside }
+        requires timed { Timed Begun config.now script.now self.now.world }
+        requires sources { HasSources config.now script.now (self.now.world.tick + 1) self.now }
+        requires number { self.now.world.tick + 1 < 2 ^ 64 }
         requires tables { tables.now ≡ tables_of config.now }
-        ensures { IsAhead config.now 1 self.now result }
+        ensures ahead { IsAhead config.now 1 self.now result }
+        ensures later { self.now.world.tick < result }
+        ensures due { IsDueAt config.now script.now self.now.world result }
     {
         let own = self.next_row(config, tables).min(self.round.next_own());
         match self.gates.next_arrival() {
@@ -200,13 +213,15 @@ impl State {
         log: &mut Log<R>,
     )
         requires can { CanPass config.now script.now self.old }
-        requires foresees { Foresees config.now self.old ahead }
+        requires foresees { Foresees config.now script.now self.old ahead }
         requires idle { self.old.world.tick < ahead.next }
         ensures gives { Gives (Tells R.Recorder) log.old log.new self.new.world None
             (opening config.now script.now self.old.world) }
         ensures beside { self.new.beside ≡ self.old.beside }
         ensures opened { IsOpened config.now script.now self.old.world.tick self.new }
         ensures ahead { IsAhead config.now 1 self.new ahead.next }
+        ensures later { self.new.world.tick < ahead.next }
+        ensures due { IsDueAt config.now script.now self.new.world ahead.next }
     {
         if ahead.ended {
             self.accept_all(config, script, log);
@@ -224,13 +239,16 @@ impl State {
     ) -> Option<RunEnd>
         requires can { CanPass config.now script.now self.old }
         requires tables { tables.now ≡ tables_of config.now }
-        requires foresees { Foresees config.now self.old ahead.old }
+        requires foresees { Foresees config.now script.now self.old ahead.old }
         ensures gives { Gives (Tells R.Recorder) log.old log.new self.new.world result
             (opening config.now script.now self.old.world) }
         ensures fixed { fixed_in self.new.beside ≡ fixed_in self.old.beside }
         ensures opened { None ≡ result
             → IsOpened config.now script.now self.old.world.tick self.new }
         ensures ahead { None ≡ result → IsAhead config.now 1 self.new ahead.new.next }
+        ensures later { None ≡ result → self.new.world.tick < ahead.new.next }
+        ensures due { None ≡ result
+            → IsDueAt config.now script.now self.new.world ahead.new.next }
     {
         if self.tick < ahead.next {
             self.open_idle(config, script, *ahead, log);
@@ -239,11 +257,12 @@ impl State {
         if let Some(end) = self.open(config, script, tables, log) {
             return Some(end);
         }
-        ahead.next = self.next_due(config, tables);
+        ahead.next = self.next_due(config, script, tables);
         None
     }
 
-    /// One instant.
+    /// The instants from the present one on, up to the one at whose tick something is due next, the
+    /// work at the front of the one who runs ends, or another statement is there.
     pub(crate) fn pass<R: Recorder, L: Ledger>(
         &mut self,
         config: &ConfigParts,
@@ -253,25 +272,39 @@ impl State {
         peaks: &mut Peaks,
         log: &mut Log<R>,
         steps: &mut Steps<L>,
-    ) -> Option<RunEnd>
+    ) -> Passed
         requires can { CanPass config.now script.now self.old }
+        requires on_schedule { IsOnSchedule config.now script.now self.old.world }
         requires tables { tables.now ≡ tables_of config.now }
-        requires foresees { Foresees config.now self.old ahead.old }
-        ensures gives { Gives (Tells R.Recorder) log.old log.new self.new.world result
-            (instant config.now script.now self.old.world) }
+        requires foresees { Foresees config.now script.now self.old ahead.old }
+        ensures passes { Passes (Tells R.Recorder) config.now script.now self.old.world.tick
+            result.last log.old log.new self.new.world result.end }
         ensures fixed { fixed_in self.new.beside ≡ fixed_in self.old.beside }
-        ensures sources { None ≡ result
-            → HasSources config.now script.now (self.old.world.tick + 1) self.new }
-        ensures foresees { None ≡ result → Foresees config.now self.new ahead.new }
-        ensures peaks { peaks.new
-            ≡ raised config.now (opening config.now script.now self.old.world) peaks.old }
+        ensures sources { None ≡ result.end
+            → HasSources config.now script.now (result.last + 1) self.new }
+        ensures foresees { None ≡ result.end → Foresees config.now script.now self.new ahead.new }
+        ensures peaks { peaks.old ≡ peaks_before config.now script.now self.old.world.tick
+            → peaks.new ≡ peaks_before config.now script.now (result.last + 1) }
+        ensures few { FewMoves config.now script.now self.old.world.tick result.last steps.old
+            steps.new }
+        ensures enough { Passes Counted config.now script.now self.old.world.tick result.last
+            steps.old steps.new self.new.world result.end }
     {
+        let first = self.tick();
         if let Some(end) = self.open_ahead(config, script, tables, ahead, log) {
-            return Some(end);
+            return Passed {
+                end: Some(end),
+                last: first,
+            };
         }
         peaks.raise(config, self);
-        let ticked = self.take_tick(config, script, log, steps);
+        let runner = self.runner(config);
+        let k = self.jump_to(config, script, runner, ahead.next);
+        let ticked = self.step(config, script, runner, k, log, steps);
         ahead.ended = ticked.ended;
-        ticked.end
+        Passed {
+            end: ticked.end,
+            last: ticked.last,
+        }
     }
 }

@@ -1,5 +1,5 @@
-//! A run of a configuration and a script, instant by instant, which keeps frames and tells its
-//! events to a recorder.
+//! A run of a configuration and a script, which keeps frames, tells its events to a recorder, and
+//! goes from one instant at which something may happen to the next.
 #![tactic(auto)]
 
 mod ahead;

@@ -1,11 +1,12 @@
-//! A run, instant by instant.
+//! A run, from one instant at which something may be due to the next.
 
-ghost use Rattle.std.specs.Prelude.{◌≡◌, false, true, MatchOption};
+ghost use Rattle.std.specs.Prelude.{◌≡◌, ◌≤◌, ◌+◌, false, true, IfSome, MatchOption};
 ghost use Rattle.tt_world.specs.ConfigRules.{IsConfig};
 ghost use Rattle.tt_world.specs.ScriptRules.{IsScript};
 ghost use Rattle.tt_world.specs.Schedule.{schedule};
 ghost use Rattle.tt_world.specs.Status.{last_stamp, status_by, status_of};
 ghost use Rattle.round_table.specs.TableRows.{tables_of};
+ghost use Rattle.stack_dispatch.specs.Counts.{most_moves, runs_in};
 ghost use Rattle.stack_dispatch.specs.First.{first_state};
 ghost use Rattle.stack_dispatch.specs.Reports.{EndsAll, FailsWithin};
 ghost use Rattle.stack_dispatch.specs.Told.{Tells};
@@ -48,6 +49,9 @@ pub(crate) fn run<R: Recorder, L: Ledger>(
     ensures ran { MatchOption result
         (FailsWithin R.Recorder log.old (schedule config.now script.now) log.new)
         (λ last. EndsAll R.Recorder config.now script.now log.old log.new last) }
+    ensures few { steps.new ≤ steps.old + most_moves config.now script.now }
+    ensures enough { IfSome result
+        (λ _. steps.old + runs_in (schedule config.now script.now) ≤ steps.new) }
 {
     let mut ahead = Ahead {
         next: 0,
@@ -58,11 +62,11 @@ pub(crate) fn run<R: Recorder, L: Ledger>(
         words: 0,
     };
     'instants: loop {
-        let tick = state.tick();
-        if let Some(end) = state.pass(config, script, tables, &mut ahead, &mut peaks, log, steps) {
+        let passed = state.pass(config, script, tables, &mut ahead, &mut peaks, log, steps);
+        if let Some(end) = passed.end {
             return Some(Last {
                 end,
-                tick,
+                tick: passed.last,
                 rounds: state.round_number(),
                 peaks,
             });

@@ -1,16 +1,19 @@
-//! One tick of the one who runs.
+//! The ticks of the one who runs: one, or more at once where it only works.
 
-ghost use Rattle.std.specs.Prelude.{◌≡◌, ◌≢◌, ◌+◌, ◌^◌, ◌<◌, ◌≤◌, ◌&&◌, ◌||◌, List, [], length, None, Some, option_to_list};
+ghost use Rattle.std.specs.Prelude.{◌≡◌, ◌≢◌, ◌+◌, ◌-◌, ◌^◌, ◌<◌, ◌≤◌, ◌&&◌, ◌||◌, List, [], length, max, None, Some, option_to_list};
 ghost use Rattle.task_lang.specs.declared.syntax.Stmt.{Stmt};
 ghost use Rattle.osek_idle.specs.Standing.{IsSound, setup_of, subsystem_of, task_body};
 ghost use Rattle.osek_idle.specs.Subsystem.{IsSettled, picked, owner_left};
+ghost use Rattle.task_machine.specs.Standing.{work_in_front};
 ghost use Rattle.tt_world.specs.Moved.{Gives};
-ghost use Rattle.tt_world.specs.Runners.{runner_of, owner_of};
+ghost use Rattle.tt_world.specs.Runners.{left_of, runner_of, owner_of};
 ghost use Rattle.tt_world.specs.Services.{is_shutdown};
 ghost use Rattle.tt_world.specs.ConfigRules.{IsConfig};
-ghost use Rattle.tt_world.specs.Step.{run_line, is_somebody, tick_over, step};
+ghost use Rattle.tt_world.specs.Step.{run_line, is_somebody, tick_over};
 ghost use Rattle.tt_world.proofs.Still.{owner_ends};
-ghost use Rattle.stack_dispatch.specs.Effects.{MayDo, HaveSome, GaveIdle, effected, finished_at, idle_tick};
+ghost use Rattle.stack_dispatch.specs.Effects.{MayDo, HaveSome, GaveIdle, effected, finished_at, idle_ticks};
+ghost use Rattle.stack_dispatch.specs.Jumps.{CanJump, CanWork, at_work, jump, jump_of, lessened, lessened_in, waited};
+ghost use Rattle.stack_dispatch.specs.State.{IsFor};
 ghost use Rattle.stack_dispatch.specs.Ticking.{CanTick, IsOnStack, IsInIdleTime, Took, follows};
 ghost use Rattle.stack_dispatch.specs.Told.{Tells};
 
@@ -114,9 +117,10 @@ fn finish_at(osek: &mut Osek, who: Owner, ended: bool, ends: bool)
     }
 }
 
-/// The tick of the one who runs in idle time, who is this one.
+/// k ticks of the one who runs in idle time, who is this one.
 fn tick_in_idle_time<L: Ledger>(
     who: Owner,
+    k: u64,
     now: Tick,
     env: &mut Env,
     round: &mut RoundState,
@@ -130,22 +134,25 @@ fn tick_in_idle_time<L: Ledger>(
         (length (setup_of osek.old).tasks) }
     requires picks { picked (setup_of osek.old) (subsystem_of codes.now osek.old) ≡ Some who }
     requires left { owner_left (subsystem_of codes.now osek.old) (Some who) ≢ [] }
-    requires may { MayDo now who (idle_tick who env.old (subsystem_of codes.now osek.old)).effects
+    requires some { 1 ≤ k }
+    requires within { k ≤ max 1
+        (work_in_front (owner_left (subsystem_of codes.now osek.old) (Some who))) }
+    requires may { MayDo now who (idle_ticks k who env.old (subsystem_of codes.now osek.old)).effects
         round.old (setup_of osek.old) }
-    ensures vars { env.new.vars ≡ (idle_tick who env.old (subsystem_of codes.now osek.old)).vars }
+    ensures vars { env.new.vars ≡ (idle_ticks k who env.old (subsystem_of codes.now osek.old)).vars }
     ensures cursors { env.new.cursors
-        ≡ (idle_tick who env.old (subsystem_of codes.now osek.old)).cursors }
+        ≡ (idle_ticks k who env.old (subsystem_of codes.now osek.old)).cursors }
     ensures demands { env.new.demands ≡ env.old.demands }
     ensures values { env.new.values ≡ env.old.values }
     ensures gave { GaveIdle (task_body codes.now (setup_of osek.old)) now who
-        (idle_tick who env.old (subsystem_of codes.now osek.old)) round.old
+        (idle_ticks k who env.old (subsystem_of codes.now osek.old)) round.old
         (subsystem_of codes.now osek.old) result round.new (subsystem_of codes.now osek.new) }
     ensures setup { setup_of osek.new ≡ setup_of osek.old }
     ensures sound { IsSound codes.now osek.new }
     ensures settled { IsSettled (subsystem_of codes.now osek.new) }
     ensures counted { steps.new ≡ steps.old + 1 }
 {
-    let progress = osek.advance(codes, 1, env, steps);
+    let progress = osek.advance(codes, k, env, steps);
     let effected = do_effect(progress.effect, who, now, round, osek, codes);
     finish_at(osek, who, progress.ended, effected.ends);
     Taken {
@@ -162,24 +169,28 @@ fn either(one: bool, other: bool) -> bool
 }
 
 impl State {
-    /// The tick of an activation or of a time-triggered routine.
+    /// k ticks of an activation or of a time-triggered routine.
     fn take_on_stack<L: Ledger>(
         &mut self,
         config: &ConfigParts,
         script: &ScriptParts,
         runner: Runner,
         who: Owner,
+        k: u64,
         steps: &mut Steps<L>,
     ) -> Taken
-        requires can { CanTick config.now script.now self.old }
+        requires some { 1 ≤ k }
+        requires within { CanWork k runner (left_of self.old.world runner) }
+        requires can { CanTick config.now script.now (lessened_in (k - 1) runner self.old) }
         requires runs { runner ≡ runner_of config.now self.old.world }
         requires owns { who ≡ owner_of config.now self.old.world runner }
         requires on_stack { IsOnStack runner }
-        ensures took { Took config.now script.now runner self.old.world result self.new.world }
+        ensures took { Took config.now script.now runner
+            (lessened (k - 1) runner self.old.world) result self.new.world }
         ensures beside { self.new.beside ≡ self.old.beside }
         ensures counted { steps.new ≡ steps.old + 1 }
     {
-        let progress = self.stack.advance(1, &mut self.env, steps);
+        let progress = self.stack.advance(k, &mut self.env, steps);
         let codes = self.stack.codes();
         let effected = do_effect(
             progress.effect,
@@ -195,26 +206,31 @@ impl State {
         }
     }
 
-    /// The tick of an OSEK task or of a routine of the OSEK subsystem.
+    /// k ticks of an OSEK task or of a routine of the OSEK subsystem.
     fn take_in_idle_time<L: Ledger>(
         &mut self,
         config: &ConfigParts,
         script: &ScriptParts,
         runner: Runner,
         who: Owner,
+        k: u64,
         steps: &mut Steps<L>,
     ) -> Taken
-        requires can { CanTick config.now script.now self.old }
+        requires some { 1 ≤ k }
+        requires within { CanWork k runner (left_of self.old.world runner) }
+        requires can { CanTick config.now script.now (lessened_in (k - 1) runner self.old) }
         requires runs { runner ≡ runner_of config.now self.old.world }
         requires owns { who ≡ owner_of config.now self.old.world runner }
         requires in_idle_time { IsInIdleTime runner }
-        ensures took { Took config.now script.now runner self.old.world result self.new.world }
+        ensures took { Took config.now script.now runner
+            (lessened (k - 1) runner self.old.world) result self.new.world }
         ensures beside { self.new.beside ≡ self.old.beside }
         ensures counted { steps.new ≡ steps.old + 1 }
     {
         let codes = self.stack.codes();
         tick_in_idle_time(
             who,
+            k,
             self.tick,
             &mut self.env,
             &mut self.round,
@@ -224,27 +240,31 @@ impl State {
         )
     }
 
-    /// The tick of a runner that is somebody.
+    /// k ticks of a runner.
     fn take<L: Ledger>(
         &mut self,
         config: &ConfigParts,
         script: &ScriptParts,
         runner: Runner,
         who: Owner,
+        k: u64,
         steps: &mut Steps<L>,
     ) -> Taken
-        requires can { CanTick config.now script.now self.old }
+        requires some { 1 ≤ k }
+        requires within { CanWork k runner (left_of self.old.world runner) }
+        requires can { CanTick config.now script.now (lessened_in (k - 1) runner self.old) }
         requires runs { runner ≡ runner_of config.now self.old.world }
         requires owns { who ≡ owner_of config.now self.old.world runner }
-        ensures took { Took config.now script.now runner self.old.world result self.new.world }
+        ensures took { Took config.now script.now runner
+            (lessened (k - 1) runner self.old.world) result self.new.world }
         ensures beside { self.new.beside ≡ self.old.beside }
         ensures counted { steps.new ≡ steps.old + 1 }
     {
         match runner {
-            Runner::Isr(_) => self.take_on_stack(config, script, runner, who, steps),
-            Runner::Job(_) => self.take_on_stack(config, script, runner, who, steps),
-            Runner::Oisr(_) => self.take_in_idle_time(config, script, runner, who, steps),
-            Runner::Osek(_) => self.take_in_idle_time(config, script, runner, who, steps),
+            Runner::Isr(_) => self.take_on_stack(config, script, runner, who, k, steps),
+            Runner::Job(_) => self.take_on_stack(config, script, runner, who, k, steps),
+            Runner::Oisr(_) => self.take_in_idle_time(config, script, runner, who, k, steps),
+            Runner::Osek(_) => self.take_in_idle_time(config, script, runner, who, k, steps),
             Runner::Nobody => {
                 steps.tick();
                 Taken {
@@ -320,51 +340,93 @@ impl State {
         }
     }
 
-    /// The tick of the one who runs, who is this one.
-    fn step<R: Recorder, L: Ledger>(
+    /// The ticks but the last of some of an owner are over.
+    fn wait(&mut self, who: Owner, k: u64)
+        requires some { 1 ≤ k }
+        requires number { self.old.world.tick + k < 2 ^ 64 }
+        ensures world { self.new.world ≡ waited (k - 1) who self.old.world }
+        ensures beside { self.new.beside ≡ self.old.beside }
+    {
+        if k == 1 {
+            return;
+        }
+        self.tick += k - 1;
+        self.last = Some(who);
+    }
+
+    /// The ticks left of the `work` at the front of a runner; 0 where another statement is there,
+    /// or nobody runs.
+    fn work_left(&self, config: &ConfigParts, script: &ScriptParts, runner: Runner) -> u64
+        requires kept { IsFor config.now script.now self.now.beside }
+        requires runs { runner ≡ runner_of config.now self.now.world }
+        ensures { result ≡ work_in_front (left_of self.now.world runner) }
+    {
+        match runner {
+            Runner::Isr(_) => self.stack.work_left(),
+            Runner::Job(_) => self.stack.work_left(),
+            Runner::Oisr(_) => self.osek.work_left(),
+            Runner::Osek(_) => self.osek.work_left(),
+            Runner::Nobody => 0,
+        }
+    }
+
+    /// How many ticks the one who runs takes at once, where nothing is due up to below this tick.
+    pub(crate) fn jump_to(
+        &self,
+        config: &ConfigParts,
+        script: &ScriptParts,
+        runner: Runner,
+        next: Tick,
+    ) -> u64
+        requires kept { IsFor config.now script.now self.now.beside }
+        requires runs { runner ≡ runner_of config.now self.now.world }
+        ensures { result ≡ jump_of runner (left_of self.now.world runner)
+            (next - self.now.world.tick) }
+    {
+        let free = next.saturating_sub(self.tick);
+        let left = self.work_left(config, script, runner);
+        match runner {
+            Runner::Nobody => free.max(1),
+            _ => free.min(left).max(1),
+        }
+    }
+
+    /// k ticks of the one who runs, of which all but the last are ticks of work or of idle time.
+    pub(crate) fn step<R: Recorder, L: Ledger>(
         &mut self,
         config: &ConfigParts,
         script: &ScriptParts,
         runner: Runner,
+        k: u64,
         log: &mut Log<R>,
         steps: &mut Steps<L>,
     ) -> Ticked
-        requires can { CanTick config.now script.now self.old }
+        requires some { 1 ≤ k }
+        requires can { CanJump config.now script.now k self.old }
         requires runs { runner ≡ runner_of config.now self.old.world }
         ensures gives { Gives (Tells R.Recorder) log.old log.new self.new.world result.end
-            (step config.now script.now self.old.world) }
-        ensures ended { result.ended ≡ owner_ends config.now script.now self.old.world }
+            (jump config.now script.now (k - 1) self.old.world) }
+        ensures ended { result.ended
+            ≡ owner_ends config.now script.now (at_work config.now (k - 1) self.old.world) }
+        ensures last { result.last ≡ self.old.world.tick + (k - 1) }
         ensures beside { self.new.beside ≡ self.old.beside }
         ensures counted { steps.new ≡ steps.old + 1 }
     {
         let who = self.owner(config, runner);
         self.tell_run(who, log);
-        let taken = self.take(config, script, runner, who, steps);
+        self.wait(who, k);
+        let last = self.tick();
+        let taken = self.take(config, script, runner, who, k, steps);
         let end = self.tell_did(config, who, taken.did, log);
         let ended = somebody_ended(runner, taken.ended);
         if let Some(_end) = end {
-            return Ticked { end, ended };
+            return Ticked { end, ended, last };
         }
         self.end_tick(who, ended, log);
-        Ticked { end: None, ended }
-    }
-
-    /// One tick of the one who runs.
-    pub(crate) fn take_tick<R: Recorder, L: Ledger>(
-        &mut self,
-        config: &ConfigParts,
-        script: &ScriptParts,
-        log: &mut Log<R>,
-        steps: &mut Steps<L>,
-    ) -> Ticked
-        requires { CanTick config.now script.now self.old }
-        ensures gives { Gives (Tells R.Recorder) log.old log.new self.new.world result.end
-            (step config.now script.now self.old.world) }
-        ensures ended { result.ended ≡ owner_ends config.now script.now self.old.world }
-        ensures beside { self.new.beside ≡ self.old.beside }
-        ensures counted { steps.new ≡ steps.old + 1 }
-    {
-        let runner = self.runner(config);
-        self.step(config, script, runner, log, steps)
+        Ticked {
+            end: None,
+            ended,
+            last,
+        }
     }
 }

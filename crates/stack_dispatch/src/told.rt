@@ -1,7 +1,9 @@
 //! A run that is told to a recorder.
 
-ghost use Rattle.std.specs.Prelude.{◌≡◌, IsTrue};
+ghost use Rattle.std.specs.Prelude.{◌≡◌, ◌≤◌, ◌+◌, IsTrue};
 ghost use Rattle.tt_world.specs.ConfigRules.{IsConfig};
+ghost use Rattle.tt_world.specs.Schedule.{schedule};
+ghost use Rattle.stack_dispatch.specs.Counts.{most_moves, runs_in};
 ghost use Rattle.stack_dispatch.specs.Reports.{IsMade, OnEnded, Ran, answered};
 ghost use Rattle.stack_dispatch.specs.Told.{IsFresh};
 
@@ -52,6 +54,9 @@ fn run_logged<R: Recorder, L: Ledger>(
     ensures same_recorder { log.new.recorder.ghost_name ≡ log.old.recorder.ghost_name }
     ensures ran { Ran R.Recorder (record { config = config.now; script = script.now })
         log.old.recorder.now log.new.recorder.now result }
+    ensures few { steps.new ≤ steps.old + most_moves config.now script.now }
+    ensures enough { OnEnded result
+        (λ _. steps.old + runs_in (schedule config.now script.now) ≤ steps.new) }
 {
     let last = run(config, script, tables, state, log, steps);
     answer(last, log)
@@ -70,8 +75,11 @@ pub(crate) fn run_told<R: Recorder, L: Ledger>(
     requires rules { IsConfig config.now }
     requires made { IsMade config.now script.now tables.now state }
     requires ready { IsTrue (R.ready recorder.old) }
-    ensures { Ran R.Recorder (record { config = config.now; script = script.now })
+    ensures ran { Ran R.Recorder (record { config = config.now; script = script.now })
         recorder.old recorder.new result }
+    ensures few { steps.new ≤ steps.old + most_moves config.now script.now }
+    ensures enough { OnEnded result
+        (λ _. steps.old + runs_in (schedule config.now script.now) ≤ steps.new) }
 {
     let mut log = Log::new(recorder, &config.names);
     let answer = run_logged(config, script, tables, state, &mut log, steps);

@@ -1,6 +1,6 @@
 //! What the tick of the one who runs gives.
 
-use tt_base::Call;
+use tt_base::{Call, Tick};
 use tt_world::RunEnd;
 
 /// What the tick of the one who runs did beside the ticks of its body.
@@ -13,7 +13,7 @@ pub(crate) enum Did {
     Called(Call, u8),
 }
 
-/// The tick of the one who runs.
+/// The ticks of the one who runs.
 #[derive(Clone, Copy, Debug, PartialEq, Eq)]
 pub(crate) struct Taken {
     pub(crate) did: Did,
@@ -21,11 +21,22 @@ pub(crate) struct Taken {
     pub(crate) ended: bool,
 }
 
-/// What a tick gives.
+/// What the ticks of the one who runs give.
 #[derive(Clone, Copy, Debug, PartialEq, Eq)]
 pub(crate) struct Ticked {
-    /// How it ends the run, if it does.
+    /// How they end the run, if they do.
     pub(crate) end: Option<RunEnd>,
     /// Whether the one who ran has ended.
     pub(crate) ended: bool,
+    /// The last of the ticks.
+    pub(crate) last: Tick,
+}
+
+/// Instants that were passed.
+#[derive(Clone, Copy, Debug, PartialEq, Eq)]
+pub(crate) struct Passed {
+    /// How they end the run, if they do.
+    pub(crate) end: Option<RunEnd>,
+    /// The tick of the last of them.
+    pub(crate) last: Tick,
 }

@@ -1,2 +1,4 @@
+pub mod Giving
+pub mod Made
 pub mod Passing
 pub mod Taking

@@ -1,9 +1,9 @@
 -- Texts that go to a sink in pieces, straight or by way of a buffer.
-use Rattle.std.proofs.Common.{◌≡◌, ◌+◌, ℕ, List, [], ◌++◌, Option, length, take, arith, sym, ap, ◌∙◌, refl, subst, append_assoc, append-nil, length-append}
+use Rattle.std.proofs.Common.{◌≡◌, ◌+◌, ℕ, List, [], ◌++◌, Option, length, take, arith, sym, ap, ◌∙◌, subst, append_assoc, append-nil, length-append}
 use Rattle.std.proofs.lemmas.List.{take-append-le}
 use Rattle.std.proofs.Math.Seq.{take-append-add}
 use Rattle.std.specs.Io.KnownBytes.{Appends}
-use Rattle.std.proofs.KnownBytes.{Appends-nil, Appends-trans}
+use Rattle.std.proofs.KnownBytes.{Appends-trans}
 use Rattle.tt_io.specs.Known.{AppendsPart}
 use Rattle.tt_io.specs.Passes.{Passes}
 
@@ -24,10 +24,6 @@ pub part_of_front : (a b : Option (List ℕ)) (front rest all : List ℕ) → al
 part_of_front a b front rest all split (n, short, part) =
     let taken : take n all ≡ take n front = ap (take n) split ∙ take-append-le n front rest (omega arith) in
     (n, rw split (omega (arith, length-append front rest)), subst (Appends a b) (sym taken) part)
-
--- what waits, before anything is put
-pub passes_none : (a : Option (List ℕ)) (waiting : List ℕ) → Passes a a waiting waiting
-passes_none a waiting = record { sent = []; split = refl; appended = Appends-nil a }
 
 -- all was sent, in two pieces, and nothing waits
 pub passes_all : (a b c : Option (List ℕ)) (first second all waiting : List ℕ) → all ≡ first ++ second → waiting ≡ []

@@ -1,5 +1,6 @@
 pub mod Count
 pub mod Filled
+pub mod Gave
 pub mod Known
 pub mod MemSink
 pub mod MemSource

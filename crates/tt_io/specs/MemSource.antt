@@ -1,6 +1,6 @@
 -- What is seen of a source over memory.
-use Rattle.std.specs.Prelude.{ℕ, List}
-use Rattle.tt_io.specs.Supply.{bytes_left}
+use Rattle.std.specs.Prelude.{ℕ, List, Option}
+use Rattle.tt_io.specs.Supply.{bytes_left, gave_so_far}
 use Rattle.tt_io.specs.declared.mem.MemSource.{MemSource}
 
 -- the bytes left
@@ -26,3 +26,7 @@ failing_of s = s.failing.items
 -- how many reads failed
 abbrev pub faults_of : MemSource → ℕ
 faults_of s = s.faults
+
+-- what was given
+abbrev pub history_of : MemSource → List (Option ℕ)
+history_of s = gave_so_far s.supply

@@ -1,6 +1,6 @@
 -- What is seen of a source over memory that never fails.
-use Rattle.std.specs.Prelude.{ℕ, List}
-use Rattle.tt_io.specs.Supply.{bytes_left}
+use Rattle.std.specs.Prelude.{ℕ, List, Option}
+use Rattle.tt_io.specs.Supply.{bytes_left, gave_so_far}
 use Rattle.tt_io.specs.declared.mem.SureSource.{SureSource}
 
 -- the bytes left
@@ -14,3 +14,7 @@ most_of s = s.supply.chunk
 -- how many bytes were given
 abbrev pub given_of : SureSource → ℕ
 given_of s = s.supply.given
+
+-- what was given
+abbrev pub history_of : SureSource → List (Option ℕ)
+history_of s = gave_so_far s.supply

@@ -4,12 +4,14 @@
 
 mod buffer;
 mod count;
+mod history;
 mod mem;
 mod standard;
 mod traits;
 mod whole;
 
 pub use buffer::{Buffer, CAPACITY};
+pub use history::History;
 pub use mem::{MemSink, MemSource, NullSink, SureSource};
 pub use standard::{StdSink, StdSource};
 pub use traits::{ReadStep, Sink, Source, WriteStep};

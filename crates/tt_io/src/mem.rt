@@ -2,11 +2,12 @@
 
 ghost use Rattle.std.specs.Prelude.{◌≡◌, ◌≢◌, ◌<◌, ◌≤◌, ◌-◌, ◌⊎◌, ◌↔◌, ◌++◌, Some, None, [], length, take, min, IfOk, Contains, vec_len, vec_capacity};
 ghost use Rattle.tt_io.specs.Count.{Rose, counted};
+ghost use Rattle.tt_io.specs.Gave.{Gives, GivesAll};
 ghost use Rattle.tt_io.specs.ReadStep.{IfGot, OnEnd, OnFailed};
 ghost use Rattle.tt_io.specs.WriteStep.{IfTook, OnRefused};
 
 use crate::count::count_more;
-use crate::{ReadStep, Sink, Source, WriteStep};
+use crate::{History, ReadStep, Sink, Source, WriteStep};
 use std::alloc::Global;
 use tt_base::Memory;
 
@@ -17,24 +18,27 @@ struct Supply {
     at: usize,
     chunk: usize,
     given: u64,
+    history: History,
     ghost gives: { 0 < chunk },
     ghost in_range: { at ≤ vec_len bytes },
 }
 
 impl Supply {
-    ghost use Rattle.tt_io.specs.Supply.{bytes_left};
+    ghost use Rattle.tt_io.specs.Supply.{bytes_left, gave_so_far};
 
     fn new(bytes: Vec<u8>, chunk: usize) -> Supply
         requires { 0 < chunk }
         ensures left { bytes_left result ≡ bytes.items }
         ensures chunk { result.chunk ≡ chunk }
         ensures count { result.given ≡ 0 }
+        ensures none { gave_so_far result ≡ [] }
     {
         Supply {
             bytes,
             at: 0,
             chunk,
             given: 0,
+            history: History::new(),
         }
     }
 
@@ -48,18 +52,24 @@ impl Supply {
         ensures got { IfGot result (λ n.
             bytes_left self.old ≡ take n buf.new ++ bytes_left self.new) }
         ensures got_count { IfGot result (λ n. self.new.given ≡ counted self.old.given n) }
+        ensures got_gave { IfGot result (λ n.
+            Gives (gave_so_far self.old) (gave_so_far self.new) (take n buf.new)) }
 
         ensures end { OnEnd result ((bytes_left self.old ≡ []) × (bytes_left self.new ≡ [])
             × (self.new.given ≡ self.old.given)) }
+        ensures end_gave { OnEnd result (
+            GivesAll (gave_so_far self.old) (gave_so_far self.new) []) }
 
         ensures same { self.new.chunk ≡ self.old.chunk }
     {
         let rest = &self.bytes[self.at..];
         let n = rest.len().min(self.chunk).min(buf.len());
         if n == 0 {
+            self.history = self.history.with_end();
             return ReadStep::End;
         }
         buf[..n].copy_from_slice(&rest[..n]);
+        self.history = self.history.with_piece(&buf[..n]);
         self.at += n;
         self.given = count_more(self.given, n);
         ReadStep::Got(n)
@@ -76,7 +86,7 @@ pub struct MemSource {
 }
 
 impl MemSource {
-    ghost use Rattle.tt_io.specs.MemSource.{left_of, chunk_of, given_by, calls_of, failing_of, faults_of};
+    ghost use Rattle.tt_io.specs.MemSource.{left_of, chunk_of, given_by, calls_of, failing_of, faults_of, history_of};
 
     /// A source of `bytes` that gives at most `chunk` of them at a time. Reads are numbered from 0.
     pub fn new(bytes: Vec<u8>, chunk: usize, failing: Vec<u64>) -> MemSource
@@ -85,6 +95,7 @@ impl MemSource {
         ensures chunk { chunk_of result ≡ chunk }
         ensures failing { failing_of result ≡ failing.items }
         ensures counts { (calls_of result ≡ 0) × (given_by result ≡ 0) × (faults_of result ≡ 0) }
+        ensures none { history_of result ≡ [] }
     {
         MemSource {
             supply: Supply::new(bytes, chunk),
@@ -96,11 +107,13 @@ impl MemSource {
 }
 
 impl Source for MemSource {
-    ghost use Rattle.tt_io.specs.MemSource.{left_of, chunk_of, given_by, calls_of, failing_of, faults_of};
+    ghost use Rattle.tt_io.specs.MemSource.{left_of, chunk_of, given_by, calls_of, failing_of, faults_of, history_of};
 
     ghost left = { λ s. Some (left_of s) };
 
     ghost given = { λ s. given_by s };
+
+    ghost gave = { λ s. history_of s };
 
     ghost faults = { λ s. faults_of s };
 
@@ -112,12 +125,17 @@ impl Source for MemSource {
             × (n ≡ min (length (left_of self.old)) (min (chunk_of self.old) (length buf.new)))) }
         ensures got { IfGot result (λ n. left_of self.old ≡ take n buf.new ++ left_of self.new) }
         ensures got_count { IfGot result (λ n. given_by self.new ≡ counted (given_by self.old) n) }
+        ensures got_gave { IfGot result (λ n.
+            Gives (history_of self.old) (history_of self.new) (take n buf.new)) }
 
         ensures end { OnEnd result ((left_of self.old ≡ []) × (left_of self.new ≡ [])
             × (given_by self.new ≡ given_by self.old)) }
+        ensures end_gave { OnEnd result (
+            GivesAll (history_of self.old) (history_of self.new) []) }
 
         ensures failed { OnFailed result ((left_of self.new ≡ left_of self.old)
             × (given_by self.new ≡ given_by self.old)) }
+        ensures failed_gave { OnFailed result (history_of self.new ≡ history_of self.old) }
 
         // The reads that are to fail do, and are counted; no other does.
         ensures fails { (result ≡ ReadStep.Failed)
@@ -148,7 +166,7 @@ pub struct SureSource {
 }
 
 impl SureSource {
-    ghost use Rattle.tt_io.specs.SureSource.{rest_of, most_of, given_of};
+    ghost use Rattle.tt_io.specs.SureSource.{rest_of, most_of, given_of, history_of};
 
     /// A source of `bytes` that gives at most `chunk` of them at a time.
     pub fn new(bytes: Vec<u8>, chunk: usize) -> SureSource
@@ -156,6 +174,7 @@ impl SureSource {
         ensures left { rest_of result ≡ bytes.items }
         ensures chunk { most_of result ≡ chunk }
         ensures count { given_of result ≡ 0 }
+        ensures none { history_of result ≡ [] }
     {
         SureSource {
             supply: Supply::new(bytes, chunk),
@@ -164,11 +183,13 @@ impl SureSource {
 }
 
 impl Source for SureSource {
-    ghost use Rattle.tt_io.specs.SureSource.{rest_of, most_of, given_of};
+    ghost use Rattle.tt_io.specs.SureSource.{rest_of, most_of, given_of, history_of};
 
     ghost left = { λ s. Some (rest_of s) };
 
     ghost given = { λ s. given_of s };
+
+    ghost gave = { λ s. history_of s };
 
     ghost faults = { λ _. 0 };
 
@@ -181,9 +202,13 @@ impl Source for SureSource {
             × (n ≡ min (length (rest_of self.old)) (min (most_of self.old) (length buf.new)))) }
         ensures got { IfGot result (λ n. rest_of self.old ≡ take n buf.new ++ rest_of self.new) }
         ensures got_count { IfGot result (λ n. given_of self.new ≡ counted (given_of self.old) n) }
+        ensures got_gave { IfGot result (λ n.
+            Gives (history_of self.old) (history_of self.new) (take n buf.new)) }
 
         ensures end { OnEnd result ((rest_of self.old ≡ []) × (rest_of self.new ≡ [])
             × (given_of self.new ≡ given_of self.old)) }
+        ensures end_gave { OnEnd result (
+            GivesAll (history_of self.old) (history_of self.new) []) }
 
         ensures same { most_of self.new ≡ most_of self.old }
     {

@@ -1,8 +1,9 @@
 //! What a source and a sink of bytes are.
 
 ghost use Rattle.std.specs.Io.KnownBytes.{Appends, Consumes, IsAtEnd, Keeps};
-ghost use Rattle.std.specs.Prelude.{◌≡◌, ◌<◌, ◌≤◌, ℕ, List, Option, length, take};
+ghost use Rattle.std.specs.Prelude.{◌≡◌, ◌<◌, ◌≤◌, ℕ, List, [], Option, length, take};
 ghost use Rattle.tt_io.specs.Count.{Rose, counted};
+ghost use Rattle.tt_io.specs.Gave.{Gives, GivesAll};
 ghost use Rattle.tt_io.specs.ReadStep.{IfGot, OnEnd, OnFailed};
 ghost use Rattle.tt_io.specs.WriteStep.{IfTook, OnRefused};
 
@@ -34,6 +35,10 @@ pub trait Source {
     /// How many bytes were given. The count stays at its last value, 2^64 - 1.
     ghost given: { Self → ℕ };
 
+    /// What was given so far: each byte as `Some` of it, and each end that a read answered as
+    /// `None`. Every source tells it, also one that does not tell the bytes that it has left.
+    ghost gave: { Self → List (Option ℕ) };
+
     /// How many faults there were. The count stays at its last value, 2^64 - 1.
     ghost faults: { Self → ℕ };
 
@@ -46,12 +51,16 @@ pub trait Source {
         ensures got { IfGot result (λ n.
             Consumes (left self.old) (left self.new) (take n buf.new)) }
         ensures got_count { IfGot result (λ n. given self.new ≡ counted (given self.old) n) }
+        ensures got_gave { IfGot result (λ n.
+            Gives (gave self.old) (gave self.new) (take n buf.new)) }
 
         ensures end { OnEnd result (IsAtEnd (left self.new) × Keeps (left self.old) (left self.new)
             × (given self.new ≡ given self.old)) }
+        ensures end_gave { OnEnd result (GivesAll (gave self.old) (gave self.new) []) }
 
         ensures failed { OnFailed result (Keeps (left self.old) (left self.new)
             × (given self.new ≡ given self.old)) }
+        ensures failed_gave { OnFailed result (gave self.new ≡ gave self.old) }
         ensures cause { OnFailed result (Rose (faults self.old) (faults self.new)) }
 
         ensures never_falls { faults self.old ≤ faults self.new };

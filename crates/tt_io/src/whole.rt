@@ -4,6 +4,7 @@ ghost use Rattle.std.specs.Io.KnownBytes.{Appends, Consumes, IsAtEnd};
 ghost use Rattle.std.specs.Prelude.{◌≡◌, ◌<◌, ◌≤◌, ◌+◌, ◌^◌, ℕ, [], length, take, OnOk, OnErr, IfOk};
 ghost use Rattle.tt_io.specs.Count.{Rose, counted};
 ghost use Rattle.tt_io.specs.Filled.{IfEnded, OnBroken, OnWhole};
+ghost use Rattle.tt_io.specs.Gave.{Gives, GivesAll, GivesCount};
 ghost use Rattle.tt_io.specs.Known.{AppendsPart, HadMore, TakesFirst, WasAll};
 ghost use Rattle.tt_io.specs.TakeFault.{OnMemory, OnReadFault, OnTooLong};
 
@@ -45,6 +46,10 @@ pub fn take_all<I: Source>(
     ensures count { IfOk result (λ bytes.
         I.given source.new ≡ counted (I.given source.old) (length bytes.items)) }
 
+    // It reads up to the first end, and not after it.
+    ensures gave { IfOk result (λ bytes.
+        GivesAll (I.gave source.old) (I.gave source.new) bytes.items) }
+
     ensures memory { OnMemory result (source.new ≡ source.old) }
 
     // Before the fault at most `limit` bytes were taken.
@@ -52,12 +57,16 @@ pub fn take_all<I: Source>(
     ensures read_fault_taken { OnReadFault result ((n : ℕ) × (n ≤ limit)
         × TakesFirst (I.left source.old) (I.left source.new) n
         × (I.given source.new ≡ counted (I.given source.old) n)) }
+    ensures read_fault_gave { OnReadFault result ((n : ℕ) × (n ≤ limit)
+        × GivesCount (I.gave source.old) (I.gave source.new) n) }
 
     ensures too_long { OnTooLong result (HadMore (I.left source.old) limit) }
     ensures too_long_taken { OnTooLong result (
         TakesFirst (I.left source.old) (I.left source.new) (limit + 1)) }
     ensures too_long_count { OnTooLong result (
         I.given source.new ≡ counted (I.given source.old) (limit + 1)) }
+    ensures too_long_gave { OnTooLong result (
+        GivesCount (I.gave source.old) (I.gave source.new) (limit + 1)) }
 
     ensures at_most { I.given source.new ≤ I.given source.old + (limit + 1) }
     ensures never_falls { I.faults source.old ≤ I.faults source.new }
@@ -90,17 +99,22 @@ fn fill<I: Source>(source: &mut I, buf: &mut [u8]) -> Filled
     ensures whole { OnWhole result (Consumes (I.left source.old) (I.left source.new) buf.new) }
     ensures whole_count { OnWhole result (
         I.given source.new ≡ counted (I.given source.old) (length buf.new)) }
+    ensures whole_gave { OnWhole result (Gives (I.gave source.old) (I.gave source.new) buf.new) }
 
     ensures ended { IfEnded result (λ n. (n < length buf.new)
         × Consumes (I.left source.old) (I.left source.new) (take n buf.new)
         × IsAtEnd (I.left source.new)) }
     ensures ended_count { IfEnded result (λ n.
         I.given source.new ≡ counted (I.given source.old) n) }
+    ensures ended_gave { IfEnded result (λ n.
+        GivesAll (I.gave source.old) (I.gave source.new) (take n buf.new)) }
 
     ensures broken { OnBroken result (Rose (I.faults source.old) (I.faults source.new)) }
     ensures broken_taken { OnBroken result ((n : ℕ) × (n < length buf.new)
         × TakesFirst (I.left source.old) (I.left source.new) n
         × (I.given source.new ≡ counted (I.given source.old) n)) }
+    ensures broken_gave { OnBroken result ((n : ℕ) × (n < length buf.new)
+        × GivesCount (I.gave source.old) (I.gave source.new) n) }
 
     ensures never_falls { I.faults source.old ≤ I.faults source.new }
 {

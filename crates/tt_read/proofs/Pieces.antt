@@ -8,7 +8,7 @@ use Rattle.std.proofs.lemmas.List.Concat.{flat_map-append}
 use Rattle.tt_io.specs.declared.whole.WriteFault.{WriteFault}
 use Rattle.tt_io.specs.Known.{AppendsPart}
 use Rattle.tt_io.specs.Passes.{Passes}
-use Rattle.tt_io.proofs.Passing.{part_of_front, passes_none, passes_more, passes_part, passes_end_part}
+use Rattle.tt_io.proofs.Passing.{part_of_front, passes_more, passes_part, passes_end_part}
 use Rattle.tt_rows.specs.declared.row.Term.{Term}
 use Rattle.tt_rows.specs.declared.row.Row.{Row}
 use Rattle.tt_rows.specs.Spelling.{Item, Key, Expression, items_of, term_word, words_of_item, line_of_row}

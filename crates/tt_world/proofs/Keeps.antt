@@ -5,11 +5,13 @@ use Rattle.std.specs.List.{list_any}
 use Rattle.std.proofs.lemmas.Bool.{cond_both}
 use Rattle.tt_base.specs.declared.number.TaskNo.{TaskNo}
 use Rattle.tt_base.specs.declared.number.ModeNo.{ModeNo}
+use Rattle.tt_base.specs.declared.number.OsekNo.{OsekNo}
 use Rattle.tt_base.specs.declared.event.Event.{Event}
 use Rattle.tt_base.specs.declared.event.Call.{Call}
 use Rattle.tt_base.specs.declared.event.Call.TheVariants as call
 use Rattle.tt_base.specs.declared.event.Owner.{Owner}
 use Rattle.task_lang.specs.declared.syntax.Stmt.{Stmt}
+use Rattle.task_lang.specs.declared.allowed.OwnerKind.TheVariants as kind
 use Rattle.task_lang.specs.declared.tick.Effect.{Effect}
 use Rattle.task_lang.specs.declared.tick.Effect.TheVariants as effect
 use Rattle.tt_world.specs.declared.config.Enable.{Enable as EnableRow}
@@ -22,7 +24,7 @@ use Rattle.tt_world.specs.World.{World, Source, IsrSource, OisrSource}
 use Rattle.tt_world.specs.Moved.{Moved, preceded}
 use Rattle.tt_world.specs.Monitoring.{checked, monitored, after_checks}
 use Rattle.tt_world.specs.Rows.{offset_of, mode_of, enables_at, routine_of}
-use Rattle.tt_world.specs.Runners.{left_of, leaving, runner_of, owner_of}
+use Rattle.tt_world.specs.Runners.{kind_of, left_of, leaving, runner_of, owner_of}
 use Rattle.tt_world.specs.Gates.{enable, enables, arrived, arrival, arrivals, is_accepted, acceptance, acceptances, sources, source_runner, holding, disabling, arrivals_of, is_held}
 use Rattle.tt_world.specs.Correction.{correction_of}
 use Rattle.tt_world.specs.Services.{Answer, answers, synced, ready, service, is_suspended, is_caller, is_shutdown}
@@ -117,8 +119,7 @@ same_world c w = record {
 
 -- what is left of the caller: what was left after the call, or nothing, or, where it is an OSEK task, a whole body
 abbrev pub IsOsek : Runner → Type 0
-IsOsek (runner.Osek task) = Unit {0}
-IsOsek _ = ⊥
+IsOsek r = kind_of r ≡ kind.Osek
 
 abbrev pub IsLeft : Runner → (left after : List Stmt) → Type 0
 IsLeft r left after = (after ≡ left) ⊎ ((after ≡ []) ⊎ IsOsek r)
@@ -157,8 +158,9 @@ synced_answers c r (Some global) left w =
       correction = inr (global, refl);
     })
 
-caller_is_osek : (r : Runner) (task : _) → is_caller r task ≡ true → IsOsek r
-caller_is_osek (runner.Osek caller) task e = tt
+-- only an OSEK task is the caller where the caller is this task
+pub caller_is_osek : (r : Runner) (task : OsekNo) → is_caller r task ≡ true → IsOsek r
+caller_is_osek (runner.Osek caller) task e = refl
 caller_is_osek (runner.Isr isr) task e = cc
 caller_is_osek (runner.Job place) task e = cc
 caller_is_osek (runner.Oisr oisr) task e = cc

@@ -46,7 +46,7 @@ use Rattle.tt_world.specs.Runners.{runner_of, owner_of, kind_of, left_of, leavin
 use Rattle.tt_world.specs.Services.{Answer, synced, service, is_suspended, is_caller, is_shutdown}
 use Rattle.tt_world.specs.Step.{state_after, effected, runner_tick, step, run_line}
 use Rattle.tt_world.proofs.Parts.{OpeningKeeps, Alone, Anything, Leads, followed_leads, chain_each, GoesOnBefore, kept_at, instant_leads, opening_leads}
-use Rattle.tt_world.proofs.Keeps.{Holds, monitored_holds}
+use Rattle.tt_world.proofs.Keeps.{Holds, caller_is_osek, monitored_holds}
 use Rattle.tt_world.proofs.JobLists.{at_set, at_other, IsOldPlace, IsNewPlace, place_of_more}
 
 -- what one runner has left where another's was changed
@@ -170,14 +170,6 @@ module _ (c : ConfigParts) (s : ScriptParts) (rules : IsConfig c) where
 
   -- ---- services
 
-  -- only an OSEK task is the caller where the caller is this task
-  caller_kind : (r : Runner) (task : OsekNo) → is_caller r task ≡ true → kind_of r ≡ owner.Osek
-  caller_kind (runner.Osek caller) task e = refl
-  caller_kind (runner.Isr isr) task e = cc
-  caller_kind (runner.Job place) task e = cc
-  caller_kind (runner.Oisr oisr) task e = cc
-  caller_kind runner.Nobody task e = cc
-
   record NamedAnswer (r : Runner) (a : Answer) : Type 0 where
     world : Named c a.world
     left : IsRunnable c (kind_of r) a.left
@@ -204,7 +196,7 @@ module _ (c : ConfigParts) (s : ScriptParts) (rules : IsConfig c) where
       cond_both (is_caller r task) _ _ (NamedAnswer r)
       (λ e. record {
         world = n;
-        left = subst (λ kind. IsRunnable c kind (osek_body c task)) (sym (caller_kind r task e)) (osek_named task);
+        left = subst (λ kind. IsRunnable c kind (osek_body c task)) (sym (caller_is_osek r task e)) (osek_named task);
       })
       (λ _. cond_both (is_suspended w task) _ _ (NamedAnswer r)
       (λ _. record {

@@ -4,7 +4,7 @@ use Rattle.std.specs.Prelude.{map}
 use Rattle.std.proofs.lemmas.List.{take_more, take_all, map-append}
 use Rattle.tt_base.specs.declared.event.Event.{Event}
 use Rattle.tt_world.specs.World.{World}
-use Rattle.tt_world.specs.Moved.{Moved, Gives, IsTelling, Appends, followed, continued, preceded, is_over, goes_on, chain}
+use Rattle.tt_world.specs.Moved.{Moved, Gives, IsTelling, followed, continued, preceded, is_over, goes_on, chain}
 use Rattle.std.specs.Prelude.{None, Some}
 use Rattle.tt_world.specs.declared.world.RunEnd.TheVariants as ending
 use Rattle.tt_world.specs.Moved.{Outcome}
@@ -15,13 +15,6 @@ going_from None e = refl
 going_from (Some ending.LastRound) e = cc
 going_from (Some (ending.Missed task)) e = cc
 going_from (Some ending.Shutdown) e = cc
-
--- events are told to a list one after the other
-pub appends_is_telling : IsTelling Appends
-appends_is_telling = record {
-  none = λ a. sym (append-nil a);
-  both = λ a b d some others p q. q ∙ ap (λ x. x ++ others) p ∙ append_assoc a some others;
-}
 
 -- a chain of two pieces
 both_same : (over : Bool) (m : Moved) (parts more : List (World → Moved)) → is_over m.end ≡ over

@@ -31,7 +31,7 @@ use Rattle.tt_world.specs.Services.{Answer, service, synced, is_suspended, is_ca
 use Rattle.tt_world.specs.Step.{effected, state_after, runner_tick, step, run_line, tick_over, is_somebody}
 use Rattle.tt_world.specs.Status.{stamp_of}
 use Rattle.tt_world.proofs.Parts.{Anything, LeadsTo, followed_at}
-use Rattle.tt_world.proofs.Keeps.{IsOsek, service_answers}
+use Rattle.tt_world.proofs.Keeps.{IsOsek, caller_is_osek, service_answers}
 use Rattle.tt_world.proofs.Deadlines.{IsFrom, IsUpTo, point_up_to}
 use Rattle.tt_world.proofs.TableRows.{mode_rows, rows_later, rows_apart}
 use Rattle.tt_world.proofs.Points.{Ahead}
@@ -256,13 +256,6 @@ leaving_left w runner.Nobody v after ended a b t d h e =
 abbrev Fine : Runner → Answer → Type 0
 Fine r a = IsOsek r ⊎ (a.ends ≡ true → is_done a.left ≡ true)
 
-caller_osek : (r : Runner) (task : _) → is_caller r task ≡ true → IsOsek r
-caller_osek (runner.Osek caller) task e = tt
-caller_osek (runner.Isr isr) task e = cc
-caller_osek (runner.Job place) task e = cc
-caller_osek (runner.Oisr oisr) task e = cc
-caller_osek runner.Nobody task e = cc
-
 synced_fine : (c : ConfigParts) (r : Runner) (global : Option ℕ) (left : List Stmt) (w : World)
     → Fine r (synced c global w left)
 synced_fine c r None left w = inr (λ e. cc)
@@ -277,7 +270,7 @@ service_fine c s r call.Shutdown left w = inr (λ e. cc)
 service_fine c s r (call.Activate task) left w =
     cond_both (is_suspended w task) _ _ (Fine r) (λ _. inr (λ e. cc)) (λ _. inr (λ e. cc))
 service_fine c s r (call.Chain task) left w =
-    cond_both (is_caller r task) _ _ (Fine r) (λ e. inl (caller_osek r task e))
+    cond_both (is_caller r task) _ _ (Fine r) (λ e. inl (caller_is_osek r task e))
     (λ _. cond_both (is_suspended w task) _ _ (Fine r) (λ _. inr (λ e. refl)) (λ _. inr (λ e. cc)))
 service_fine c s r call.Terminate left w = inr (λ e. refl)
 
@@ -483,13 +476,13 @@ module _ (c : ConfigParts) (s : ScriptParts) (rules : IsConfig c) (T : ℕ) wher
     over_facts : (r : Runner) → runner_of c w ≡ r → Says w.jobs r → Ended r ended after → Over r
     over_facts (runner.Isr i) e says o =
         over_isr i (highest_undone _ w.isrs i.0 (isr_runs c w i e))
-        (⊎_elim (λ (n : IsOsek (runner.Isr i)). absurd n) (λ (h : ended ≡ is_done after). h) o)
+        (⊎_elim (λ (n : IsOsek (runner.Isr i)). cc) (λ (h : ended ≡ is_done after). h) o)
     over_facts (runner.Job q) e says o =
         let last = last_found_at w.jobs q says in
         let z : q - 0 ≡ q = omega arith in
         over_task q (subst (λ (k : ℕ). k < length w.jobs) z last.within)
         (subst (λ (k : ℕ). is_done (job_at w.jobs k).left ≡ false) z last.undone)
-        (⊎_elim (λ (n : IsOsek (runner.Job q)). absurd n) (λ (h : ended ≡ is_done after). h) o)
+        (⊎_elim (λ (n : IsOsek (runner.Job q)). cc) (λ (h : ended ≡ is_done after). h) o)
     over_facts (runner.Oisr i) e says o = alone ended (owner.Oisr i) (λ x. refl) (λ x. refl)
     over_facts (runner.Osek i) e says o = alone ended (owner.Osek i) (λ x. refl) (λ x. refl)
     over_facts runner.Nobody e says o = alone false owner.Idle (λ x. refl) (λ x. refl)

@@ -192,7 +192,7 @@ module _ (c : ConfigParts) (s : ScriptParts) (rules : IsConfig c) where
       (λ (e : after ≡ (state_after c s w (job_at w.jobs q).left).left). tick_undone c s w _ (sym (ap is_done e) ∙ u))
       (λ (o : (after ≡ []) ⊎ IsOsek (runner.Job q)).
       ⊎_elim (λ (e : after ≡ []). absurd (false≢true (sym u ∙ ap is_done e)))
-      (λ (o : IsOsek (runner.Job q)). absurd o) o)
+      (λ (o : IsOsek (runner.Job q)). cc) o)
       l
 
   left_ahead : (w : World) (r : Runner) (after : List Stmt) → Ahead c 1 w → IsLeftAfter c s w r after

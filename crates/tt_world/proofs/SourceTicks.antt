@@ -96,10 +96,10 @@ module _ (c : ConfigParts) (s : ScriptParts) (x : Source) where
         (ds ++ event_if (is_somebody r && ended) (End t (owner_of c w r)))
     over (runner.Isr i) ended e o =
         source_over (IsrSource i) ended (highest_undone _ w.isrs i.0 (isr_runs c w i e))
-        (⊎_elim (λ (n : IsOsek (runner.Isr i)). absurd n) (λ (h : ended ≡ is_done after). h) o)
+        (⊎_elim (λ (n : IsOsek (runner.Isr i)). cc) (λ (h : ended ≡ is_done after). h) o)
     over (runner.Oisr i) ended e o =
         source_over (OisrSource i) ended (highest_undone _ w.oisrs i.0 (oisr_runs c w i e))
-        (⊎_elim (λ (n : IsOsek (runner.Oisr i)). absurd n) (λ (h : ended ≡ is_done after). h) o)
+        (⊎_elim (λ (n : IsOsek (runner.Oisr i)). cc) (λ (h : ended ≡ is_done after). h) o)
     over (runner.Job q) ended e o = other_over ended _ (not_task x _)
     over (runner.Osek i) ended e o = other_over ended _ (not_osek x _)
     over runner.Nobody ended e o = facts_silent x false (lists_of w) (lists_of w) ds [] p tt (λ q. q)

@@ -52,10 +52,6 @@ pub record IsTelling {L : Type 0} (Told : L → List Event → L → Type 0) : T
   pub none : (a : L) → Told a [] a
   pub both : (a b d : L) (some others : List Event) → Told a some b → Told b others d → Told a (some ++ others) d
 
--- events are told to a list: it has them after its own
-abbrev pub Appends : List Event → List Event → List Event → Type 0
-Appends before events after = after ≡ before ++ events
-
 -- what a part of the code did is what its definition gives; it told the events of the part
 pub record Gives {L : Type 0} (Told : L → List Event → L → Type 0) (before after : L) (world : World) (end : Outcome)
     (m : Moved) : Type 0 where

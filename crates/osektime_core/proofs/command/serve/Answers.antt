@@ -1,9 +1,14 @@
 use Rattle.std.proofs.Common.{◌≡◌, ◌≢◌, sym, subst, ◌∙◌}
 use Rattle.std.specs.Io.KnownBytes.{Appends}
 use Rattle.tt_io.specs.Known.{AppendsPart}
+use Rattle.osektime_core.specs.InBounds.{IsLoading}
 use Rattle.osektime_core.specs.NoMiss.{IsSchedulable, NoneIsMissed}
 use Rattle.osektime_core.specs.declared.status.Status.TheVariants.{Memory, WriteFault}
+use Rattle.osektime_core.specs.declared.words.Command.TheVariants.{Bulk}
 use Rattle.osektime_core.specs.Answer.{IsReading, IsAnswered}
+use Rattle.osektime_core.proofs.InBounds.{told_in_bounds}
+use Rattle.osektime_core.specs.Heard.{Heard}
+use Rattle.osektime_core.proofs.Hearing.{heard_whole}
 use Rattle.osektime_core.proofs.Told.{is_reading, on_answered, told_answer, told_bytes, was_taken}
 use Rattle.osektime_core.proofs.command.serve.Given.{Over}
 use Rattle.osektime_core.proofs.command.serve.Goals as goal
@@ -20,6 +25,26 @@ given g c ample whole =
     (sym c.command.ensures ∙ c.in-Some.is) (is_reading c.in-Some.command c.in_default-command.not-Bulk)
     c.in-Ok-take_all.ensures.bytes c.in-Ok-take_all.ensures.fits
     (rw (← c.deref-2.ensures.value) (c.respond-2.ensures.responds.answered ample whole))
+
+-- the same of the bytes that were given
+heard : (g : Over) (c : goal.After-drop-bytes-2 g) → c.respond-2.result ≢ Memory
+    → c.respond-2.result ≢ WriteFault
+    → Heard c.args.words.now c.respond-2.result (g.I.Source.gave c.args.input.now)
+    (g.I.Source.gave c.take_all.new.source)
+    (g.O.Sink.written c.args.output.now) (g.O.Sink.written c.respond-2.new.output)
+heard g c ample whole =
+    heard_whole c.args.words.now c.in-Some.command _ _ c.in-Ok-take_all.bytes.items
+    (sym c.command.ensures ∙ c.in-Some.is) (is_reading c.in-Some.command c.in_default-command.not-Bulk)
+    c.respond-2.result _ _ c.in-Ok-take_all.ensures.fits c.in-Ok-take_all.ensures.gave
+    (rw (← c.deref-2.ensures.value) (c.respond-2.ensures.responds.answered ample whole))
+    (rw (← c.deref-2.ensures.value) c.respond-2.ensures.no_miss)
+
+pub returns-clause-heard : goal.returns-clause-heard
+returns-clause-heard g c = λ reads calm_input calm_output ample.
+    heard g c ample (λ fault. calm_output (c.respond-2.ensures.responds.cause fault))
+
+pub returns-clause-heard_answered : goal.returns-clause-heard_answered
+returns-clause-heard_answered g c = λ reads. on_answered c.respond-2.result _ (heard g c)
 
 pub returns-clause-complete : goal.returns-clause-complete
 returns-clause-complete g c = λ calm_input calm_output ample.
@@ -52,3 +77,16 @@ returns-clause-no_miss g c =
     (g.I.Source.left c.take_all.new.source) c.in-Ok-take_all.bytes.items
     (sym c.command.ensures ∙ c.in-Some.is) (is_reading c.in-Some.command c.in_default-command.not-Bulk)
     c.in-Ok-take_all.ensures.bytes (rw (← c.deref-2.ensures.value) c.respond-2.ensures.no_miss)
+
+pub returns-in-Bulk-clause-bounded : goal.returns-in-Bulk-clause-bounded
+returns-in-Bulk-clause-bounded g c = λ loads.
+    told_in_bounds c.respond.result (g.O.Sink.written c.args.output.now) (g.O.Sink.written c.respond.new.output)
+    (Bulk c.in-Bulk.number) tt c.in-Ok.bytes.items c.in-Ok.ensures.short
+    (λ ample whole. rw (← c.deref.ensures.value) (c.respond.ensures.responds.answered ample whole))
+
+pub returns-clause-bounded : goal.returns-clause-bounded
+returns-clause-bounded g c = λ loads.
+    told_in_bounds c.respond-2.result (g.O.Sink.written c.args.output.now) (g.O.Sink.written c.respond-2.new.output)
+    c.in-Some.command (subst IsLoading (sym c.command.ensures ∙ c.in-Some.is) loads) c.in-Ok-take_all.bytes.items
+    c.in-Ok-take_all.ensures.fits
+    (λ ample whole. rw (← c.deref-2.ensures.value) (c.respond-2.ensures.responds.answered ample whole))

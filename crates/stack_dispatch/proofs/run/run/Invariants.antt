@@ -1,5 +1,6 @@
-use Rattle.std.proofs.Common.{◌≡◌, ◌+◌, ◌-◌}
+use Rattle.std.proofs.Common.{◌≡◌, ◌≤◌, ◌+◌, ◌-◌}
 use Rattle.tt_world.specs.Schedule.{most_ticks}
+use Rattle.stack_dispatch.specs.Counts.{Counted, due_before, ended_before}
 use Rattle.stack_dispatch.specs.Peaks.{peaks_before}
 use Rattle.stack_dispatch.specs.Served.{Foresees, HasSources}
 use Rattle.stack_dispatch.specs.State.{IsFor}
@@ -14,8 +15,11 @@ invariant-instants g l = record {
   at : AtTick (Tells g.R.Recorder) l.config l.script l.fn.log l.state.world l.log;
   fixed : IsFor l.config l.script l.state.beside;
   sources : HasSources l.config l.script l.state.world.tick l.state;
-  foresees : Foresees l.config l.state l.ahead;
+  foresees : Foresees l.config l.script l.state l.ahead;
   peaks : l.peaks ≡ peaks_before l.config l.script l.state.world.tick;
+  few : l.steps ≤ l.fn.steps + (ended_before l.config l.script l.state.world.tick
+      + due_before l.config l.script (l.state.world.tick + 1));
+  enough : AtTick Counted l.config l.script l.fn.steps l.state.world l.steps;
 }
 
 abbrev pub decreases-instants : goal.decreases-instants

@@ -9,7 +9,7 @@ use Rattle.stack_dispatch.proofs.tick.tick_in_idle_time.Goals as goal
 
 pub do_effect-effected-requires-clause-may : goal.do_effect-effected-requires-clause-may
 do_effect-effected-requires-clause-may g c =
-    may_still c.args.who c.args.env.now (subsystem_of c.args.codes.now c.args.osek.now)
+    may_still c.args.who c.args.k c.args.env.now (subsystem_of c.args.codes.now c.args.osek.now)
     (subsystem_of c.args.codes.now c.advance-progress.new.self)
     (picked (setup_of c.args.osek.now) (subsystem_of c.args.codes.now c.args.osek.now)) c.requires.picks
     c.advance-progress.new.env.vars c.advance-progress.new.env.cursors
@@ -20,7 +20,7 @@ do_effect-effected-requires-clause-may g c =
 pub returns-clause-vars : goal.returns-clause-vars
 returns-clause-vars g c =
     ap (λ (st : State). st.vars)
-    (tick_is c.args.who c.args.env.now (subsystem_of c.args.codes.now c.args.osek.now)
+    (tick_is c.args.who c.args.k c.args.env.now (subsystem_of c.args.codes.now c.args.osek.now)
     (subsystem_of c.args.codes.now c.advance-progress.new.self)
     (picked (setup_of c.args.osek.now) (subsystem_of c.args.codes.now c.args.osek.now)) c.requires.picks
     c.advance-progress.new.env.vars c.advance-progress.new.env.cursors
@@ -29,7 +29,7 @@ returns-clause-vars g c =
 pub returns-clause-cursors : goal.returns-clause-cursors
 returns-clause-cursors g c =
     ap (λ (st : State). st.cursors)
-    (tick_is c.args.who c.args.env.now (subsystem_of c.args.codes.now c.args.osek.now)
+    (tick_is c.args.who c.args.k c.args.env.now (subsystem_of c.args.codes.now c.args.osek.now)
     (subsystem_of c.args.codes.now c.advance-progress.new.self)
     (picked (setup_of c.args.osek.now) (subsystem_of c.args.codes.now c.args.osek.now)) c.requires.picks
     c.advance-progress.new.env.vars c.advance-progress.new.env.cursors
@@ -46,7 +46,7 @@ returns-clause-gave g c =
       subsystem = subsystem_of codes d.new.osek;
       ends = d.result.ends;
     } in
-    gave c.args.who c.args.env.now (subsystem_of codes c.args.osek.now) (subsystem_of codes a.new.self)
+    gave c.args.who c.args.k c.args.env.now (subsystem_of codes c.args.osek.now) (subsystem_of codes a.new.self)
     (picked (setup_of c.args.osek.now) (subsystem_of codes c.args.osek.now)) c.requires.picks
     a.new.env.vars a.new.env.cursors (option_to_list a.result.effect) a.ensures.ticks a.ensures.others
     (task_body codes (setup_of c.args.osek.now)) (task_body codes (setup_of a.new.self))
@@ -69,7 +69,7 @@ returns-clause-settled g c =
       subsystem = subsystem_of codes d.new.osek;
       ends = d.result.ends;
     } in
-    settled c.args.who c.args.env.now (subsystem_of codes c.args.osek.now) (subsystem_of codes a.new.self)
+    settled c.args.who c.args.k c.args.env.now (subsystem_of codes c.args.osek.now) (subsystem_of codes a.new.self)
     (picked (setup_of c.args.osek.now) (subsystem_of codes c.args.osek.now)) c.requires.picks
     a.new.env.vars a.new.env.cursors (option_to_list a.result.effect) a.ensures.ticks a.ensures.others
     (task_body codes (setup_of c.args.osek.now)) (task_body codes (setup_of a.new.self))

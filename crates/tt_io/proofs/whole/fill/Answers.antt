@@ -1,4 +1,5 @@
 use Rattle.std.proofs.Common.{rules, ap, ◌∙◌}
+use Rattle.tt_io.proofs.Giving.{gives_more}
 use Rattle.tt_io.proofs.Taking.{counted_more, taken_more}
 use Rattle.tt_io.specs.Count.{counted}
 use Rattle.tt_io.proofs.whole.fill.Goals as goal
@@ -12,5 +13,7 @@ loop-taken-preserved g c =
       bytes = taken_more _ _ _ c.loop-taken.buf c.read.new.buf c.loop-taken.taken n so_far.within
           (search rules) so_far.bytes c.in-Got.ensures.got;
       count = c.in-Got.ensures.got_count ∙ ap (λ k. counted k n) so_far.count ∙ counted_more _ c.loop-taken.taken n;
+      gave = gives_more _ _ _ c.loop-taken.buf c.read.new.buf c.loop-taken.taken n so_far.within
+          (search rules) so_far.gave c.in-Got.ensures.got_gave;
       never_falls = search rules;
     }

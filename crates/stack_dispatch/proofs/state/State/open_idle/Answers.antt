@@ -1,4 +1,5 @@
-use Rattle.stack_dispatch.proofs.Foreseen.{opens_accepting, opens_idle, idle_sources, ahead_accepted, ahead_idle}
+use Rattle.std.proofs.Common.{arith}
+use Rattle.stack_dispatch.proofs.Foreseen.{due_accepted, tick_accepted, opens_accepting, opens_idle, idle_sources, ahead_accepted, ahead_idle}
 use Rattle.stack_dispatch.proofs.Opened.{left_kept}
 use Rattle.stack_dispatch.proofs.Telling.{telling}
 use Rattle.stack_dispatch.proofs.state.State.open_idle.Goals as goal
@@ -48,3 +49,18 @@ pub returns-else-ahead-clause-ahead : goal.returns-else-ahead-clause-ahead
 returns-else-ahead-clause-ahead g c =
     ahead_idle (telling g.R.Recorder) c.args.config.now c.args.script.now c.args.self.now c.args.ahead.next
     c.requires.foresees.next
+
+pub returns-then-ahead-clause-later : goal.returns-then-ahead-clause-later
+returns-then-ahead-clause-later g c =
+    let same = tick_accepted (telling g.R.Recorder) c.args.config.now c.args.script.now c.args.self.now.world
+    c.accept_all.new.self.world _ _ c.accept_all.ensures.gives in
+    omega (arith, same, c.requires.idle)
+
+pub returns-then-ahead-clause-due : goal.returns-then-ahead-clause-due
+returns-then-ahead-clause-due g c =
+    due_accepted (telling g.R.Recorder) c.args.config.now c.args.script.now c.args.self.now.world
+    c.accept_all.new.self.world c.args.ahead.next _ _ c.accept_all.ensures.gives
+    (c.requires.foresees.due c.requires.idle)
+
+pub returns-else-ahead-clause-due : goal.returns-else-ahead-clause-due
+returns-else-ahead-clause-due g c = c.requires.foresees.due c.requires.idle

@@ -1,53 +1,79 @@
-use Rattle.std.proofs.Common.{Bool, None, ap, subst, arith}
+use Rattle.std.proofs.Common.{Bool, None, ◌-◌, ap, subst, arith}
 use Rattle.tt_world.specs.Moved.{Outcome, Gives, is_over}
-use Rattle.tt_world.specs.Step.{tick_over, step}
+use Rattle.tt_world.specs.Step.{tick_over}
+use Rattle.stack_dispatch.specs.Jumps.{jump}
 use Rattle.stack_dispatch.specs.Told.{Tells}
 use Rattle.stack_dispatch.proofs.Telling.{telling}
-use Rattle.stack_dispatch.proofs.Stepping.{tick_from, step_ends, step_goes_on, step_room, ends_is}
+use Rattle.stack_dispatch.proofs.Stepping.{tick_from, step_ends, step_goes_on, step_room, ends_is, waits_number, waits_within, waits_runs, waits_owns, waits_can, waits_last, waits_took, waits_work}
 use Rattle.stack_dispatch.proofs.state.State.step.Goals as goal
+
+pub owner-who-requires : goal.owner-who-requires
+owner-who-requires g c = c.requires.can.can.mode
+
+pub take-taken-requires-clause-within : goal.take-taken-requires-clause-within
+take-taken-requires-clause-within g c =
+    waits_within c.args.config.now c.args.script.now c.args.k c.requires.some c.args.self.now c.wait.new.self c.args.runner
+    c.owner-who.result c.requires.runs c.owner-who.ensures c.wait.ensures.world c.wait.ensures.beside c.requires.can
+
+pub take-taken-requires-clause-can : goal.take-taken-requires-clause-can
+take-taken-requires-clause-can g c =
+    waits_can c.args.config.now c.args.script.now c.args.k c.requires.some c.args.self.now c.wait.new.self c.args.runner
+    c.owner-who.result c.requires.runs c.owner-who.ensures c.wait.ensures.world c.wait.ensures.beside c.requires.can
+
+pub take-taken-requires-clause-runs : goal.take-taken-requires-clause-runs
+take-taken-requires-clause-runs g c =
+    waits_runs c.args.config.now c.args.script.now c.args.k c.requires.some c.args.self.now c.wait.new.self c.args.runner
+    c.owner-who.result c.requires.runs c.owner-who.ensures c.wait.ensures.world c.wait.ensures.beside c.requires.can
+
+pub take-taken-requires-clause-owns : goal.take-taken-requires-clause-owns
+take-taken-requires-clause-owns g c =
+    waits_owns c.args.config.now c.args.script.now c.args.k c.requires.some c.args.self.now c.wait.new.self c.args.runner
+    c.owner-who.result c.requires.runs c.owner-who.ensures c.wait.ensures.world c.wait.ensures.beside c.requires.can
 
 pub returns-in-Some-clause-gives : goal.returns-in-Some-clause-gives
 returns-in-Some-clause-gives g c =
     let t = tick_from (telling g.R.Recorder) c.args.config.now c.args.script.now c.args.runner c.owner-who.result
     c.tell_run.new.log c.tell_did-end.new.log
     c.tell_did-end.new.self.world c.tell_did-end.result c.take-taken.result c.take-taken.new.self.world
-    c.args.self.now.world
-    c.take-taken.ensures.took c.tell_did-end.ensures.gives in
+    _ (waits_took c.args.config.now c.args.script.now c.args.k c.requires.some c.args.self.now c.wait.new.self c.args.runner
+    c.owner-who.result c.requires.runs c.owner-who.ensures c.wait.ensures.world c.wait.ensures.beside c.requires.can
+    c.take-taken.result c.take-taken.new.self.world c.take-taken.ensures.took) c.tell_did-end.ensures.gives in
     subst (λ (o : Outcome). Gives (Tells g.R.Recorder) c.args.log.now c.tell_did-end.new.log
     c.tell_did-end.new.self.world o
-    (step c.args.config.now c.args.script.now c.args.self.now.world)) c.in-Some.is
-    (step_ends (telling g.R.Recorder) c.args.config.now c.args.script.now c.args.self.now.world c.args.runner
-    c.owner-who.result c.requires.runs c.owner-who.ensures
+    (jump c.args.config.now c.args.script.now (c.args.k - 1) c.args.self.now.world)) c.in-Some.is
+    (step_ends (telling g.R.Recorder) c.args.config.now c.args.script.now (c.args.k - 1) c.args.self.now.world
+    c.args.runner c.owner-who.result c.requires.runs c.owner-who.ensures
     c.args.log.now c.tell_run.new.log c.tell_did-end.new.log c.tell_run.ensures c.tell_did-end.new.self.world
-    c.tell_did-end.result c.take-taken.result.ended t
-    (ap is_over c.in-Some.is))
+    c.tell_did-end.result c.take-taken.result.ended t (ap is_over c.in-Some.is))
 
 pub end_tick-requires : goal.end_tick-requires
 end_tick-requires g c =
     let t = tick_from (telling g.R.Recorder) c.args.config.now c.args.script.now c.args.runner c.owner-who.result
     c.tell_run.new.log c.tell_did-end.new.log
     c.tell_did-end.new.self.world c.tell_did-end.result c.take-taken.result c.take-taken.new.self.world
-    c.args.self.now.world
-    c.take-taken.ensures.took c.tell_did-end.ensures.gives in
-    let same = step_room (telling g.R.Recorder) c.args.config.now c.args.script.now c.args.self.now.world
-    c.args.runner c.owner-who.result c.requires.runs
-    c.owner-who.ensures c.args.log.now c.tell_run.new.log c.tell_did-end.new.log c.tell_run.ensures
-    c.tell_did-end.new.self.world c.tell_did-end.result
-    c.take-taken.result.ended t c.in_default.is in
-    omega (arith, same, c.requires.can.tick)
+    _ (waits_took c.args.config.now c.args.script.now c.args.k c.requires.some c.args.self.now c.wait.new.self c.args.runner
+    c.owner-who.result c.requires.runs c.owner-who.ensures c.wait.ensures.world c.wait.ensures.beside c.requires.can
+    c.take-taken.result c.take-taken.new.self.world c.take-taken.ensures.took) c.tell_did-end.ensures.gives in
+    let same = step_room (telling g.R.Recorder) c.args.config.now c.args.script.now (c.args.k - 1) c.args.self.now.world
+    c.args.runner c.owner-who.result c.requires.runs c.owner-who.ensures
+    c.args.log.now c.tell_run.new.log c.tell_did-end.new.log c.tell_run.ensures c.tell_did-end.new.self.world
+    c.tell_did-end.result c.take-taken.result.ended t c.in_default.is in
+    let last = waits_number c.args.config.now c.args.script.now c.args.k c.requires.some c.args.self.now
+    c.requires.can in
+    omega (arith, same, last, c.requires.some)
 
 pub returns-clause-gives : goal.returns-clause-gives
 returns-clause-gives g c =
     let t = tick_from (telling g.R.Recorder) c.args.config.now c.args.script.now c.args.runner c.owner-who.result
     c.tell_run.new.log c.tell_did-end.new.log
     c.tell_did-end.new.self.world c.tell_did-end.result c.take-taken.result c.take-taken.new.self.world
-    c.args.self.now.world
-    c.take-taken.ensures.took c.tell_did-end.ensures.gives in
-    step_goes_on (telling g.R.Recorder) c.args.config.now c.args.script.now c.args.self.now.world c.args.runner
-    c.owner-who.result c.requires.runs
-    c.owner-who.ensures c.args.log.now c.tell_run.new.log c.tell_did-end.new.log c.tell_run.ensures
-    c.tell_did-end.new.self.world c.tell_did-end.result
-    c.take-taken.result.ended t c.in_default.is c.end_tick.new.log c.end_tick.new.self.world
+    _ (waits_took c.args.config.now c.args.script.now c.args.k c.requires.some c.args.self.now c.wait.new.self c.args.runner
+    c.owner-who.result c.requires.runs c.owner-who.ensures c.wait.ensures.world c.wait.ensures.beside c.requires.can
+    c.take-taken.result c.take-taken.new.self.world c.take-taken.ensures.took) c.tell_did-end.ensures.gives in
+    step_goes_on (telling g.R.Recorder) c.args.config.now c.args.script.now (c.args.k - 1) c.args.self.now.world
+    c.args.runner c.owner-who.result c.requires.runs c.owner-who.ensures
+    c.args.log.now c.tell_run.new.log c.tell_did-end.new.log c.tell_run.ensures c.tell_did-end.new.self.world
+    c.tell_did-end.result c.take-taken.result.ended t c.in_default.is c.end_tick.new.log c.end_tick.new.self.world
     (subst (λ (b : Bool). Gives (Tells g.R.Recorder) c.tell_did-end.new.log c.end_tick.new.log
     c.end_tick.new.self.world None
     (tick_over c.owner-who.result b c.tell_did-end.new.self.world)) c.somebody_ended-ended.ensures
@@ -56,19 +82,45 @@ returns-clause-gives g c =
 pub returns-in-Some-clause-ended : goal.returns-in-Some-clause-ended
 returns-in-Some-clause-ended g c =
     let t = tick_from (telling g.R.Recorder) c.args.config.now c.args.script.now c.args.runner c.owner-who.result
-    c.tell_run.new.log c.tell_did-end.new.log c.tell_did-end.new.self.world c.tell_did-end.result c.take-taken.result
-    c.take-taken.new.self.world c.args.self.now.world c.take-taken.ensures.took c.tell_did-end.ensures.gives in
-    ends_is (telling g.R.Recorder) c.args.config.now c.args.script.now c.args.self.now.world c.args.runner
-    c.owner-who.result c.requires.runs c.owner-who.ensures c.args.log.now c.tell_run.new.log c.tell_did-end.new.log
-    c.tell_run.ensures c.tell_did-end.new.self.world c.tell_did-end.result c.take-taken.result.ended t
+    c.tell_run.new.log c.tell_did-end.new.log
+    c.tell_did-end.new.self.world c.tell_did-end.result c.take-taken.result c.take-taken.new.self.world
+    _ (waits_took c.args.config.now c.args.script.now c.args.k c.requires.some c.args.self.now c.wait.new.self c.args.runner
+    c.owner-who.result c.requires.runs c.owner-who.ensures c.wait.ensures.world c.wait.ensures.beside c.requires.can
+    c.take-taken.result c.take-taken.new.self.world c.take-taken.ensures.took) c.tell_did-end.ensures.gives in
+    ends_is (telling g.R.Recorder) c.args.config.now c.args.script.now (c.args.k - 1) c.args.self.now.world
+    c.args.runner c.owner-who.result c.requires.runs c.owner-who.ensures
+    c.args.log.now c.tell_run.new.log c.tell_did-end.new.log c.tell_run.ensures c.tell_did-end.new.self.world
+    c.tell_did-end.result c.take-taken.result.ended t (waits_work c.args.config.now c.args.script.now c.args.k c.requires.some c.args.self.now c.wait.new.self c.args.runner
+    c.owner-who.result c.requires.runs c.owner-who.ensures c.wait.ensures.world c.wait.ensures.beside c.requires.can)
     c.somebody_ended-ended.result c.somebody_ended-ended.ensures
+
+pub returns-in-Some-clause-last : goal.returns-in-Some-clause-last
+returns-in-Some-clause-last g c =
+    waits_last c.args.config.now c.args.script.now c.args.k c.requires.some c.args.self.now c.wait.new.self c.args.runner
+    c.owner-who.result c.requires.runs c.owner-who.ensures c.wait.ensures.world c.wait.ensures.beside c.requires.can
+    c.tick-last.result c.tick-last.ensures
 
 pub returns-clause-ended : goal.returns-clause-ended
 returns-clause-ended g c =
     let t = tick_from (telling g.R.Recorder) c.args.config.now c.args.script.now c.args.runner c.owner-who.result
-    c.tell_run.new.log c.tell_did-end.new.log c.tell_did-end.new.self.world c.tell_did-end.result c.take-taken.result
-    c.take-taken.new.self.world c.args.self.now.world c.take-taken.ensures.took c.tell_did-end.ensures.gives in
-    ends_is (telling g.R.Recorder) c.args.config.now c.args.script.now c.args.self.now.world c.args.runner
-    c.owner-who.result c.requires.runs c.owner-who.ensures c.args.log.now c.tell_run.new.log c.tell_did-end.new.log
-    c.tell_run.ensures c.tell_did-end.new.self.world c.tell_did-end.result c.take-taken.result.ended t
+    c.tell_run.new.log c.tell_did-end.new.log
+    c.tell_did-end.new.self.world c.tell_did-end.result c.take-taken.result c.take-taken.new.self.world
+    _ (waits_took c.args.config.now c.args.script.now c.args.k c.requires.some c.args.self.now c.wait.new.self c.args.runner
+    c.owner-who.result c.requires.runs c.owner-who.ensures c.wait.ensures.world c.wait.ensures.beside c.requires.can
+    c.take-taken.result c.take-taken.new.self.world c.take-taken.ensures.took) c.tell_did-end.ensures.gives in
+    ends_is (telling g.R.Recorder) c.args.config.now c.args.script.now (c.args.k - 1) c.args.self.now.world
+    c.args.runner c.owner-who.result c.requires.runs c.owner-who.ensures
+    c.args.log.now c.tell_run.new.log c.tell_did-end.new.log c.tell_run.ensures c.tell_did-end.new.self.world
+    c.tell_did-end.result c.take-taken.result.ended t (waits_work c.args.config.now c.args.script.now c.args.k c.requires.some c.args.self.now c.wait.new.self c.args.runner
+    c.owner-who.result c.requires.runs c.owner-who.ensures c.wait.ensures.world c.wait.ensures.beside c.requires.can)
     c.somebody_ended-ended.result c.somebody_ended-ended.ensures
+
+pub returns-clause-last : goal.returns-clause-last
+returns-clause-last g c =
+    waits_last c.args.config.now c.args.script.now c.args.k c.requires.some c.args.self.now c.wait.new.self c.args.runner
+    c.owner-who.result c.requires.runs c.owner-who.ensures c.wait.ensures.world c.wait.ensures.beside c.requires.can
+    c.tick-last.result c.tick-last.ensures
+
+pub wait-requires-clause-number : goal.wait-requires-clause-number
+wait-requires-clause-number g c =
+    waits_number c.args.config.now c.args.script.now c.args.k c.requires.some c.args.self.now c.requires.can
