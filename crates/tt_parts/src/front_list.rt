@@ -50,11 +50,12 @@ impl<T> FrontList<T> {
         self.reversed.pop()
     }
 
-    /// The items in order.
+    /// The items in order, in no more memory than they need: most bodies have few statements.
     pub fn into_vec(self) -> Vec<T>
         ensures { result.items ≡ self }
     {
         let FrontList { mut reversed } = self;
+        reversed.shrink_to_fit();
         reversed.reverse();
         reversed
     }
