@@ -7,6 +7,10 @@ use std::alloc::Global;
 use std::marker::Model;
 use tt_base::{Memory, Series};
 
+/// Below how many items a list gives back what it does not need. More would take more memory while
+/// they are copied than they give back.
+const FEW: usize = 4096;
+
 /// A list that grows at its front. Contracts see it as the list of its items, the front one first.
 #[derive(Debug, Drop)]
 pub struct FrontList<T> {
@@ -50,12 +54,14 @@ impl<T> FrontList<T> {
         self.reversed.pop()
     }
 
-    /// The items in order, in no more memory than they need: most bodies have few statements.
+    /// The items in order. Few items, as most bodies have, keep no more memory than they need.
     pub fn into_vec(self) -> Vec<T>
         ensures { result.items ≡ self }
     {
         let FrontList { mut reversed } = self;
-        reversed.shrink_to_fit();
+        if reversed.len() < FEW {
+            reversed.shrink_to_fit();
+        }
         reversed.reverse();
         reversed
     }
