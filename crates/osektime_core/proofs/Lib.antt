@@ -7,3 +7,4 @@ pub mod Hearing
 pub mod LoadTexts
 pub mod Traces
 pub mod InBounds
+pub mod Moves

@@ -1,5 +1,5 @@
 -- The answer to the bytes of the document of some words, where they are told.
-use Rattle.std.proofs.Common.{◌≡◌, ◌≢◌, ℕ, ◌^◌, ◌+◌, ◌≤◌, List, Option, Some, None, [], true, false, nat_lt, cond, length, refl, ap, sym, ◌∙◌, subst, arith}
+use Rattle.std.proofs.Common.{◌≡◌, ◌≢◌, ℕ, ◌^◌, ◌≤◌, List, Option, Some, None, [], false, nat_lt, cond, length, refl, ap, sym, ◌∙◌, subst, arith}
 use Rattle.std.specs.Prelude.{IfSome}
 use Rattle.std.proofs.lemmas.Bool.Decides.{nat_tests}
 use Rattle.tt_io.specs.Known.{WasAll}
@@ -78,20 +78,6 @@ pub answer_is : (words : List (List ℕ)) (command : Command) (bytes : List ℕ)
     → answer_of words bytes ≡ document_answer command (document_of bytes)
 answer_is words command bytes is reads fits =
     ap (λ c. words_answer c bytes) is ∙ reading_answer command bytes reads ∙ few_bytes command bytes fits
-
--- ---- the answer to a byte too many
-
-many_bytes : (command : Command) (bytes : List ℕ) → length bytes ≡ 2 ^ 20 + 1
-    → bytes_answer command bytes ≡ silent TooLong
-many_bytes command bytes long =
-    let more : nat_lt (2 ^ 20) (length bytes) ≡ true = grind (arith, nat_tests) in
-    ap (λ b. cond b (silent TooLong) (document_answer command (document_of bytes))) more
-
--- of a command that reads
-pub many_answer : (words : List (List ℕ)) (command : Command) (bytes : List ℕ) → command_of words ≡ Some command
-    → IsReading (Some command) → length bytes ≡ 2 ^ 20 + 1 → answer_of words bytes ≡ silent TooLong
-many_answer words command bytes is reads long =
-    ap (λ c. words_answer c bytes) is ∙ reading_answer command bytes reads ∙ many_bytes command bytes long
 
 -- ---- facts of the bytes that are told
 

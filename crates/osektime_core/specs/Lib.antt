@@ -11,3 +11,4 @@ pub mod LoadText
 pub mod NoMiss
 pub mod Runs
 pub mod InBounds
+pub mod Moves

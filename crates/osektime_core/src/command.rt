@@ -1,12 +1,14 @@
 //! The top call.
 
-ghost use Rattle.std.specs.Prelude.{◌≡◌, ◌≢◌, ◌↔◌, ◌≤◌, ◌+◌, ◌^◌, Some, None, [], IfSome};
+ghost use Rattle.std.specs.Prelude.{◌≡◌, ◌≢◌, ◌↔◌, ◌≤◌, ◌+◌, ◌^◌, ℕ, List, Some, None, [], IfSome};
 ghost use Rattle.tt_io.specs.Count.{Rose, counted};
+ghost use Rattle.tt_io.specs.Gave.{GivesAll};
 ghost use Rattle.tt_io.specs.Known.{AppendsPart, HadMore};
 ghost use Rattle.osektime_core.specs.Words.{command_of};
 ghost use Rattle.osektime_core.specs.Answer.{answer_of, document_for, IsAnswered, IsReading, OnAnswered};
 ghost use Rattle.osektime_core.specs.Heard.{Heard, HeardPart};
 ghost use Rattle.osektime_core.specs.InBounds.{IsLoading, OnRun, TellsInBounds};
+ghost use Rattle.osektime_core.specs.Moves.{CountsMoves, IsRunning, run_of};
 ghost use Rattle.osektime_core.specs.NoMiss.{IsSchedulable, NoneIsMissed};
 
 use crate::document::respond;
@@ -24,8 +26,8 @@ pub const MOST_BYTES: usize = 1 << 20;
 /// all but `show` the least rule that is broken. Out of memory may stand in place of any answer
 /// before the first byte is written, and a failed write in place of the answer whose text was being
 /// written. A run that has ended with a missed deadline is no refusal: its whole text is written.
-/// The steps are those of the run, and no clause speaks of them. Commands and statuses are the
-/// bench's own.
+/// The steps are the moves of the run: the ticks of the one who runs that are taken at once.
+/// Commands and statuses are the bench's own.
 pub fn serve<I: Source, O: Sink, L: Ledger>(
     alloc: Global,
     words: &Words,
@@ -68,12 +70,14 @@ pub fn serve<I: Source, O: Sink, L: Ledger>(
     ensures memory { result ≡ Status.Memory → output.new ≡ output.old }
     ensures usage { (result ≡ Status.Usage) ↔ (command_of words.now ≡ None) }
     ensures usage_untouched { result ≡ Status.Usage
-        → (input.new ≡ input.old) × (output.new ≡ output.old) }
+        → (input.new ≡ input.old) × (output.new ≡ output.old) × (steps.new ≡ steps.old) }
     ensures read_fault { result ≡ Status.ReadFault → IsReading (command_of words.now)
-        × Rose (I.faults input.old) (I.faults input.new) × (output.new ≡ output.old) }
+        × Rose (I.faults input.old) (I.faults input.new) × (output.new ≡ output.old)
+        × (steps.new ≡ steps.old) }
     ensures too_long { result ≡ Status.TooLong → IsReading (command_of words.now)
         × HadMore (I.left input.old) (2 ^ 20) × (output.new ≡ output.old)
-        × (I.given input.new ≡ counted (I.given input.old) (2 ^ 20 + 1)) }
+        × (I.given input.new ≡ counted (I.given input.old) (2 ^ 20 + 1))
+        × (steps.new ≡ steps.old) }
     ensures not_too_long { result ≢ Status.TooLong
         → I.given input.new ≤ I.given input.old + 2 ^ 20 }
     ensures write_fault { result ≡ Status.WriteFault
@@ -91,6 +95,16 @@ pub fn serve<I: Source, O: Sink, L: Ledger>(
     // them, whatever the check of the document says and whether its script keeps its bounds.
     ensures bounded { IsLoading (command_of words.now) → OnRun result
         (TellsInBounds (O.written output.old) (O.written output.new)) }
+
+    // A run counts no more moves than there are statements that are begun and instants at which
+    // something is due, and one; and where it has ended, no less than there are changes of the
+    // owner. Nothing is counted where nothing is run.
+    ensures moves { IfSome (document_for words.now (I.left input.old))
+        (λ bytes. CountsMoves (run_of words.now bytes) result steps.old steps.new) }
+    ensures heard_moves { IsReading (command_of words.now) → (bytes : List ℕ)
+        → GivesAll (I.gave input.old) (I.gave input.new) bytes
+        → CountsMoves (run_of words.now bytes) result steps.old steps.new }
+    ensures no_moves { ¬ IsRunning (command_of words.now) → steps.new ≡ steps.old }
 
     ensures never_falls { (I.faults input.old ≤ I.faults input.new)
         × (O.faults output.old ≤ O.faults output.new) }

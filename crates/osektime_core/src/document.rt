@@ -9,6 +9,7 @@ ghost use Rattle.tt_read.specs.Document.{document_of, canonical_text};
 ghost use Rattle.tt_config.specs.Broken.{broken_rule};
 ghost use Rattle.tt_world.specs.ScriptRules.{IsScript};
 ghost use Rattle.osektime_core.specs.Answer.{Responds, check_answer, check_status, checked_answer, document_answer, load_answer, rows_answer, rule_answer, table_answer, trace_answer};
+ghost use Rattle.osektime_core.specs.Moves.{CountsMoves, bench_of, document_run, rows_run};
 ghost use Rattle.osektime_core.specs.NoMiss.{AreSchedulable, IsSchedulable, NoneIsMissed};
 
 use crate::answer::put_text;
@@ -52,6 +53,7 @@ fn trace<O: Sink, L: Ledger>(
         (output.new ≡ output.old)
         (O.written output.old) (O.written output.new) (O.faults output.old) (O.faults output.new) }
     ensures no_miss { AreSchedulable rows → NoneIsMissed result }
+    ensures moves { CountsMoves (bench_of (broken_rule rows) rows) result steps.old steps.new }
 {
     match accept(alloc, rows) {
         Ok(Accepted { config, script }) => write_trace(alloc, config, script, output, steps),
@@ -73,6 +75,7 @@ fn load<O: Sink, L: Ledger>(
         (output.new ≡ output.old)
         (O.written output.old) (O.written output.new) (O.faults output.old) (O.faults output.new) }
     ensures no_miss { AreSchedulable rows → NoneIsMissed result }
+    ensures moves { CountsMoves (bench_of (broken_rule rows) rows) result steps.old steps.new }
 {
     match accept(alloc, rows) {
         Ok(Accepted { config, script }) => write_load(alloc, config, script, output, steps),
@@ -160,6 +163,7 @@ fn respond_to_rows<O: Sink, L: Ledger>(
     ensures responds { Responds (rows_answer command rows) result (output.new ≡ output.old)
         (O.written output.old) (O.written output.new) (O.faults output.old) (O.faults output.new) }
     ensures no_miss { AreSchedulable rows → NoneIsMissed result }
+    ensures moves { CountsMoves (rows_run command rows) result steps.old steps.new }
 {
     match command {
         Command::Trace => trace(alloc, rows, output, steps),
@@ -183,6 +187,8 @@ pub(crate) fn respond<O: Sink, L: Ledger>(
         (output.new ≡ output.old)
         (O.written output.old) (O.written output.new) (O.faults output.old) (O.faults output.new) }
     ensures no_miss { IsSchedulable bytes.now → NoneIsMissed result }
+    ensures moves { CountsMoves (document_run command (document_of bytes.now)) result
+        steps.old steps.new }
 {
     match read(alloc, bytes) {
         Ok(rows) => respond_to_rows(alloc, command, rows, output, steps),

@@ -1,20 +1,23 @@
 //! The run of a configuration and a script, and its summary.
 
 ghost use Rattle.std.specs.Io.KnownBytes.{Appends};
-ghost use Rattle.std.specs.Prelude.{◌≡◌, ◌≢◌, ◌≤◌, IfOk};
+ghost use Rattle.std.specs.Prelude.{◌≡◌, ◌≢◌, ◌≤◌, ◌+◌, IfOk, OnOk};
 ghost use Rattle.tt_io.specs.Count.{Rose};
 ghost use Rattle.tt_io.specs.Known.{AppendsPart};
 ghost use Rattle.tt_base.specs.declared.names.NameKind.TheVariants as Named;
 ghost use Rattle.tt_base.specs.declared.number.TaskNo.{TaskNo};
 ghost use Rattle.tt_base.specs.Names.{count_of, names_of};
+ghost use Rattle.tt_world.specs.Schedule.{schedule};
 ghost use Rattle.tt_world.specs.ScriptRules.{IsScript};
 ghost use Rattle.schedule_check.specs.Kept.{KeepsBounds};
 ghost use Rattle.schedule_check.specs.Responses.{answer_of};
 ghost use Rattle.schedule_check.specs.Windows.{depth_bound, words_bound};
 ghost use Rattle.schedule_check.specs.declared.answers.CheckAnswer.TheVariants.{Yes};
+ghost use Rattle.stack_dispatch.specs.Counts.{most_moves, runs_in};
 ghost use Rattle.stack_dispatch.specs.Reports.{Reports};
 ghost use Rattle.osektime_core.specs.Answer.{Responds, loaded_answer};
 ghost use Rattle.osektime_core.specs.LoadText.{IsOutline, load_text, summary_by};
+ghost use Rattle.osektime_core.specs.Moves.{CountsRun};
 ghost use Rattle.osektime_core.specs.NoMiss.{NoneIsMissed};
 
 use crate::Status;
@@ -101,6 +104,8 @@ fn run_report<L: Ledger>(
     ensures reports { IfOk result (Reports config script) }
     ensures no_miss { answer_of config ≡ Yes → KeepsBounds config script
         → IfOk result (λ report. (task : TaskNo) → report.end ≢ RunEnd.Missed task) }
+    ensures few { steps.new ≤ steps.old + most_moves config script }
+    ensures enough { OnOk result (steps.old + runs_in (schedule config script) ≤ steps.new) }
 {
     let bench = Bench::new(alloc, config, script)?;
     let mut recorder = Discard::new();
@@ -122,6 +127,8 @@ pub(crate) fn write_load<O: Sink, L: Ledger>(
     ensures responds { Responds (loaded_answer config script) result (output.new ≡ output.old)
         (O.written output.old) (O.written output.new) (O.faults output.old) (O.faults output.new) }
     ensures no_miss { answer_of config ≡ Yes → KeepsBounds config script → NoneIsMissed result }
+    ensures moves { CountsRun (record { config = config; script = script }) result
+        steps.old steps.new }
 {
     let Ok(outline) = outline_of(alloc, &config) else {
         return Status::Memory;

@@ -1,7 +1,7 @@
 //! The run of a configuration and a script, and its trace.
 
 ghost use Rattle.std.specs.Io.KnownBytes.{Appends};
-ghost use Rattle.std.specs.Prelude.{◌≡◌, ◌≢◌, ◌≤◌, IfOk, IsTrue, OnOk, OnErr};
+ghost use Rattle.std.specs.Prelude.{◌≡◌, ◌≢◌, ◌≤◌, ◌+◌, IfOk, IsTrue, OnOk, OnErr};
 ghost use Rattle.tt_io.specs.Count.{Rose};
 ghost use Rattle.tt_io.specs.Known.{AppendsPart};
 ghost use Rattle.trace_text.specs.Lines.{text_of};
@@ -12,8 +12,10 @@ ghost use Rattle.tt_world.specs.ScriptRules.{IsScript};
 ghost use Rattle.schedule_check.specs.Kept.{KeepsBounds};
 ghost use Rattle.schedule_check.specs.Responses.{answer_of};
 ghost use Rattle.schedule_check.specs.declared.answers.CheckAnswer.TheVariants.{Yes};
-ghost use Rattle.stack_dispatch.specs.Reports.{IsNotMissed, Reports};
+ghost use Rattle.stack_dispatch.specs.Counts.{most_moves, runs_in};
+ghost use Rattle.stack_dispatch.specs.Reports.{IsNotMissed, OnEnded, Reports};
 ghost use Rattle.osektime_core.specs.Answer.{Responds, run_answer};
+ghost use Rattle.osektime_core.specs.Moves.{CountsRun};
 ghost use Rattle.osektime_core.specs.NoMiss.{NoneIsMissed};
 ghost use Rattle.osektime_core.specs.Runs.{PutsRun};
 
@@ -40,6 +42,9 @@ fn put_run<O: Sink, L: Ledger>(
         ≤ O.faults (sink_of recorder.new).now }
     ensures no_miss { answer_of bench.config ≡ Yes → KeepsBounds bench.config bench.script
         → IsNotMissed result }
+    ensures few { steps.new ≤ steps.old + most_moves bench.config bench.script }
+    ensures enough { OnEnded result
+        (λ _. steps.old + runs_in (schedule bench.config bench.script) ≤ steps.new) }
 {
     bench.run_trace(recorder, steps)
 }
@@ -60,6 +65,9 @@ fn write_run<O: Sink, L: Ledger>(
         (text_of bench.config.names (schedule bench.config bench.script))) }
     ensures cause { OnErr result (Rose (O.faults output.old) (O.faults output.new)) }
     ensures never_falls { O.faults output.old ≤ O.faults output.new }
+    ensures few { steps.new ≤ steps.old + most_moves bench.config bench.script }
+    ensures enough { OnOk result
+        (steps.old + runs_in (schedule bench.config bench.script) ≤ steps.new) }
 {
     let mut recorder = SinkRecorder::new(output);
     let report = match put_run(bench, &mut recorder, steps) {
@@ -84,6 +92,8 @@ pub(crate) fn write_trace<O: Sink, L: Ledger>(
     ensures responds { Responds (run_answer config script) result (output.new ≡ output.old)
         (O.written output.old) (O.written output.new) (O.faults output.old) (O.faults output.new) }
     ensures no_miss { answer_of config ≡ Yes → KeepsBounds config script → NoneIsMissed result }
+    ensures moves { CountsRun (record { config = config; script = script }) result
+        steps.old steps.new }
 {
     let Ok(bench) = Bench::new(alloc, config, script) else {
         return Status::Memory;

@@ -1,12 +1,14 @@
-use Rattle.std.proofs.Common.{◌≡◌, ◌≢◌, sym, subst, ◌∙◌}
+use Rattle.std.proofs.Common.{◌≡◌, ◌≢◌, refl, sym, subst, ◌∙◌}
 use Rattle.std.specs.Io.KnownBytes.{Appends}
 use Rattle.tt_io.specs.Known.{AppendsPart}
 use Rattle.osektime_core.specs.InBounds.{IsLoading}
 use Rattle.osektime_core.specs.NoMiss.{IsSchedulable, NoneIsMissed}
-use Rattle.osektime_core.specs.declared.status.Status.TheVariants.{Memory, WriteFault}
+use Rattle.osektime_core.specs.declared.status.Status.TheVariants.{Memory, ReadFault, TooLong, WriteFault}
 use Rattle.osektime_core.specs.declared.words.Command.TheVariants.{Bulk}
 use Rattle.osektime_core.specs.Answer.{IsReading, IsAnswered}
+use Rattle.osektime_core.specs.Moves.{run_of}
 use Rattle.osektime_core.proofs.InBounds.{told_in_bounds}
+use Rattle.osektime_core.proofs.Moves.{heard_counted, none_counted, none_for}
 use Rattle.osektime_core.specs.Heard.{Heard}
 use Rattle.osektime_core.proofs.Hearing.{heard_whole}
 use Rattle.osektime_core.proofs.Told.{is_reading, on_answered, told_answer, told_bytes, was_taken}
@@ -90,3 +92,34 @@ returns-clause-bounded g c = λ loads.
     c.in-Some.command (subst IsLoading (sym c.command.ensures ∙ c.in-Some.is) loads) c.in-Ok-take_all.bytes.items
     c.in-Ok-take_all.ensures.fits
     (λ ample whole. rw (← c.deref-2.ensures.value) (c.respond-2.ensures.responds.answered ample whole))
+
+pub returns-in-Err-Memory-clause-moves : goal.returns-in-Err-Memory-clause-moves
+returns-in-Err-Memory-clause-moves g c =
+    none_for c.args.words.now (g.I.Source.left c.args.input.now) Memory _ _ (λ P. tt) refl
+
+pub returns-in-Err-Memory-clause-heard_moves : goal.returns-in-Err-Memory-clause-heard_moves
+returns-in-Err-Memory-clause-heard_moves g c =
+    λ reads bytes all. none_counted (run_of c.args.words.now bytes) Memory _ _ (λ P. tt) refl
+
+pub returns-in-Err-ReadFault-clause-moves : goal.returns-in-Err-ReadFault-clause-moves
+returns-in-Err-ReadFault-clause-moves g c =
+    none_for c.args.words.now (g.I.Source.left c.args.input.now) ReadFault _ _ (λ P. tt) refl
+
+pub returns-in-Err-ReadFault-clause-heard_moves : goal.returns-in-Err-ReadFault-clause-heard_moves
+returns-in-Err-ReadFault-clause-heard_moves g c =
+    λ reads bytes all. none_counted (run_of c.args.words.now bytes) ReadFault _ _ (λ P. tt) refl
+
+pub returns-in-Err-TooLong-clause-moves : goal.returns-in-Err-TooLong-clause-moves
+returns-in-Err-TooLong-clause-moves g c =
+    none_for c.args.words.now (g.I.Source.left c.args.input.now) TooLong _ _ (λ P. tt) refl
+
+pub returns-in-Err-TooLong-clause-heard_moves : goal.returns-in-Err-TooLong-clause-heard_moves
+returns-in-Err-TooLong-clause-heard_moves g c =
+    λ reads bytes all. none_counted (run_of c.args.words.now bytes) TooLong _ _ (λ P. tt) refl
+
+pub returns-clause-heard_moves : goal.returns-clause-heard_moves
+returns-clause-heard_moves g c = λ reads bytes all.
+    heard_counted c.args.words.now c.in-Some.command (g.I.Source.gave c.args.input.now)
+    (g.I.Source.gave c.take_all.new.source) c.in-Ok-take_all.bytes.items bytes c.respond-2.result _ _
+    (sym c.command.ensures ∙ c.in-Some.is) c.in-Ok-take_all.ensures.fits c.in-Ok-take_all.ensures.gave all
+    (rw (← c.deref-2.ensures.value) c.respond-2.ensures.moves)
