@@ -29,8 +29,7 @@ is_sound_term (term.Int value) = is_integer value
 is_sound_term (term.Name name) = is_name name
 is_sound_term (term.Op op) = true
 
--- numbers are below 10^12, names are names, integers have 32 signed bits, and the terms of an expression are exactly
--- one
+-- numbers are below 10^12, names are names, integers have 32 signed bits, and terms are exactly one expression
 abbrev pub is_sound_item : Item → Bool
 is_sound_item (Key word) = true
 is_sound_item (Number n) = nat_lt n (10 ^ 12)
