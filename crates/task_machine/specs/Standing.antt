@@ -30,7 +30,7 @@ pub record IsAt (code : List Instr) (frame : Frame) (l : List Stmt) : Type 0 whe
   pub rests : Rests code frame.counters l frame.place frame.work
   pub ended : IsTrue frame.ended ↔ (l ≡ [])
 
--- The frame is one of these codes: its program exists, and it rests at a place of it.
+-- The frame belongs to these codes: its program exists, and it rests at a place of it.
 pub record IsSound (codes : List (List Stmt)) (frame : Frame) : Type 0 where
   pub exists : frame.program < length codes
   pub is_at : IsAt (code_of codes frame.program) frame (left_of codes frame)
@@ -58,7 +58,7 @@ work_begun frame = frame.work
 abbrev pub is_ended : Frame → Bool
 is_ended frame = frame.ended
 
--- A frame of none of these codes, so that it stands for no list.
+-- A frame that stands for no list, whatever the codes are (at most 256).
 abbrev pub IsNoFrame : Frame → Type 0
 IsNoFrame frame = (codes : List (List Stmt)) → length codes ≤ 256 → IsSound codes frame → ⊥
 

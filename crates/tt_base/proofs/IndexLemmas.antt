@@ -48,7 +48,7 @@ names_at-push names entry (place ∷ places) (name ∷ kept) is =
     let first = name_at-push names entry place name (cc) in
     let rest = names_at-push names entry places kept (cc) in cc
 
--- with one more place, of the last name, they are these names and the last one
+-- with one more place, that of the last name, they are these names and the last one
 names_at-last : (names : List NameEntry) (entry : NameEntry) (places : List ℕ) (kept : List (List ℕ))
     → map (name_at names) places ≡ map Some kept
     → map (name_at (names ++ entry ∷ [])) (places ++ length names ∷ []) ≡ map Some (kept ++ entry.name ∷ [])

@@ -207,7 +207,7 @@ impl Names {
     }
 }
 
-/// The name whose place is in a list of places, at a number.
+/// The name whose place is `places[number]`.
 fn name_of_number(entries: &[NameEntry], places: &[usize], number: usize) -> Option<Name>
     ensures { result ≡ option_and_then (name_at entries.now) (slice_get places.now number) }
 {

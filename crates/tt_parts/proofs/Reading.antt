@@ -11,7 +11,7 @@ use Rattle.tt_parts.specs.Located.{at_then}
 use Rattle.tt_parts.specs.Structure.{standing_of}
 use Rattle.tt_parts.specs.Bodies.{Branches, owner_in, body_of, row_then, head_of, branches_from, bodies_of}
 
--- these are left of some rows, and the rows after them are read
+-- of some rows these are left to read; the rows after them are read
 pub record Reads (names : List NameEntry) (rows left : List NumberedRow) (blocks : List Branches)
     (bodies : List (At BodyPart)) : Type 0 where
   pub after : List NumberedRow

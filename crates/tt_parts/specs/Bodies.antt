@@ -93,28 +93,28 @@ abbrev pub statement_then : Stmt → List Branches → List Branches
 statement_then stmt [] = []
 statement_then stmt (inner ∷ outer) = record { first = stmt ∷ inner.first; second = inner.second } ∷ outer
 
--- an `else` comes before: what follows is the second branch
+-- with an `else` before them: what follows is the second branch
 abbrev pub else_then : List Branches → List Branches
 else_then [] = []
 else_then (inner ∷ outer) = record { first = []; second = inner.first } ∷ outer
 
--- a statement with nothing inside it comes before
+-- with a statement before them that has nothing inside it
 abbrev pub plain_then : Option Head → List Branches → List Branches
 plain_then None rest = rest
 plain_then (Some head) rest = statement_then (statement_of head [] []) rest
 
--- a block comes before: the innermost thing is its inside
+-- with a block before them: the innermost thing is its inside
 abbrev pub block_then : Option Head → List Branches → List Branches
 block_then None rest = rest
 block_then (Some head) [] = []
 block_then (Some head) (inner ∷ outer) = statement_then (statement_of head inner.first inner.second) outer
 
--- a row that opens a body comes before: its body is complete
+-- with a row before them that opens a body: its body is complete
 abbrev pub body_then : List Branches → List Branches
 body_then [] = []
 body_then (inner ∷ outer) = outer
 
--- a row of this standing comes before
+-- with a row of this standing before them
 abbrev pub row_then : Standing → Option Head → List Branches → List Branches
 row_then OfEnd head rest = no_branches ∷ rest
 row_then OfElse head rest = else_then rest

@@ -259,7 +259,7 @@ module _ (c : ConfigParts) (modes : ℕ) (located : List (At Entry))
       and_from (nat_lt e.isr.0 (length c.isrs)) (nat_lt e.offset limit)
       (and_parts (nat_lt m.0 modes) (nat_lt e.isr.0 (length c.isrs)) fit.known).1 fit.early)
 
-  -- 14, 18 to 24. The table of each mode keeps the rules.
+  -- 14, 19 to 24. The table of each mode keeps the rules.
   mode_fits : (mode : ℕ) → length (filter (is_of mode) xs) ≤ 4096 → IsMode c (mode_with xs mode)
   mode_fits mode few =
       let acts = flat_map (activation_in mode) xs in

@@ -52,7 +52,7 @@ pub record AreTablesKept (limit modes : ℕ) (xs : List (At Entry)) : Type 0 whe
   pub apart : lines_23 xs ≡ []
   pub few : lines_24 modes xs ≡ []
 
--- Where no line breaks rules 14 and 19 to 24, the table of each mode is one of a configuration.
+-- Where entries name what is declared and no line breaks rules 19 to 24, each mode has a table of a configuration.
 abbrev pub TablesAreSound : Type 0
 TablesAreSound = (c : ConfigParts) (modes : ℕ) (xs : List (At Entry))
     → list_all (is_entry_known modes (length c.tasks) (length c.isrs)) (parts xs) ≡ true

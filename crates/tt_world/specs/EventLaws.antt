@@ -82,7 +82,7 @@ IsOwner c (Some (owner.Isr isr)) tasks isrs =
 IsOwner c (Some who) tasks isrs = (isrs ≡ []) × (tasks ≡ [])
 
 -- a task runs where no time-triggered routine is unfinished and it is the last activated unfinished task; such a
--- routine where it is the unfinished one of the highest level; anybody else where neither is unfinished
+-- routine where it is the unfinished one of the highest level; anybody else where no task and no such routine is
 abbrev pub OwnersRun : ConfigParts → List Event → Type 0
 OwnersRun c events = (u : ℕ) → IsTaken events u → IsOwner c (owner_at u events) (tasks_at u events) (isrs_at u events)
 

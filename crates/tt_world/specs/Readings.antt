@@ -72,12 +72,12 @@ is_end_after from who event = false
 abbrev pub has_ended : (from : ℕ) → Owner → List Event → Bool
 has_ended from who events = list_any (is_end_after from who) events
 
--- the task of an Activate event, if it is unfinished when these events were seen
+-- the task of an Activate event, if these events leave it unfinished
 abbrev pub task_if : List Event → Event → List TaskNo
 task_if seen (Activate at task) = if has_ended at (owner.Task task) seen then [] else task ∷ []
 task_if seen event = []
 
--- the routine of an Accept event, if it is unfinished when these events were seen
+-- the routine of an Accept event, if these events leave it unfinished
 abbrev pub isr_if : List Event → Event → List IsrNo
 isr_if seen (Accept at (owner.Isr isr)) = if has_ended at (owner.Isr isr) seen then [] else isr ∷ []
 isr_if seen event = []
