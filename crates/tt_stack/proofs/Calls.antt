@@ -1,4 +1,4 @@
--- What each call makes of what is seen.
+-- How each call changes what contracts see.
 use Rattle.std.proofs.Common.{◌≡◌, ◌≢◌, ◌↔◌, IsTrue, ℕ, zero, suc, ◌+◌, ◌<◌, inr, ⊎_elim, Bool, true, false, List, [], ◌∷◌, ◌++◌, length, refl, sym, ap, ◌∙◌, subst, arith, replicate, eq-eqb, nat_eq}
 use Rattle.std.specs.Prelude.{All, Any, not, ◌&&◌, ◌||◌, ◌==◌, slice_index_or, slice_set, sum_by}
 use Rattle.std.specs.List.{list_any}
@@ -49,7 +49,7 @@ none_equal (x ∷ xs) n zero none within =
 none_equal (x ∷ xs) n (suc i) none within =
     none_equal xs n i (neither (x == n) (list_any (λ (other : ℕ). other == n) xs) none).1 (omega arith)
 
--- levels of two numbers are two
+-- two numbers have different levels
 distinct_levels : (levels : List ℕ) (i j : ℕ) → are_distinct levels ≡ true → i < length levels → j < length levels
     → i ≢ j
     → slice_index_or levels i 0 ≢ slice_index_or levels j 0
@@ -99,7 +99,7 @@ module _ (inside : Inside)
 
   -- ---- how many
 
-  -- as many activations are seen as were reached
+  -- contracts see as many activations as were reached
   pub length_jobs_is : length view.jobs ≡ reached
   length_jobs_is = length-jobs 0 (lefts_of reached given) ∙ length-lefts_of reached given
 
