@@ -180,7 +180,7 @@ module _ {L : Type 0} {Told : L → List Event → L → Type 0} where
   taken_not_due c s a b u w g at k before =
       ap (is_next w.tick) (at.taken k before) ∙ later_is_not (w.tick) (arrivals_of s (source_at c k))
 
-  -- the first source with an arrival is not before the place
+  -- the first source with an arrival is not before the place that was reached
   pub first_after : (c : ConfigParts) (s : ScriptParts) (a b : L) (u w : World) (g : Window) (x : Source)
       (at : Arriving Told c s a b u w g) (first : IsFirst (is_due w.tick g) (sources c) no_source x)
       → at.place ≤ first.place

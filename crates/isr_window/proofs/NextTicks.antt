@@ -29,7 +29,7 @@ first_low next (tick ∷ rest) up from =
     ap (λ b. b && list_all (λ other. nat_le next other) rest) (le-leb next tick from)
     ∙ all_from next (tick + 1) rest (omega arith) (ascends 0 tick rest up).others
 
--- a list whose first tick would be after each number is empty
+-- a list is empty where its first tick is not before any number
 none_first : (ticks : List ℕ) → ((n : ℕ) → IsFrom n (slice_get ticks 0)) → ticks ≡ []
 none_first [] from = refl
 none_first (tick ∷ rest) from = let low : tick + 1 ≤ tick = from (tick + 1) in absurd (omega arith)

@@ -4,8 +4,8 @@ ghost use Rattle.schedule_check.specs.DeadlineLaws.{IsrIsBounded, NoMiss};
 ghost use Rattle.schedule_check.specs.StackLaw.{StackIsBounded};
 
 /// Where the script keeps its bounds, a time-triggered routine takes at most (2 + n) times its
-/// budget in any k consecutive instants of a run. n is the number of its enables there; for a
-/// routine with a distance it is the smaller of that and the number of distances that begin in k
+/// budget in any k consecutive instants of a run, where n is the number of its enables there; for a
+/// routine with a distance, n is the smaller of that and the number of distances that begin in k
 /// ticks.
 pub fn isr_is_bounded()
     ensures { IsrIsBounded }

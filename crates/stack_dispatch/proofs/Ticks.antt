@@ -308,7 +308,7 @@ module _ (c : ConfigParts) (s : ScriptParts) (r : Runner) (who : Owner) (w : Wor
 -- ---- what an effect keeps
 
 module _ (body : ℕ → List Stmt) (now : ℕ) (who : Owner) (round : Round) (sub : Subsystem) where
-  -- it changes of the round at most the wanted mode, the pending correction and the global times
+  -- of the round it changes at most the wanted mode, the pending correction and the global times
   abbrev KeepsRound : Round → Type 0
   KeepsRound x = x ≡ record round { wanted = x.wanted; pending = x.pending; times_used = x.times_used }
 

@@ -111,7 +111,7 @@ ended_before c s zero = 0
 ended_before c s (suc n) = ended_before c s n + (if ends_at c s n then 1 else 0)
 
 -- the moves that were counted from one instant up to a last one are at most the statements that ended there, plus the
--- instants after the first at which something is due, up to the one after the last
+-- instants at which something is due, from the one after the first up to the one after the last
 abbrev pub FewMoves : ConfigParts → ScriptParts → (from last before after : ℕ) → Type 0
 FewMoves c s from last before after =
     after + (ended_before c s from + due_before c s (from + 1))

@@ -1,5 +1,4 @@
--- Ticks that are taken at once where nothing is due: ticks of `work` of the one who runs, and ticks at which nobody
--- runs.
+-- Ticks taken at once where nothing is due: ticks of `work` of the one who runs, and ticks at which nobody runs.
 use Rattle.std.specs.Prelude.{◌≡◌, ℕ, zero, suc, ◌+◌, ◌-◌, ◌≤◌, ◌&&◌, max, min, List, [], ◌∷◌, Some, ◌⊎◌}
 use Rattle.task_lang.specs.Tick.{work_then}
 use Rattle.task_lang.specs.declared.syntax.Stmt.{Stmt, out-Stmt}

@@ -13,7 +13,8 @@ use trace_text::Recorder;
 use tt_base::{Ledger, Memory, Steps};
 use tt_world::{Config, Script};
 
-/// An application with its script, and all that its run needs. Contracts see the two.
+/// An application with its script, and all that its run needs. Contracts see the configuration and
+/// the script.
 #[derive(Drop)]
 pub struct Bench {
     config: Config,

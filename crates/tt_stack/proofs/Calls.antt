@@ -172,7 +172,7 @@ module _ (inside : Inside)
       in_count = All-push (λ (n : ℕ). n < reached + 1) entries reached more_in_count (omega arith);
     }
 
-    -- the frame of one more activation is seen as that activation, with what is left of it
+    -- contracts see the frame of one more activation as that activation, with what is left of it
     pub task_begun : stacked codes first levels (with_task new_task s) (entries ++ reached ∷ []) (reached + 1)
         ≡ with_job (left_of codes frame) view
     unfolding with_jobs
@@ -283,7 +283,7 @@ module _ (inside : Inside)
           in_count = k.in_count;
         }
 
-        -- the frame of a routine that was finished is seen as that routine, with what is left of it
+        -- contracts see the frame of a routine that was finished as that routine, with what is left of it
         pub isr_begun : stacked codes first levels (with_isr_frame new_isr s) entries reached
             ≡ with_isr isr.0 (left_of codes frame) view
         unfolding with_isrs

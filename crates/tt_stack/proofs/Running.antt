@@ -51,7 +51,7 @@ shape_of (x ∷ xs) [] (n ∷ ns) same =
     (subst (λ entries. Shape (frames_of (front ++ f ∷ []) []) entries) (sym so)
     (Task_on_top front f before e (omega (arith, same, a, b))))
 
--- each stack whose entries are as many as its frames of tasks has one of these shapes
+-- each stack with as many entries as frames of tasks has one of these shapes
 pub shape : (s : Frames) (entries : List ℕ) → length entries ≡ length s.tasks → Shape s entries
 shape s entries same = shape_of s.tasks s.isrs entries same
 

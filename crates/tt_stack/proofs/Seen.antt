@@ -93,7 +93,7 @@ module _ (inside : Inside)
       (subst (λ v. IsSome (runner_in v)) (sym is) runs)
 
   module _ (top : Top) (r : Run top) where
-    -- contracts see the one of the frame on top run
+    -- the one that contracts see run is that of the frame on top
     pub runner_is : runner_in now ≡ Some r.who
     runner_is = ap runner_in (sym is) ∙ r.is
 
