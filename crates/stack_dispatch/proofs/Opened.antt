@@ -217,7 +217,7 @@ module _ {L : Type 0} {Told : L → List Event → L → Type 0} (telling : IsTe
           ∙ sym (enables_are (rows (mode_of c w)) u)
           ∙ ap (λ (es : List Enable). chain (map enable es) u) here) g
 
-      -- after the acceptances the activations stand as before, and no checked point is ahead of the offset
+      -- after the acceptances the activations are as before, and no point of an unfinished activation was passed
       pub before_activation : (e0 e1 e2 e3 e4 : L) (w1 w2 w3 w4 : World) (end : Outcome)
           → Gives Told e0 e1 w1 end (monitored_entries c table.mode
           (slice_range (checks_of table) d.checks_from d.checks_to) w) → end ≡ None
