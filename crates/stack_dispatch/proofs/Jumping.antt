@@ -65,9 +65,6 @@ module _ (c : ConfigParts) (s : ScriptParts) (t next : ℕ) (v : World) (b : Bes
   abbrev line : List Event
   line = run_line v (owner_of c v (runner_of c v))
 
-  abbrev worked_state : ℕ → RunState
-  worked_state k = record { world = at_work c k v; beside = b }
-
   -- after the opening of instant t + k the one who runs has taken k ticks of work since that of instant t, which left
   -- the world v and had the events es
   pub record Reached (k : ℕ) : Type 0 where
