@@ -22,8 +22,8 @@ declare -A about=(
   echo
   echo "Written by \`examples/index.sh\`. \`bash examples/run.sh\` runs each document through the built program:"
   echo "\`NAME.COMMAND.out\` is the text that COMMAND writes for \`NAME.osektime\`, and \`statuses.txt\` has the exit statuses that are not 0."
-  echo "Where the text is one line it stands, with its status, in \`answers.txt\`. Of a long text \`NAME.COMMAND.ends\` has the number of lines"
-  echo "and the last line."
+  echo "A text of one line is in \`answers.txt\`, with its status. For a long text \`NAME.COMMAND.ends\` has the number of lines and the last"
+  echo "line."
   for folder in start-here language runs deadlines interrupts rounds osek check tables hooks limits rules forms; do
     echo
     echo "## $folder"

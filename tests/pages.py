@@ -1,7 +1,8 @@
 #!/usr/bin/env python3
 """Holds the pages against the program and the sources. In a block of README.md or docs/, each line `$ COMMAND` is run at the top of the
-repository, and what it writes must be the lines that follow, up to the next command or the end of the block. A block of definitions,
-marked `antt`, must stand in a source file, but for its indents."""
+repository, and what it writes must be the lines that follow, up to the next command or the end of the block. A page may set several of
+these lines on one, with `; ` between them, and after three spaces or more say what they mean. A block of definitions, marked `antt`, must
+stand in a source file, but for its indents."""
 import pathlib
 import re
 import subprocess
@@ -17,6 +18,12 @@ def commands(page):
             for part in re.split(r"^\$ ", block, flags=re.M)[1:]:
                 command, _, text = part.partition("\n")
                 yield command, text
+
+
+def unfolded(text):
+    """A text of a page without what it says beside its lines, and with each line on one of its own."""
+    lines = [re.sub(r"(?<=\S) {3,}\S.*", "", line) for line in text.splitlines()]
+    return "".join(f"{part}\n" for line in lines for part in line.split("; "))
 
 
 def definitions(page):
@@ -40,7 +47,7 @@ def main():
     for page in [TOP / "README.md", *sorted((TOP / "docs").glob("*.md"))]:
         for command, text in commands(page):
             done = subprocess.run(["bash", "-c", command], cwd=TOP, capture_output=True, text=True, check=False)
-            if done.stdout == text and not done.stderr:
+            if done.stdout in (text, unfolded(text)) and not done.stderr:
                 passed += 1
             else:
                 failed += 1

@@ -152,7 +152,7 @@ module _ {L : Type 0} {Told : L → List Event → L → Type 0} (telling : IsTe
     accepted = λ before below. absurd (omega arith);
   }
 
-  -- the sources up to before a place were played, where none can be accepted
+  -- the sources before a place were played, where no interrupt of these can be accepted
   passed_to : (c : ConfigParts) (a b : L) (u w : World) (g : Window) (busy : BusySources) (to : ℕ)
       (at : Accepting Told c a b u w g busy) → at.place ≤ to → to ≤ length (sources c)
       → ((k : ℕ) → k < to → is_ready busy g (source_at c k) ≡ false)

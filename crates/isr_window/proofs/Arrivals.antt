@@ -52,7 +52,7 @@ new_left c s rules = record { left = λ k below. all (source_at c k) }
     all (OisrSource oisr) =
         sym (from_all 0 0 (arrivals_of s (OisrSource oisr)) (omega arith) (arrivals_ascend c s rules (OisrSource oisr)))
 
--- the next arrival at each source
+-- where the next arrival is not before a tick, the next one at each source is not
 pub each_next : (now : ℕ) (g : Window) → IsFrom now (next_tick g) → (x : Source)
     → IsFrom now (slice_get (left_at g x) 0)
 each_next now g from (IsrSource isr) =
@@ -60,7 +60,7 @@ each_next now g from (IsrSource isr) =
 each_next now g from (OisrSource oisr) =
     each_from now g.oisrs_left (from_both now (least_next g.isrs_left) (least_next g.oisrs_left) from).1 oisr.0
 
--- the least of the next arrivals at the sources
+-- where the next arrival at each source is not before a tick, the least of them is not
 next_from : (c : ConfigParts) (now : ℕ) (g : Window) → AreSourcesOf c g
     → ((k : ℕ) → k < length (sources c) → IsFrom now (slice_get (left_at g (source_at c k)) 0))
     → IsFrom now (next_tick g)
@@ -180,7 +180,7 @@ module _ {L : Type 0} {Told : L → List Event → L → Type 0} where
   taken_not_due c s a b u w g at k before =
       ap (is_next w.tick) (at.taken k before) ∙ later_is_not (w.tick) (arrivals_of s (source_at c k))
 
-  -- the sources before the first with an arrival have none
+  -- the first source with an arrival is not before the place that was reached
   pub first_after : (c : ConfigParts) (s : ScriptParts) (a b : L) (u w : World) (g : Window) (x : Source)
       (at : Arriving Told c s a b u w g) (first : IsFirst (is_due w.tick g) (sources c) no_source x)
       → at.place ≤ first.place
@@ -214,7 +214,7 @@ module _ {L : Type 0} {Told : L → List Event → L → Type 0} (telling : IsTe
     left = λ after from below. left.left after below;
   }
 
-  -- the sources up to before a place were played, where none has an arrival
+  -- the sources before a place were played, where none of them has an arrival
   passed_to : (c : ConfigParts) (s : ScriptParts) (a b : L) (u w : World) (g : Window) (to : ℕ) → IsScript c s
       → (at : Arriving Told c s a b u w g) → at.place ≤ to → to ≤ length (sources c)
       → ((k : ℕ) → k < to → is_due w.tick g (source_at c k) ≡ false)

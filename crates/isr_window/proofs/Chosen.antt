@@ -75,7 +75,7 @@ find_same test other (number ∷ rest) same =
     ap (λ passes. cond passes (Some number) (find test rest)) (same number)
     ∙ ap (cond (other number) (Some number)) (find_same test other rest same)
 
--- where an interrupt is held, it is enough that one is held
+-- it changes nothing to test twice whether an interrupt is held
 held_twice : (held free : Bool) → (held && free) ≡ (held && (held && free))
 held_twice true free = refl
 held_twice false free = refl
@@ -137,7 +137,7 @@ pub found_none : (flag : ℕ → Bool) (found : Option ℕ)
 found_none flag None e = refl
 found_none flag (Some n) e = absurd cc
 
--- what is not there
+-- an option that holds no element is None
 pub not_some : {X : Type 0} (o : Option X) → ((x : X) → o ≡ Some x → ⊥) → o ≡ None
 not_some None none = refl
 not_some (Some x) none = absurd (none x refl)

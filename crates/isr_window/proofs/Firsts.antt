@@ -19,7 +19,7 @@ passes_here test i n here passes =
     ap (find test) (range_here i n here)
     ∙ ap (λ b. cond b (Some i) (find test (range_with_len (i + 1) (n - (i + 1))))) passes
 
--- it fails, and those after it are left
+-- it fails: the numbers after it are left
 pub fails_here : (test : ℕ → Bool) (i n : ℕ) → i < n → test i ≡ false
     → find test (range_with_len i (n - i)) ≡ find test (range_with_len (i + 1) (n - (i + 1)))
 fails_here test i n here fails =
@@ -81,7 +81,7 @@ find-map test f (number ∷ rest) = by_test (test (f number)) (find-map test f r
 
 -- ---- no tick before the least one
 
--- a tick that there is, is this one or comes after it
+-- a tick is this one or comes after it, or there is none
 abbrev pub IsFrom : ℕ → Option ℕ → Type 0
 IsFrom now None = Unit {0}
 IsFrom now (Some tick) = now ≤ tick
@@ -106,19 +106,19 @@ pub is_not_at : (now : ℕ) (tick : Option ℕ) → IsFrom (now + 1) tick → is
 is_not_at now None after = refl
 is_not_at now (Some tick) after = let differ : tick ≢ now = omega arith in ne_eqb tick now differ
 
--- the lesser of two
+-- where the lesser of two is not before a tick, neither of them is
 pub from_both : (now : ℕ) (a b : Option ℕ) → IsFrom now (lesser a b) → (IsFrom now a) × (IsFrom now b)
 from_both now None b from = (tt, from)
 from_both now (Some x) None from = (from, tt)
 from_both now (Some x) (Some y) from = (omega arith, omega arith)
 
--- and of two ticks the lesser
+-- and back
 pub both_from : (now : ℕ) (a b : Option ℕ) → IsFrom now a → IsFrom now b → IsFrom now (lesser a b)
 both_from now None b from too = too
 both_from now (Some x) None from too = from
 both_from now (Some x) (Some y) from too = omega arith
 
--- the first tick of each list, and the least of them
+-- where the least of the first ticks is not before a tick, none of them is
 pub each_from : (now : ℕ) (lists : List (List ℕ)) → IsFrom now (least_next lists) → (k : ℕ)
     → IsFrom now (slice_get (get_or lists k []) 0)
 unfolding least_next
@@ -127,7 +127,7 @@ each_from now (ticks ∷ rest) from zero = (from_both now (slice_get ticks 0) (l
 each_from now (ticks ∷ rest) from (suc k) =
     each_from now rest (from_both now (slice_get ticks 0) (least_next rest) from).1 k
 
--- and the least of them
+-- and back
 pub from_each : (now : ℕ) (lists : List (List ℕ))
     → ((k : ℕ) → k < length lists → IsFrom now (slice_get (get_or lists k []) 0)) → IsFrom now (least_next lists)
 unfolding least_next

@@ -11,7 +11,7 @@ use Rattle.isr_window.proofs.Firsts.{IsFrom}
 use Rattle.isr_window.proofs.TickLists.{ascends}
 use Rattle.isr_window.proofs.Arrivals.{each_next}
 
--- ascending ticks are not before one at or before their first
+-- ticks that ascend from `least` on are not before a tick that is at most `least`
 all_from : (next least : ℕ) (ticks : List ℕ) → next ≤ least → ticks_ascend least ticks ≡ true
     → list_all (λ tick. nat_le next tick) ticks ≡ true
 all_from next least [] low up = refl
@@ -29,7 +29,7 @@ first_low next (tick ∷ rest) up from =
     ap (λ b. b && list_all (λ other. nat_le next other) rest) (le-leb next tick from)
     ∙ all_from next (tick + 1) rest (omega arith) (ascends 0 tick rest up).others
 
--- no tick is first where the least of the first is none
+-- a list is empty where its first tick is not before any number
 none_first : (ticks : List ℕ) → ((n : ℕ) → IsFrom n (slice_get ticks 0)) → ticks ≡ []
 none_first [] from = refl
 none_first (tick ∷ rest) from = let low : tick + 1 ≤ tick = from (tick + 1) in absurd (omega arith)

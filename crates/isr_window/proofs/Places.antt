@@ -77,12 +77,12 @@ none_found test (y ∷ ys) d e k below = by_test (test y) refl e (none_found tes
 
 -- ---- different places have different sources
 
--- the place of a source where n come before those of the OSEK subsystem
+-- the place of a source, given the number of time-triggered ones
 abbrev pub place_of : ℕ → Source → ℕ
 place_of isrs (IsrSource isr) = isr.0
 place_of isrs (OisrSource oisr) = isrs + oisr.0
 
--- a place below the number of the first kind, or after it
+-- the source at a place below the number of time-triggered ones
 pub isr_at : (c : ConfigParts) (k : ℕ) → k < length c.isrs → source_at c k ≡ isr_source k
 isr_at c k here =
     get_or-append (map isr_source (range_with_len 0 (length c.isrs)))
@@ -90,7 +90,7 @@ isr_at c k here =
     (rw (length-map-range_with_len isr_source 0 (length c.isrs)) here)
     ∙ get_or-map-range_with_len isr_source 0 (length c.isrs) k k no_source here (omega arith)
 
--- the source at a place after it
+-- the source at a place after these
 pub oisr_at : (c : ConfigParts) (k : ℕ) → k < length c.oisrs → source_at c (length c.isrs + k) ≡ oisr_source k
 oisr_at c k here =
     get_or-append_right (map isr_source (range_with_len 0 (length c.isrs)))

@@ -16,7 +16,7 @@ chain_silent part (x ∷ xs) d w silent =
     ap (λ m. followed m (chain (map part xs))) (silent 0 (omega arith))
     ∙ chain_silent part xs d w (λ k below. silent (suc k) (omega arith))
 
--- a part that does this
+-- a part that gives these events and goes on
 pub gives_this : {L : Type 0} {Told : L → List Event → L → Type 0} (b d : L) (w : World) (events : List Event)
     (m : Moved)
     → m ≡ goes_on w events → Told b events d → Gives Told b d w None m

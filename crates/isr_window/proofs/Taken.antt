@@ -4,7 +4,7 @@ use Rattle.std.specs.Prelude.{slice_get}
 use Rattle.std.proofs.lemmas.List.{set-get_or, drop_all}
 use Rattle.isr_window.specs.Inside.{untaken}
 
--- there is what is left of each list
+-- there are as many lists as before
 pub length_untaken : (taken : List ℕ) (lists : List (List ℕ)) → length (untaken taken lists) ≡ length lists
 length_untaken taken [] = refl
 length_untaken [] (ticks ∷ rest) = refl

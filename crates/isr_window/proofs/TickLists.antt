@@ -84,7 +84,7 @@ first_from now (tick ∷ rest) first e = by_order (cases_lt tick now) (first_fro
         let equal : tick ≡ first = cc in
         omega arith
 
--- where the first one from a tick on is at another or after it, nothing lies between
+-- where the first one from a tick on is not before another tick, there is none between the two
 pub from_jump : (now until least : ℕ) (ticks : List ℕ) → now ≤ until → ticks_ascend least ticks ≡ true
     → ForSome (slice_get (ticks_from now ticks) 0) (λ first. until ≤ first)
     → ticks_from now ticks ≡ ticks_from until ticks

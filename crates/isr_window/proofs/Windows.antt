@@ -69,13 +69,13 @@ pub is_enabled_is : (w : World) (g : Window) (x : Source) → is_enabled (with_w
 is_enabled_is w g (IsrSource x) = refl
 is_enabled_is w g (OisrSource x) = refl
 
--- an arrival where none is held is held
+-- where no interrupt is held, an arrival is held
 pub holding_is : (w : World) (g : Window) (x : Source)
     → holding (with_window w g) x true ≡ with_window w (taking (Some x) g)
 holding_is w g (IsrSource x) = refl
 holding_is w g (OisrSource x) = refl
 
--- an interrupt that is held stays the one that is held
+-- where an interrupt is held, an arrival leaves the world's gates as they are
 pub held_stays : (w : World) (g : Window) (x : Source) → held_at g x ≡ true
     → with_window w g ≡ with_window w (taking (Some x) g)
 held_stays w g (IsrSource x) held =

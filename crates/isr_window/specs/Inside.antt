@@ -1,4 +1,4 @@
--- The fields of the crate's values, and what they are seen as.
+-- The fields of the crate's values, and how contracts see them.
 use Rattle.std.specs.Prelude.{◌≡◌, ℕ, ◌≤◌, List, [], ◌∷◌, drop, length, take, count_by}
 use Rattle.isr_window.specs.declared.flags.Flags.TheInside.{Inside as FlagsInside}
 use Rattle.isr_window.specs.declared.busy.Busy.TheInside.{Inside as BusyInside}
@@ -15,7 +15,7 @@ pub record AreSixteen (b : BusyInside) : Type 0 where
   pub isrs : length b.isrs ≡ 16
   pub oisrs : length b.oisrs ≡ 16
 
--- what is left of each list after this many items of it
+-- what is left of each list after the number of items that were taken of it
 abbrev pub untaken : (taken : List ℕ) → List (List ℕ) → List (List ℕ)
 untaken taken [] = []
 untaken [] (ticks ∷ rest) = ticks ∷ rest

@@ -1,4 +1,4 @@
--- What the next arrival is among the arrivals to come.
+-- The next arrival among the arrivals to come.
 use Rattle.std.specs.Prelude.{◌≡◌, ℕ, nat_le, true, List, []}
 use Rattle.std.specs.List.{list_all}
 use Rattle.std.specs.Prelude.{Option, None, Some}
@@ -11,7 +11,7 @@ abbrev pub AreNotBefore : Option ℕ → List ℕ → Type 0
 AreNotBefore None left = left ≡ []
 AreNotBefore (Some next) left = list_all (λ tick. nat_le next tick) left ≡ true
 
--- the next arrival is the least of those to come at each source whose ticks ascend
+-- none of the arrivals to come at a source whose ticks ascend is before the next arrival
 abbrev pub NextIsLeast : Type 0
 NextIsLeast =
     (g : Window) (source : Source) → ticks_ascend 0 (left_at g source) ≡ true

@@ -11,12 +11,12 @@ first_number test count = find test (range_with_len 0 count)
 abbrev pub first_at : ℕ → List (List ℕ) → Option ℕ
 first_at now left = first_number (λ number. is_next now (slice_index_or left number [])) (length left)
 
--- the lists without the first tick of the one of a number
+-- the lists, without the first tick of the list of a number
 abbrev pub without_next : Option ℕ → List (List ℕ) → List (List ℕ)
 without_next None left = left
 without_next (Some number) left = slice_set left number (drop 1 (slice_index_or left number []))
 
--- the flags with this one at a number
+-- the flags, with this value at a number
 abbrev pub with_flag : Option ℕ → Bool → List Bool → List Bool
 with_flag None flag flags = flags
 with_flag (Some number) flag flags = slice_set flags number flag

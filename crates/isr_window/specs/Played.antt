@@ -1,4 +1,4 @@
--- What the sources of a run stand for in a world: how far the arrivals and the acceptances of an instant were played.
+-- The sources of a run as the gates of a world, and how far the arrivals and the acceptances of an instant were played.
 use Rattle.std.specs.Prelude.{◌≡◌, ℕ, ◌+◌, ◌<◌, ◌≤◌, not, Bool, true, false, List, None, length, map, slice_index_or, take}
 use Rattle.tt_base.specs.declared.event.Event.{Event}
 use Rattle.tt_base.specs.declared.event.Event.TheVariants.{Arrive, Merge}
@@ -20,7 +20,7 @@ use Rattle.isr_window.specs.Ticks.{ticks_from}
 abbrev pub with_window : World → Window → World
 with_window w g = record w { isrs_enabled = g.isrs_enabled; isrs_held = g.isrs_held; oisrs_held = g.oisrs_held }
 
--- what stands for a source at a place after the last one
+-- the source at a place after the last one
 abbrev pub no_source : Source
 no_source = IsrSource (record { 0 = 0 })
 
@@ -67,7 +67,7 @@ begun c (owner.Isr isr) w = leaving w (source_runner (IsrSource isr)) (routine_o
 begun c (owner.Oisr oisr) w = leaving w (source_runner (OisrSource oisr)) (routine_of c (OisrSource oisr))
 begun c _ w = w
 
--- of the sources at which an interrupt is held those are busy whose routines are unfinished
+-- a source at which an interrupt is held is busy exactly where its routine is unfinished
 pub record AreUnfinished (c : ConfigParts) (busy : BusySources) (w : World) (g : Window) : Type 0 where
   pub flags : (place : ℕ) → place < length (sources c) → held_at g (source_at c place) ≡ true
       → is_busy busy (source_owner (source_at c place)) ≡ not (is_done (left_of w (source_runner (source_at c place))))

@@ -74,7 +74,7 @@ is_at now (Some tick) = tick == now
 abbrev pub is_next : ℕ → List ℕ → Bool
 is_next now ticks = is_at now (slice_get ticks 0)
 
--- the lesser of two ticks, of those that there are
+-- the lesser of two ticks; where one is missing, the other
 abbrev pub lesser : Option ℕ → Option ℕ → Option ℕ
 lesser None other = other
 lesser (Some tick) None = Some tick
@@ -119,7 +119,7 @@ enabling isr g = record g { isrs_enabled = slice_set g.isrs_enabled isr.0 true }
 
 -- ---- acceptances
 
--- whether an interrupt can be accepted: one that is held, at a source that is enabled and not busy
+-- whether an interrupt of a source can be accepted: it is held, and the source is enabled and not busy
 abbrev pub is_ready : BusySources → Window → Source → Bool
 is_ready busy g source = held_at g source && (enabled_at g source && not (is_busy busy (source_owner source)))
 

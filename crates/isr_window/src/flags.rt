@@ -8,7 +8,7 @@ use std::marker::Model;
 /// The greatest number of sources of one kind.
 pub(crate) const MOST: usize = 16;
 
-/// Flags that contracts see as their list.
+/// Flags. Contracts see them as a list.
 #[derive(Debug, Drop)]
 pub(crate) struct Flags {
     flags: [bool; MOST],

@@ -14,15 +14,15 @@ use std::marker::Model;
 use tt_base::{IsrNo, OisrNo, Owner, Tick};
 use tt_world::Arrivals;
 
-/// An arrival that was taken: at this source, and whether it was lost into an interrupt that is
-/// held there.
+/// An arrival that was taken: its source, and whether it was merged with an interrupt that is held
+/// there.
 #[derive(Clone, Copy, Debug, PartialEq, Eq)]
 pub struct Arrived {
     pub source: Owner,
     pub merged: bool,
 }
 
-/// The interrupt sources of a run. Contracts see them as a record of these, but for the tick.
+/// The interrupt sources of a run. Contracts see them as a record of these fields, without `next`.
 #[derive(Debug, Drop)]
 pub struct Gates {
     isrs_enabled: Flags,
@@ -144,7 +144,7 @@ impl Gates {
         Some(Arrived { source, merged })
     }
 
-    /// Enables a time-triggered source, where it is there.
+    /// Enables the time-triggered source of this number, if there is one.
     pub fn enable(&mut self, isr: IsrNo)
         ensures { self.new ≡ enabling isr self.old }
     {
@@ -154,9 +154,9 @@ impl Gates {
         }
     }
 
-    /// Accepts the interrupt of the first source that is held, enabled and not busy, if there is
-    /// one, in the order of arrivals: it is no longer held, and a time-triggered source is
-    /// disabled.
+    /// Accepts the interrupt of the first source that holds one, is enabled and is not busy, if
+    /// there is one: it is no longer held, and a time-triggered source is disabled. The order of
+    /// the sources is that of `arrive`.
     pub fn accept_next(&mut self, busy: &Busy) -> Option<Owner>
         ensures value { result ≡ option_map source_owner (first_ready busy.now self.old) }
         ensures state { self.new ≡ accepting (first_ready busy.now self.old) self.old }
@@ -167,7 +167,7 @@ impl Gates {
             self.isrs_enabled.put(number, false);
             return Some(Owner::Isr(IsrNo(number as u16)));
         }
-        // Nothing closes a source of the OSEK subsystem: it is open wherever an interrupt is held.
+        // A source of the OSEK subsystem is always enabled: here, wherever an interrupt is held.
         let number = first_ready(&self.oisrs_held, &self.oisrs_held, busy.oisrs())?;
         self.oisrs_held.put(number, false);
         Some(Owner::Oisr(OisrNo(number as u16)))

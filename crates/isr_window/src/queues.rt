@@ -46,7 +46,7 @@ fn tick_at(ticks: &[Tick], place: usize) -> Option<Tick>
     ticks.get(place).copied()
 }
 
-/// The lesser of two ticks, of those that there are.
+/// The lesser of two ticks; where one is missing, the other.
 pub(crate) fn lesser(one: Option<Tick>, other: Option<Tick>) -> Option<Tick>
     ensures { result ≡ lesser one other }
 {

@@ -4,7 +4,7 @@ ghost use Rattle.std.specs.Prelude.{◌<◌};
 
 use tt_doc::{LineKind, LineStep, Span, integer, next_line, number, words};
 
-/// What is read of a line of `len` letters in front of others.
+/// What is read of a line of `len` letters that others follow.
 fn line_of_letters(len: usize) -> LineStep
     requires { len < 202 }
 {

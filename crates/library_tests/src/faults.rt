@@ -31,10 +31,10 @@ const TRACE: &[u8] = b"0 os start m
 10 stop
 ";
 
-/// Bytes of a piece that the source gives, and of one that the sink takes.
+/// How many bytes the source gives in each piece, and the sink takes in each.
 const CHUNK: usize = 16;
 
-/// The command `trace` where the read of one number and the write of another fail, counted from 0.
+/// The command `trace` where the read and the write of these numbers fail, counted from 0.
 fn check_trace<L: Ledger>(
     rt: &impl Abort,
     alloc: Global,

@@ -64,7 +64,7 @@ fn codes_of(alloc: Global, body: &Body) -> Result<Codes, Fail>
     Ok(codes)
 }
 
-/// A frame takes seven ticks, and puts out a value in the sixth.
+/// A frame takes seven ticks, and outputs a value in the sixth.
 fn check_ticks<L: Ledger>(
     rt: &impl Abort,
     frame: &mut Frame,
@@ -100,7 +100,7 @@ fn check_mixed<L: Ledger>(
     Ok(())
 }
 
-/// So many ticks of a work of a million are one call.
+/// `first` ticks of a work of a million are one call.
 #[tactic(auto, using(task_lang::specs::Opening::folds))]
 fn check_work<L: Ledger>(
     rt: &impl Abort,

@@ -27,7 +27,7 @@ fn sources(alloc: Global) -> Result<Gates, Fail> {
     Ok(Gates::new(Arrivals { isrs, oisrs }))
 }
 
-/// The next arrival: its tick, its source, and whether it was lost into one that is held.
+/// The next arrival: its tick, its source, and whether it was merged with one that is held.
 fn next(gates: &mut Gates) -> Option<(Tick, Owner, bool)> {
     let now = gates.next_arrival()?;
     let arrived = gates.arrive(now)?;

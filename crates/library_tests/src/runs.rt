@@ -1,4 +1,4 @@
-//! Whole runs of small documents, told to a list.
+//! Whole runs of small documents, reported to a list.
 
 ghost use Rattle.std.specs.Prelude.{◌≡◌, ◌<◌, ◌^◌, length};
 
@@ -58,7 +58,7 @@ fn report(ticks: u64, end: RunEnd) -> Report {
     }
 }
 
-/// A run is told to a list with room for all events, for all but one, and for none.
+/// A run is reported to a list with room for all events, for all but one, and for none.
 fn check_one_task<L: Ledger>(
     rt: &impl Abort,
     alloc: Global,

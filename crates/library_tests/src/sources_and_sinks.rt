@@ -1,5 +1,5 @@
 //! What no clause says: that memory is there, that a reader and a writer are used, and that their
-//! faults are told.
+//! faults are reported.
 
 use std::alloc::Global;
 use std::io;

@@ -28,7 +28,7 @@ with_routines tasks a b is = ap (λ xs. let s : Subsystem = record { tasks = tas
 
 -- ---- services
 
--- what a test found of readiness
+-- the status of a task that a test found ready
 pub limit : (ready found : Bool) → found ≡ ready → found ≡ true → 4 ≡ result_of ready
 limit ready found same is = sym (ap result_of (sym same ∙ is))
 

@@ -18,14 +18,14 @@ priorities slots = map (λ (slot : Slot). slot.priority) slots
 abbrev pub frames : List Slot → List (Option Frame)
 frames slots = map (λ (slot : Slot). slot.frame) slots
 
--- what is left where each frame stands
+-- what is left of each one that has a frame
 abbrev pub states : List (List Stmt) → List (Option Frame) → List (Option (List Stmt))
 states codes fs = map (option_map (left_of codes)) fs
 
 abbrev pub AreSound : List (List Stmt) → List (Option Frame) → Type 0
 AreSound codes fs = All (λ (f : Option Frame). IfSome f (IsSoundFrame codes)) fs
 
--- the subsystem that it stands for, with these codes
+-- the subsystem that the frames stand for, with these codes
 abbrev pub subsystem_of : List (List Stmt) → Osek → Subsystem
 subsystem_of codes osek = record {
   tasks = states codes (frames osek.tasks.items);

@@ -1,6 +1,5 @@
 -- The tasks and routines of the OSEK subsystem: what is left of each, and what a service makes of them. The OSEK/VDX
--- standard: the operating system's conformance class BCC1. That the routines stand above the tasks is the bench's
--- own.
+-- standard: the operating system's conformance class BCC1. That routines run before tasks is the bench's own rule.
 use Rattle.std.specs.Prelude.{◌≢◌, ℕ, ◌==◌, Bool, List, [], length, map, filter, Option, None, Some, if◌then◌else◌, IfSome, slice_index_or, slice_set}
 use Rattle.std.specs.List.{All, range_with_len}
 use Rattle.std.specs.Option.{is_some}
@@ -12,8 +11,8 @@ use Rattle.tt_world.specs.declared.config.ConfigParts.{ConfigParts}
 use Rattle.tt_world.specs.declared.config.OsekDef.{OsekDef}
 use Rattle.tt_world.specs.declared.config.OisrDef.{OisrDef}
 
--- what is left of each task that is ready, and of each routine that is unfinished. Between its last tick and its end
--- that is nothing.
+-- what is left of each task that is ready, and of each routine that is unfinished. Between its last tick and its end,
+-- the empty list is left of it.
 pub record Subsystem : Type 0 where
   pub tasks : List (Option (List Stmt))
   pub routines : List (Option (List Stmt))
@@ -24,7 +23,7 @@ pub record Setup : Type 0 where
   pub tasks : List ℕ
   pub routines : List ℕ
 
--- what is left of one: nothing of a task that is suspended, nor of a routine that is not unfinished
+-- what is left of a task or a routine: nothing where the task is suspended or the routine finished
 abbrev pub left_in : Option (List Stmt) → List Stmt
 left_in None = []
 left_in (Some left) = left
@@ -37,7 +36,7 @@ lefts states = map left_in states
 abbrev pub is_ready : {A : Type 0} → List (Option A) → ℕ → Bool
 is_ready states number = is_some (slice_index_or states number None)
 
--- the numbers of those that are
+-- the numbers of those that are ready, or unfinished
 abbrev pub ready_numbers : {A : Type 0} → List (Option A) → List ℕ
 ready_numbers states = filter (λ (number : ℕ). is_ready states number) (range_with_len 0 (length states))
 
@@ -67,7 +66,7 @@ owner_left s (Some (owner.Osek task)) = left_in (slice_index_or s.tasks task.0 N
 owner_left s (Some (owner.Oisr oisr)) = left_in (slice_index_or s.routines oisr.0 None)
 owner_left s _ = []
 
--- this is left of an owner; all others stay
+-- now this is left of an owner; all others stay
 abbrev pub owner_leaving : Option Owner → List Stmt → Subsystem → Subsystem
 owner_leaving (Some (owner.Osek task)) left s = record s { tasks = slice_set s.tasks task.0 (Some left) }
 owner_leaving (Some (owner.Oisr oisr)) left s = record s { routines = slice_set s.routines oisr.0 (Some left) }

@@ -14,8 +14,8 @@ use arrayvec::ArrayVec;
 use task_machine::{Codes, Env, Frame, Progress, advance};
 use tt_base::{Ledger, Steps};
 
-/// A task or a routine: its priority, of which a larger number is higher, and its frame. A task
-/// that is suspended has none, nor has a routine that is not unfinished.
+/// A task or a routine: its priority (a larger number is a higher one) and its frame. A suspended
+/// task has no frame, and neither has a finished routine.
 #[derive(Clone, Copy, Debug, Default)]
 pub(crate) struct Slot {
     pub(crate) priority: u8,
@@ -53,8 +53,8 @@ fn write_frame(slots: &mut [Slot], number: u16, frame: Option<Frame>)
     }
 }
 
-/// The number of the one of the highest priority among those that have a frame, the least of
-/// equals.
+/// Of those that have a frame, the number of the one of the highest priority; of equals, the least
+/// number.
 #[tactic(auto, using(crate::proofs::Highest::none_yet, crate::proofs::Highest::all_seen, crate::proofs::Highest::one_more, crate::proofs::Highest::none_more))]
 pub(crate) fn highest(slots: &[Slot]) -> Option<u16>
     requires { length slots.now ≤ 32 }
@@ -69,7 +69,7 @@ pub(crate) fn highest(slots: &[Slot]) -> Option<u16>
     best
 }
 
-/// Of two numbers the one of the higher priority.
+/// The one of two numbers that has the higher priority.
 fn higher(slots: &[Slot], number: u16, other: Option<u16>) -> u16
     ensures { result ≡ higher (priorities slots.now) number other }
 {

@@ -164,8 +164,8 @@ impl Osek {
         }
     }
 
-    /// Takes k ticks of the one that `picks` gives: one, or at most as many as the `work` at its
-    /// front has left. It suspends nobody, counts one step and takes no memory.
+    /// Takes k ticks of the one that `picks` gives: one, or at most the ticks left of the `work` at
+    /// its front. It suspends nobody, counts one step and takes no memory.
     pub fn advance<L: Ledger>(
         &mut self,
         codes: &Codes,

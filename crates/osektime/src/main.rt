@@ -12,7 +12,7 @@ use std::{env, io};
 use tt_base::{Blank, Ledger, Steps};
 use tt_io::{StdSink, StdSource};
 
-/// The exit status where the words cannot be had as text. No command answers it.
+/// The exit status where the words cannot be read as text. No command answers it.
 const NOT_TEXT: u8 = 13;
 
 fn main(rt: HostRuntime) -> ExitCode {

@@ -6,7 +6,7 @@ use Rattle.std.proofs.lemmas.Bool.{le-leb, lt-leb}
 use Rattle.std.proofs.lemmas.Int.{ints}
 use Rattle.tt_world.specs.Correction.{ahead, correction_by, correction_of}
 
--- how far the global time is ahead, where the global time is first taken within the round
+-- how far the global time is ahead, where the global time is first taken modulo the round
 ahead_is : (round offset global a : ℕ) → a ≡ (global % round + (round - offset % round)) % round
     → a ≡ ahead round offset global
 ahead_is round offset global a e = e ∙ mod-add-mod global round (round - offset % round)

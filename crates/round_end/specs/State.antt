@@ -2,7 +2,7 @@
 use Rattle.round_end.specs.declared.state.RoundState.TheInside.{Inside}
 use Rattle.round_end.specs.Round.{Round}
 
--- the same by name
+-- each field is the one of the same name
 abbrev pub round_of : Inside → Round
 round_of s = record {
   round = s.round;

@@ -4,8 +4,8 @@ ghost use Rattle.std.specs.Prelude.{◌≡◌, ◌<◌, ◌≤◌, ◌*◌};
 ghost use Rattle.tt_world.specs.Correction.{correction_of, length_with};
 ghost use Rattle.round_end.specs.Round.{IsWithin};
 
-/// The correction that ttSyncTimes asks for at an offset of a round of this length, by a global
-/// time and at most by the greatest correction, all in ticks. The OSEK/VDX standard:
+/// The correction that ttSyncTimes asks for at an offset of a round of this length, from a global
+/// time; it is at most the greatest correction. All are in ticks. The OSEK/VDX standard:
 /// synchronisation with a global time; the formula is the bench's own.
 pub(crate) fn correction(round: u64, adjust: u64, offset: u64, global: u64) -> i64
     requires some { 2 ≤ round }

@@ -18,7 +18,7 @@ pub enum RoundStep {
     Next(u32, ModeNo),
 }
 
-/// The present round, and what the next one will be. Contracts see it as a record of these.
+/// The present round, and what the next one will be. Contracts see it as a record of these fields.
 #[derive(Debug, Drop)]
 pub struct RoundState {
     round: u64,
@@ -48,8 +48,8 @@ impl Model for RoundState {
 }
 
 impl RoundState {
-    /// Round 1 of a run, which begins at tick 0 in the start mode: of this many rounds, with these
-    /// global times in ticks.
+    /// Round 1 of a run of this many rounds, with these global times in ticks: it begins at tick 0
+    /// in the start mode.
     pub fn new(config: &Config, start: ModeNo, rounds: u32, times: Series<u64>) -> RoundState
         requires mode { start.0 < length config.now.modes }
         requires rounds { 1 ≤ rounds }
@@ -132,9 +132,9 @@ impl RoundState {
         self.wanted = mode;
     }
 
-    /// A call at a tick: 0, and the next global time asks for a correction of the next round whose
-    /// length is latched; 1 where no global time is left, and then nothing has changed. The
-    /// OSEK/VDX standard: ttSyncTimes.
+    /// A call at a tick answers 0, and the next global time asks for a correction of the next round
+    /// whose length is latched; or it answers 1 where no global time is left, and then nothing has
+    /// changed. The OSEK/VDX standard: ttSyncTimes.
     pub fn sync(&mut self, now: Tick) -> u8
         requires { self.old.start ≤ now }
         ensures value { result ≡ sync_result (next_time self.old) }
@@ -150,8 +150,8 @@ impl RoundState {
         }
     }
 
-    /// The latch, which fixes the length of the round: the correction that it takes, in ticks. The
-    /// latch is the bench's own.
+    /// The latch, which fixes the length of the round: it answers the correction that the round
+    /// takes, in ticks. The latch is the bench's own.
     pub fn latch(&mut self) -> i64
         requires { self.old.latched ≡ None }
         ensures value { result ≡ self.old.pending }

@@ -15,11 +15,11 @@ use Rattle.round_table.specs.Cuts.{IsCut}
 use Rattle.round_table.proofs.Cutting.{filter_all, filter_none, filter_split, cut_length}
 
 module _ {X : Type 0} (key : X → ℕ) (xs : List X) (up : IsNonDecreasingBy key xs) where
-  -- those of an offset
+  -- the rows of an offset
   abbrev pub rows_at : ℕ → List X
   rows_at k = filter (λ x. key x == k) xs
 
-  -- those before an offset, one offset after another
+  -- the rows before an offset, one offset after another
   below_rows : (offset : ℕ) → filter (λ x. nat_lt (key x) offset) xs ≡ below rows_at offset
   unfolding below
   below_rows zero = filter_none (λ x. nat_lt (key x) 0) xs (λ k d l. le-ltb _ 0 (omega arith))
@@ -33,7 +33,7 @@ module _ {X : Type 0} (key : X → ℕ) (xs : List X) (up : IsNonDecreasingBy ke
         more : (n : ℕ) → (nat_lt n offset || (n == offset)) ≡ nat_lt n (suc offset)
         more n = grind (arith, nat_tests)
 
-  -- what each offset has of a list that is made of the rows
+  -- a list that is made of the rows, and what each offset has of it
   module _ {Y : Type 0} (f : X → Y) (at : ℕ → List Y) (same : (k : ℕ) → map f (rows_at k) ≡ at k) where
     map_below : (offset : ℕ) → map f (below rows_at offset) ≡ below at offset
     unfolding below
@@ -50,7 +50,7 @@ module _ {X : Type 0} (key : X → ℕ) (xs : List X) (up : IsNonDecreasingBy ke
         ∙ below_rows limit)
         ∙ map_below limit
 
-    -- the rows before an offset are as many as the offsets below it have
+    -- there are as many rows before an offset as the offsets below it have
     pub place_is : (offset place : ℕ) → IsCut (λ x. nat_lt (key x) offset) xs place → place ≡ length (below at offset)
     place_is offset place cut =
         cut_length (λ x. nat_lt (key x) offset) xs place cut
@@ -60,7 +60,7 @@ module _ {X : Type 0} (key : X → ℕ) (xs : List X) (up : IsNonDecreasingBy ke
 
   -- ---- cuts
 
-  -- the place before an offset is that of each later offset up to the row at the place
+  -- the place of an offset is also that of each later offset, up to the offset of the row at the place
   pub cut_later : (offset later place : ℕ) → offset ≤ later → IsCut (λ x. nat_lt (key x) offset) xs place
       → IfSome (option_map key (slice_get xs place)) (λ next. later ≤ next) → IsCut (λ x. nat_lt (key x) later) xs place
   cut_later offset later place le cut next = record {
@@ -73,7 +73,7 @@ module _ {X : Type 0} (key : X → ℕ) (xs : List X) (up : IsNonDecreasingBy ke
         le-ltb _ later (omega arith);
   }
 
-  -- the offset of the row at the place is not an earlier one, and the place after it is a later one
+  -- the row at the place has no earlier offset, and the place after that row's offset is a later one
   pub moves : (offset place next to : ℕ) → IsCut (λ x. nat_lt (key x) offset) xs place
       → option_map key (slice_get xs place) ≡ Some next
       → IsCut (λ x. nat_lt (key x) (suc next)) xs to → (offset ≤ next) × (place < to)
@@ -94,7 +94,7 @@ module _ {X : Type 0} (key : X → ℕ) (xs : List X) (up : IsNonDecreasingBy ke
     past : (length xs ≤ place) × (slice_get xs place ≡ None) → (offset ≤ next) × (place < to)
     past none = let at : None ≡ Some next = ap (option_map key) (sym none.1) ∙ is in cc
 
-  -- where two offsets have one place, no row stands between them
+  -- where two offsets have the same place, no row is between them
   pub absent : (offset later place : ℕ) → IsCut (λ x. nat_lt (key x) offset) xs place
       → IsCut (λ x. nat_lt (key x) later) xs place
       → (k : ℕ) → offset ≤ k → k < later → All (λ x. (key x == k) ≡ false) xs
@@ -123,7 +123,7 @@ position_none test xs d h =
     (position_or_len_is test xs (length xs) d (omega arith) (λ k l. h k d l) (λ l. absurd (omega arith)))
     ∙ cond-false (nat_lt (length xs) (length xs)) _ _ (le-ltb (length xs) (length xs) (omega arith))
 
--- the first row of an offset stands at its place, where the next offset has a later place
+-- the first row of an offset is at its place, where the next offset has a later place
 pub first_at : {X : Type 0} (key : X → ℕ) (xs : List X) (d : X) (offset from to : ℕ)
     → IsCut (λ x. nat_lt (key x) offset) xs from
     → IsCut (λ x. nat_lt (key x) (suc offset)) xs to

@@ -27,7 +27,7 @@ none_is : {X : Type 0} (o : Option X) → is_none o ≡ true → o ≡ None
 none_is None e = refl
 none_is (Some x) e = cc
 
--- the test whether nothing stands at an offset
+-- the test whether nothing is due at an offset
 pub free_from_test : (offset : ℕ) (mode : ModeDef) → is_free offset mode ≡ true → IsFree offset mode
 free_from_test offset mode e =
     let all = and_parts (length (entries_due (is_at offset) mode) == 0) _ e in
@@ -48,7 +48,7 @@ module _ (table : TableRows) where
   pub none_at : (offset : ℕ) → is_free offset table.mode ≡ true → expiry_at table offset ≡ []
   none_at offset e = cond-true (is_free offset table.mode) _ _ e
 
-  -- the expiry points ascend strictly, and those of the offsets below a number are at such offsets
+  -- the expiry points of the offsets below a number are at such offsets, and ascend strictly
   points_ascend : (n : ℕ) → All (λ (p : ExpiryPoint). p.offset < n) (expiry_below table n)
       × AllPairs (λ (p later : ExpiryPoint). p.offset < later.offset) (expiry_below table n)
   unfolding below
@@ -93,7 +93,7 @@ module _ (table : TableRows) where
         filter_all (λ (p : ExpiryPoint). nat_lt p.offset offset) (expiry_below table n)
         (λ k d l. let less = (points_ascend n).0 k d l in lt-ltb _ offset (omega arith))
 
-    -- those before an offset are those of the offsets below it
+    -- the expiry points before an offset are those of the offsets below it
     some_before : (n : ℕ) → offset ≤ n → filter before (expiry_below table n) ≡ expiry_below table offset
     unfolding below
     some_before zero le = let none : 0 ≡ offset = omega arith in ap (expiry_below table) none
@@ -156,7 +156,7 @@ module _ (table : TableRows) where
           still = λ later l b. let same : offset ≡ later = omega arith in ap (λ o. length (expiry_below table o)) same;
         })
 
-    -- an offset where nothing stands has the next expiry point of the offset after it
+    -- an offset where nothing is due has the next expiry point of the offset after it
     later_too : (offset place : ℕ) (found : Option ExpiryPoint) → IsFree offset table.mode → IsCursor table place offset
         → IsNextPoint table place (suc offset) found → IsNextPoint table place offset found
     later_too offset place found free cursor next = record {
@@ -193,7 +193,7 @@ module _ (table : TableRows) where
         ⊎_elim (λ e. later offset e (next_from (suc offset) more (omega arith))) (λ e. here offset (omega arith) e)
         (cases_Bool (is_free offset table.mode))
 
-    -- the place before which the points with lesser offsets stand is the cursor
+    -- the place after the points with lesser offsets is the cursor
     pub cursor_at : (place offset : ℕ)
         → IsCut (λ (p : ExpiryPoint). nat_lt p.offset offset) (expiry_points table) place → IsCursor table place offset
     cursor_at place offset cut =

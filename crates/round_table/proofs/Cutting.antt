@@ -59,7 +59,7 @@ module _ {X : Type 0} (test : X → Bool) where
       }))
       ∙ sym (ap length (cond-true (test x) (x ∷ filter test xs) (filter test xs) (h.front 0 x (omega arith))))
 
--- what passes one of two tests, where nothing that passes the first stands at or after what passes the second
+-- the elements that pass one of two tests, where none that passes the first is at or after one that passes the second
 module _ {X : Type 0} (p q : X → Bool) where
   abbrev pub IsApart : List X → Type 0
   IsApart xs = (i j : ℕ) (d : X) → i ≤ j → j < length xs → q (get_or xs i d) ≡ true → p (get_or xs j d) ≡ true → ⊥

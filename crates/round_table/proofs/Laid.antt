@@ -8,13 +8,13 @@ use Rattle.std.proofs.lemmas.List.Elements.{All-append, All-nil}
 use Rattle.std.proofs.Math.Seq.{take-append_seam, drop-append_seam}
 use Rattle.round_table.specs.Below.{below}
 
--- the element after a front
+-- the element after a prefix
 slice_get-seam : {X : Type 0} (front : List X) (x : X) (rest : List X)
     → slice_get (front ++ x ∷ rest) (length front) ≡ Some x
 slice_get-seam [] x rest = refl
 slice_get-seam (y ∷ front) x rest = slice_get-seam front x rest
 
--- the part after a front
+-- the part after a prefix
 slice_range-seam : {X : Type 0} (front part rest : List X) (i j : ℕ) → i ≡ length front → j ≡ i + length part
     → slice_range (front ++ (part ++ rest)) i j ≡ part
 slice_range-seam front part rest i j is js =
@@ -24,7 +24,7 @@ slice_range-seam front part rest i j is js =
     ∙ ap (take (length part)) (drop-append_seam front (part ++ rest))
     ∙ take-append_seam part rest
 
--- the end after a front
+-- the rest after a prefix
 pub slice_range-end : {X : Type 0} (front rest : List X)
     → slice_range (front ++ rest) (length front) (length (front ++ rest)) ≡ rest
 slice_range-end front rest =
@@ -46,7 +46,7 @@ module _ {X : Type 0} (at : ℕ → List X) where
   pub below_rises : (k n : ℕ) → k ≤ n → length (below at k) ≤ length (below at n)
   below_rises k n le = let b = below_begins k n le in omega (arith, ap length b.1, length-append (below at k) b.0)
 
-  -- what there is at a number stands after what there is below it
+  -- what there is at a number comes after what there is below it
   below_parts : (k n : ℕ) → k < n → (rest : List X) × (below at n ≡ below at k ++ (at k ++ rest))
   unfolding below
   below_parts k n l = let b = below_begins (suc k) n (omega arith) in (b.0, b.1 ∙ append_assoc (below at k) (at k) b.0)
@@ -89,7 +89,7 @@ module _ {X : Type 0} (at : ℕ → List X) where
   all_below P h zero = All-nil P
   all_below P h (suc n) = All-append P (below at n) (at n) (all_below P h n) (h n)
 
-  -- a list that is laid out below a number from which on there is nothing, with others after it
+  -- a list that is laid out below a number, and others after it; from that number on there is nothing
   module _ (n : ℕ) (others : List X) (past : (k : ℕ) → n ≤ k → at k ≡ []) where
     pub below_past : (k : ℕ) → n ≤ k → below at k ≡ below at n
     below_past k g = below_still n k g (λ j nj jk. past j nj)

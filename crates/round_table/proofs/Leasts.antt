@@ -12,7 +12,7 @@ use Rattle.tt_world.specs.Points.{least_from, lesser_or}
 use Rattle.round_table.specs.Cuts.{IsCut}
 
 module _ (from : ℕ) where
-  -- where all come before there is none
+  -- where all offsets come before `from`, there is none
   least_past : (xs : List ℕ) → All (λ x. x < from) xs → least_from from xs ≡ None
   least_past [] h = refl
   least_past (x ∷ xs) h =
@@ -20,7 +20,7 @@ module _ (from : ℕ) where
       ∙ least_past xs (All-tail (λ y. y < from) x xs h)
 
   module _ (m : ℕ) where
-    -- none of the offsets at or after it is less
+    -- no offset at or after `from` is less than `m`
     abbrev IsBound : List ℕ → Type 0
     IsBound xs = All (λ x. from ≤ x → m ≤ x) xs
 
@@ -53,7 +53,7 @@ module _ (from : ℕ) where
         ap (λ o. Some (lesser_or x o)) rest ∙ ap Some same)
         (λ _. rest)
 
--- it stands at the place before which the lesser ones stand
+-- it is at the place after the lesser ones
 pub least_at : (from : ℕ) (xs ys : List ℕ) (place : ℕ) → IsPermutation xs ys → IsNonDecreasing ys
     → IsCut (λ x. nat_lt x from) ys place
     → slice_get ys place ≡ least_from from xs

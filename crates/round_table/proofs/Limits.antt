@@ -1,5 +1,5 @@
--- The monitoring points of a mode whose rows are within a limit: none comes after it, and where one is the limit none
--- is the round's end.
+-- The monitoring points of a mode whose rows are within a limit: none comes after the limit, and where one is at the
+-- limit, none is the round's end.
 use Rattle.std.proofs.Common.{ℕ, zero, suc, ◌≡◌, ◌≤◌, ◌<◌, ◌+◌, Bool, true, false, List, [], ◌∷◌, ◌++◌, length, get_or, map, Option, None, Some, refl, sym, ap, ◌∙◌, subst, ⊎_elim, arith}
 use Rattle.std.specs.Prelude.{◌==◌, nat_le, nat_lt, min, flat_map, IfSome}
 use Rattle.std.specs.List.{All}
@@ -59,7 +59,7 @@ module _ (P : ℕ → Type 0) where
       cond_both (nat_le from x) _ _ (λ (o : Option ℕ). IfSome o P)
       (λ _. lesser x (least_from from xs) (All-head P x xs h) rest) (λ _. rest)
 
--- where there is none, all come before
+-- where there is none, all offsets come before `from`
 pub least_none : (from : ℕ) (xs : List ℕ) → least_from from xs ≡ None → All (λ x. x < from) xs
 least_none from [] e = All-nil (λ x. x < from)
 least_none from (x ∷ xs) e =
@@ -138,7 +138,7 @@ module _ (limit : ℕ) (mode : ModeDef) (within : IsWithin limit mode) where
       → IfOffset (λ offset. offset ≤ limit) (point_of mode (row_of mode entry))
   point_within entry l = point_all (λ o. o ≤ limit) mode offsets (row_of mode entry) (λ _. deadlines entry no_row l)
 
-  -- nothing stands after the limit
+  -- nothing is due after the limit
   pub past_free : (offset : ℕ) → limit < offset → IsFree offset mode
   past_free offset l = record {
     checks =

@@ -55,7 +55,7 @@ pub due_same : {a a' b b' c c' d d' : ℕ} {e e' : Option ℕ} → a ≡ a' → 
     (record { checks_from = a'; checks_to = b'; enables_from = c'; enables_to = d'; activation = e' })
 due_same p q r s t = rw (p, q, r, s, t) refl
 
--- before anything
+-- the places at the start are those of offset 0
 pub places_first : (rows : ModeRows) → ArePlaces rows 0 (record { activations = 0; enables = 0; checks = 0 })
 places_first rows = record { activations = first _ _; enables = first _ _; checks = first _ _ } where
   first : {X : Type 0} (key : X → ℕ) (xs : List X) → IsCut (λ x. nat_lt (key x) 0) xs 0
@@ -98,7 +98,7 @@ module _ (rows : ModeRows) (order : AreInOrder rows) where
               others.1;
         }
 
-    -- and nothing stands before it
+    -- and nothing is due before it
     pub free_before : (k : ℕ) → offset ≤ k → IfSome (next_offset rows places) (λ next. k < next) → IsFree k rows.mode
     free_before k le next =
         let more = later_places (suc k) (omega arith) next in
@@ -176,7 +176,7 @@ module _ (rows : ModeRows) (order : AreInOrder rows) where
           (first_at of_activation rows.mode.activations no_row next places.activations after.activations
           there.activations ends.activations)
 
-      -- something stands there
+      -- something is due there
       not_free : is_free next rows.mode ≡ false
       not_free = false_from_ne_true _ (λ test. none (free_from_test next rows.mode test)) where
         none : IsFree next rows.mode → ⊥

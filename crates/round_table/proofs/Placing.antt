@@ -1,4 +1,4 @@
--- What stands at an offset, in the lists of a table.
+-- What is due at an offset, in the lists of a table.
 use Rattle.std.proofs.Common.{ℕ, zero, suc, ◌≡◌, ◌≤◌, ◌<◌, ◌+◌, ◌-◌, Bool, true, false, List, [], ◌∷◌, ◌++◌, length, length-append, get_or, map, Option, None, Some, refl, sym, ap, ◌∙◌, subst, ⊎_elim, append_assoc, arith}
 use Rattle.std.specs.Prelude.{◌||◌, ◌==◌, filter, slice_get, slice_range, IfSome}
 use Rattle.std.specs.List.{All}
@@ -151,7 +151,7 @@ module _ (table : TableRows) (within : IsWithin table.limit table.mode) where
   past_limit long l (point.At offset) le = sym (lt-leb long offset (omega arith))
   past_limit long l point.RoundEnd le = refl
 
-  -- at the limit, they are those at the limit or at the round's end, of which there are not both
+  -- at the limit, they are those at the limit or at the round's end; there are not both
   at_limit : (p : Point) → IfOffset (λ offset. offset ≤ table.limit) p
       → (is_at table.limit p || is_round_end p) ≡ is_at_end table.limit p
   at_limit (point.At offset) le = grind (arith, nat_tests)
@@ -188,7 +188,7 @@ module _ (table : TableRows) (within : IsWithin table.limit table.mode) where
       ∙ both))
       (cases_lt table.limit long)
 
-  -- ---- an offset at which nothing stands
+  -- ---- an offset at which nothing is due
 
   due_none : (offset later : ℕ) → offset < later → ((k : ℕ) → offset ≤ k → k < later → IsFree k table.mode)
       → none_due (length (checks_below table.mode later)) (length (enables_below table.mode later))
@@ -245,7 +245,7 @@ module _ (table : TableRows) (within : IsWithin table.limit table.mode) where
         by None ahead less = tt
         by (Some p) ahead less = (ahead, omega arith)
 
-  -- between the two nothing stands
+  -- nothing is due between the two
   pub free_between : (offset between : ℕ) → offset < between
       → IfSome (next_after offset table) (λ next. between < next) → IsFree between table.mode
   free_between offset between lt before =

@@ -106,7 +106,7 @@ all_weaker p q imp (x ∷ xs) h =
     let parts = and_parts (p x) (list_all p xs) h in rw (imp x parts.0, all_weaker p q imp xs parts.1) refl
 
 module _ (c : ConfigParts) where
-  -- a row's offset comes before its deadline, and that not after the limit
+  -- a row's offset comes before its deadline, and its deadline not after the limit
   pub deadline_parts : (row : Activation) → is_activation c row ≡ true
       → (row.offset < row.deadline) × (row.deadline ≤ c.round - c.adjust)
   deadline_parts row h =
@@ -130,7 +130,7 @@ module _ (c : ConfigParts) where
         (λ row e. le-leb _ _ (deadline_parts row e).1) mode.activations h.activations;
   }
 
-  -- each mode of a configuration, also one that is not there
+  -- the mode of each number, also of one that has none
   pub config_within : (n : ℕ) → IsConfig c → IsWithin (c.round - c.adjust) (mode_at c n)
   config_within n rules =
       ⊎_elim (λ (l : n < length c.modes). mode_within (mode_at c n)

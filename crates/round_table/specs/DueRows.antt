@@ -1,4 +1,4 @@
--- What stands at an offset of a dispatcher table, and where in the lists of the table.
+-- What is due at an offset of a dispatcher table, and at which places in the table's lists.
 use Rattle.std.specs.Prelude.{ℕ, suc, Bool, true, false, List, ◌++◌, map, filter, length, None}
 use Rattle.std.specs.List.{range_with_len}
 use Rattle.tt_base.specs.declared.number.IsrNo.{IsrNo}
@@ -51,7 +51,7 @@ enables_of table = isrs_of table.mode.enables
 
 -- ---- what is due
 
--- what is due at an offset: after the places of what comes before it, up to that, and the activation
+-- what is due at an offset: its ranges of places in the lists of checks and of enables, and its activation
 abbrev pub due_at : ℕ → TableRows → Due
 due_at offset table = record {
   checks_from = length (checks_below table.mode offset);
@@ -61,7 +61,7 @@ due_at offset table = record {
   activation = entry_at offset table.mode.activations;
 }
 
--- what is due where nothing is, before a check and an enable at these places
+-- nothing is due: the ranges are empty, at these places, and no row activates
 abbrev pub none_due : (check enable : ℕ) → Due
 none_due check enable =
     record { checks_from = check; checks_to = check; enables_from = enable; enables_to = enable; activation = None }

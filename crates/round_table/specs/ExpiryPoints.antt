@@ -21,19 +21,19 @@ pub record IsDue (table : TableRows) (offset : ℕ) (due : Due) : Type 0 where
   pub activation : due.activation ≡ entry_at offset table.mode.activations
   pub activation_within : IfSome due.activation (λ entry. entry < length table.mode.activations)
 
--- nothing stands at an offset
+-- nothing is due at an offset
 pub record IsFree (offset : ℕ) (mode : ModeDef) : Type 0 where
   pub checks : entries_due (is_at offset) mode ≡ []
   pub enables : enables_at offset mode.enables ≡ []
   pub activation : entry_at offset mode.activations ≡ None
 
--- whether nothing stands at an offset
+-- whether nothing is due at an offset
 abbrev pub is_free : ℕ → ModeDef → Bool
 is_free offset mode =
     (length (entries_due (is_at offset) mode) == 0)
     && ((length (enables_at offset mode.enables) == 0) && is_none (entry_at offset mode.activations))
 
--- the expiry point of an offset, if something stands there
+-- the expiry point of an offset, if something is due there
 abbrev pub expiry_at : TableRows → ℕ → List ExpiryPoint
 expiry_at table offset =
     if is_free offset table.mode then [] else record { offset = offset; due = due_at offset table } ∷ []
@@ -42,7 +42,7 @@ expiry_at table offset =
 abbrev pub expiry_below : TableRows → ℕ → List ExpiryPoint
 expiry_below table offset = below (expiry_at table) offset
 
--- the expiry points of a table in ascending order: one for each offset at which something stands
+-- the expiry points of a table in ascending order: one for each offset at which something is due
 abbrev pub expiry_points : TableRows → List ExpiryPoint
 expiry_points table = expiry_below table (suc table.limit)
 
@@ -54,11 +54,11 @@ next_after offset table =
 
 -- ---- cursors
 
--- a place in the list of expiry points is the number of those before an offset
+-- the place is the cursor of an offset: the number of the expiry points before it
 abbrev pub IsCursor : TableRows → (place offset : ℕ) → Type 0
 IsCursor table place offset = place ≡ length (expiry_below table offset)
 
--- what stands at the place of a cursor is the first expiry point at or after the cursor's offset
+-- what is found at a cursor's place is the first expiry point at or after the cursor's offset
 pub record IsNextPoint (table : TableRows) (place offset : ℕ) (found : Option ExpiryPoint) : Type 0 where
   -- it comes at the offset or after it
   pub ahead : IfSome found (λ p. offset ≤ p.offset)
@@ -66,7 +66,7 @@ pub record IsNextPoint (table : TableRows) (place offset : ℕ) (found : Option 
   pub due : IfSome found (λ p. p.due ≡ due_at p.offset table)
   -- the next place is the cursor of the offset after it
   pub next : IfSome found (λ p. IsCursor table (place + 1) (p.offset + 1))
-  -- from the offset up to below it nothing stands
+  -- nothing is due from the cursor's offset up to below the point's
   pub free : (between : ℕ) → offset ≤ between → IfSome found (λ p. between < p.offset) → IsFree between table.mode
-  -- and the place stays the cursor up to it
+  -- the place stays the cursor up to the point's offset
   pub still : (later : ℕ) → offset ≤ later → IfSome found (λ p. later ≤ p.offset) → IsCursor table place later

@@ -20,8 +20,8 @@ pub record IsWithin (limit : ℕ) (mode : ModeDef) : Type 0 where
   pub enables_below : list_all (λ (row : Enable). nat_lt row.offset limit) mode.enables ≡ true
   pub deadlines : list_all (λ (row : Activation). nat_le row.deadline limit) mode.activations ≡ true
 
--- what is kept beside the rows: the monitoring point of each activation, the checks and the place of the first at the
--- round's end, and the expiry points
+-- what is kept beside the rows: the monitoring point of each activation, the checks, the place of the first check at
+-- the round's end, and the expiry points
 pub record IsTable (table : TableRows) (points : List Point) (checks : List ℕ) (end : ℕ)
     (expiry : List ExpiryPoint) : Type 0 where
   pub rows : IsWithin table.limit table.mode

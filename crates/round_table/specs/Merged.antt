@@ -34,7 +34,7 @@ abbrev pub earlier : Option ℕ → Option ℕ → Option ℕ
 earlier None other = other
 earlier (Some offset) other = Some (lesser_or offset other)
 
--- the least offset at which something stands from these places on
+-- the least offset of the rows and the checks from these places on
 abbrev pub next_offset : ModeRows → Places → Option ℕ
 next_offset rows places =
     earlier (option_map (λ (row : Activation). row.offset) (slice_get rows.mode.activations places.activations))

@@ -5,8 +5,8 @@ use Rattle.tt_world.specs.declared.config.ModeDef.{ModeDef}
 use Rattle.tt_world.specs.declared.config.ConfigParts.{ConfigParts}
 use Rattle.tt_world.specs.Rows.{no_mode}
 
--- the rows of a mode, and the round's length L less the greatest correction A: the offset at which a round ends at the
--- earliest, before which each activation and enable stands, and up to which each deadline
+-- the rows of a mode, and a limit: the round's length L less the greatest correction A, at which a round ends at the
+-- earliest. Each activation and enable comes before it, and no deadline after it
 pub record TableRows : Type 0 where
   pub mode : ModeDef
   pub limit : ℕ

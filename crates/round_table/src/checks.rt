@@ -11,7 +11,7 @@ use std::marker::Model;
 use tt_base::Memory;
 use tt_world::{Activation, ModeDef, Point};
 
-/// A check at an offset of the round: it looks at the job of an entry number.
+/// A check at an offset of the round: it looks at the activation of an entry number.
 #[derive(Clone, Copy, Debug)]
 pub(crate) struct Check {
     pub(crate) offset: u64,
@@ -152,8 +152,8 @@ impl Checks {
         Ok(checks)
     }
 
-    /// The monitoring points of a mode, and its checks by offset, and those of one offset by entry
-    /// number, in time that is n log n in its rows.
+    /// The monitoring points of a mode, and its checks in order of offset and then of entry number,
+    /// in n log n time for n rows.
     pub(crate) fn of_mode(alloc: Global, mode: &ModeDef) -> Result<Checks, Memory>
         ensures points { IfOk result
             (λ checks. checks.points.items ≡ map (point_of mode.now) mode.now.activations) }

@@ -1,7 +1,7 @@
 //! What is due at an offset of the round.
 
-/// What is due at an offset of the round: ranges of places in the table's lists, each up to below
-/// its end, and the activation.
+/// What is due at an offset of the round: half-open ranges of places in the table's lists, and the
+/// activation.
 #[derive(Clone, Copy, Debug, PartialEq, Eq)]
 pub struct Due {
     /// The place of the first check.
@@ -16,7 +16,7 @@ pub struct Due {
     pub activation: Option<usize>,
 }
 
-/// An offset of the round at which something stands, and what is due there. The OSEK/VDX standard:
+/// An offset of the round at which something is due, and what is due there. The OSEK/VDX standard:
 /// the expiry points of a dispatcher table.
 #[derive(Clone, Copy, Debug, PartialEq, Eq)]
 pub struct ExpiryPoint {

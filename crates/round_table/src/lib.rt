@@ -1,7 +1,7 @@
 //! The dispatcher tables of a configuration, as the dispatcher of the OSEK/VDX time-triggered
 //! operating system walks them in each round: an ascending list of expiry points, each with the
-//! checks, the enables and the activation that stand at its offset, in ticks from the start of the
-//! round. Deadline monitoring is the standard's; the points at which it looks at a deadline are
+//! checks, the enables and the activation that are due at its offset, in ticks from the start of
+//! the round. Deadline monitoring is the standard's; the points at which it looks at a deadline are
 //! the bench's own.
 #![tactic(auto)]
 

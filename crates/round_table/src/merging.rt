@@ -13,8 +13,7 @@ use std::marker::Model;
 use tt_base::Memory;
 use tt_world::ModeDef;
 
-/// A mode with its checks at offsets of the round, by offset, and those of one offset by entry
-/// number.
+/// A mode with its checks at offsets of the round, in order of offset and then of entry number.
 #[derive(Drop)]
 pub(crate) struct CheckedMode<'a> {
     pub(crate) mode: &'a ModeDef,
@@ -69,7 +68,7 @@ fn due_between(from: Places, to: Places) -> Due
 }
 
 impl CheckedMode<'_> {
-    /// The least offset at which something stands from these places on, if there is one.
+    /// The least offset of the rows and the checks from these places on, if there is one.
     fn next_offset(&self, places: Places) -> Option<u64>
         ensures next { result ≡ next_offset self.now places }
         ensures order { AreInOrder self.now }
@@ -80,7 +79,7 @@ impl CheckedMode<'_> {
         earlier(activation, earlier(enable, check))
     }
 
-    /// The places after what stands at an offset or before it.
+    /// The places after the rows and the checks at an offset or before it.
     fn places_after(&self, offset: u64) -> Places
         ensures { ArePlaces self.now (suc offset) result }
     {

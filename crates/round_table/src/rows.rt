@@ -9,7 +9,7 @@ use crate::checks::Check;
 use crate::due::ExpiryPoint;
 use tt_world::{Activation, Enable};
 
-/// What stands at an offset of the round.
+/// What has an offset in the round.
 pub(crate) trait Row {
     ghost at: { Self → ℕ };
 

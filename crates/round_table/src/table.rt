@@ -32,7 +32,7 @@ pub struct Table {
     limit: u64,
     /// The monitoring point of each activation.
     points: Vec<Point>,
-    /// The entry numbers of the checks, by point, and of those of one point in ascending order.
+    /// The entry numbers of the checks, in order of their points; those of one point ascend.
     checks: Vec<usize>,
     /// The place of the first check at the round's end.
     end: usize,
@@ -67,8 +67,8 @@ fn copied<T: Copy>(alloc: Global, items: &[T]) -> Result<Vec<T>, Memory>
     }
 }
 
-/// What is due at an offset where nothing stands, before the checks and the enables at these
-/// places.
+/// What is due at an offset where nothing is: empty ranges at these places of the lists of checks
+/// and enables.
 fn nothing_before(check: usize, enable: usize) -> Due
     ensures { result ≡ none_due check enable }
 {
@@ -81,7 +81,7 @@ fn nothing_before(check: usize, enable: usize) -> Due
     }
 }
 
-/// The entry numbers of checks, and after them these.
+/// The entry numbers of these checks, followed by `ends`.
 fn entries_then(alloc: Global, checks: &[Check], ends: &[usize]) -> Result<Vec<usize>, Memory>
     ensures { IfOk result (λ entries. entries.items ≡ entries_in checks.now ++ ends.now) }
 {
@@ -118,8 +118,7 @@ impl Table {
         })
     }
 
-    /// The dispatcher table of a mode, in time that is n log n in its rows. `Memory` is its one
-    /// refusal.
+    /// The dispatcher table of a mode, in n log n time for n rows. Its only error is `Memory`.
     pub fn build(alloc: Global, config: &Config, mode: ModeNo) -> Result<Table, Memory>
         requires { mode.0 < length config.now.modes }
         ensures { IfOk result (λ table. table ≡ table_of config.now (mode_at config.now mode.0)) }
@@ -129,7 +128,7 @@ impl Table {
         Table::of_mode(alloc, mode, parts.round - parts.adjust)
     }
 
-    /// How many rows activate. Their entry numbers are those below it.
+    /// How many rows activate. Their entry numbers are the numbers below that.
     pub fn entries(&self) -> usize
         ensures { result ≡ length self.now.mode.activations }
     {
@@ -144,16 +143,16 @@ impl Table {
         &self.activations
     }
 
-    /// How many activations have offsets below this one, found by binary search: they stand in
-    /// front of the others.
+    /// How many activations have offsets below this one, found by binary search: they come before
+    /// the others.
     pub fn activations_before(&self, offset: u64) -> usize
         ensures { IsCut (λ row. nat_lt row.offset offset) self.now.mode.activations result }
     {
         before(&self.activations, offset)
     }
 
-    /// How many enables have offsets below this one, found by binary search: they stand in front
-    /// of the others.
+    /// How many enables have offsets below this one, found by binary search: they come before the
+    /// others.
     pub fn enables_before(&self, offset: u64) -> usize
         ensures { IsCut (λ row. nat_lt row.offset offset) self.now.mode.enables result }
     {
@@ -167,7 +166,7 @@ impl Table {
         &self.enables
     }
 
-    /// The row that activates, of an entry number.
+    /// The row that activates under an entry number.
     pub fn activation(&self, entry: usize) -> Activation
         requires { entry < length self.now.mode.activations }
         ensures { result ≡ row_of self.now.mode entry }
@@ -177,8 +176,8 @@ impl Table {
 
     /// The monitoring point of the activation of an entry number: its deadline where that is
     /// monitored stringently, else the least offset at or after the deadline at which the mode has
-    /// an activation, an enable or a stringent deadline, or the round's end. Where deadlines are
-    /// monitored is the bench's own rule.
+    /// an activation, an enable or a stringent deadline, and else the round's end. Where deadlines
+    /// are monitored is the bench's own rule.
     pub fn monitor(&self, entry: usize) -> Point
         requires { entry < length self.now.mode.activations }
         ensures { result ≡ point_of self.now.mode (row_of self.now.mode entry) }
@@ -204,7 +203,7 @@ impl Table {
     }
 
     /// The expiry points in ascending order of offset: one for each offset at which a check, an
-    /// enable or an activation stands. The OSEK/VDX standard: the dispatcher table.
+    /// enable or an activation is due. The OSEK/VDX standard: the dispatcher table.
     pub fn expiry_points(&self) -> &[ExpiryPoint]
         ensures { result.now ≡ expiry_points self.now }
     {
@@ -248,7 +247,7 @@ impl Table {
     }
 
     /// What is due at an offset of the round, found by binary search: the places of the checks
-    /// whose monitoring point it is, in ascending order of entry, which is that of the offset of
+    /// whose monitoring point it is, in ascending order of entry, and so of the offset of
     /// activation; the places of the enables at it, by number of the routine; and the entry number
     /// of the activation, which is None exactly where there is none.
     pub fn due(&self, offset: u64) -> Due
@@ -266,10 +265,10 @@ impl Table {
         self.found(offset)
     }
 
-    /// The places, from the first up to below the second, of the checks at the end of a round of
-    /// this length, in ticks: those whose monitoring point is not an offset below the length, in
-    /// ascending order of entry. The length is at least the round's length of the configuration
-    /// less the greatest correction: no correction makes a round shorter.
+    /// The half-open range of the places of the checks at the end of a round of this length, in
+    /// ticks: those whose monitoring point is not an offset below the length, in ascending order of
+    /// entry. The length is at least the configured length of a round less the greatest correction,
+    /// since no correction makes a round shorter.
     pub fn end_checks(&self, round_length: u64) -> (usize, usize)
         requires { self.now.limit ≤ round_length }
         ensures from { result.0 ≡ length (checks_below self.now.mode round_length) }
@@ -280,9 +279,9 @@ impl Table {
         (self.due(round_length).checks_from, self.checks.len())
     }
 
-    /// The least offset after this one at which a check, an enable or an activation stands, found
-    /// by binary search. It is None exactly where there is none. At no offset between does
-    /// anything stand.
+    /// The least offset after this one at which a check, an enable or an activation is due, found
+    /// by binary search. It is None exactly where there is none. Nothing is due between the two
+    /// offsets.
     pub fn next_after(&self, offset: u64) -> Option<u64>
         ensures least { result ≡ next_after offset self.now }
         ensures ahead { IfSome result (λ next. (offset < next) × (next ≤ self.now.limit)) }

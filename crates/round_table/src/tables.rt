@@ -26,7 +26,7 @@ impl Model for Tables {
 }
 
 impl Tables {
-    /// The table of each mode, in order. `Memory` is its one refusal.
+    /// The table of each mode, in order. Its only error is `Memory`.
     pub fn build(alloc: Global, config: &Config) -> Result<Tables, Memory>
         ensures { IfOk result (λ tables. tables ≡ tables_of config.now) }
     {

@@ -31,7 +31,7 @@ All-more : {X : Type 0} (P : X → Type 0) (x : X) (xs : List X) → P x → All
 All-more P x xs p all zero d within = p
 All-more P x xs p all (suc k) d within = all k d (omega arith)
 
--- what holds of a list holds of its front
+-- what holds of a list holds of its first part
 pub All-front : {X : Type 0} (P : X → Type 0) (xs ys : List X) → All P (xs ++ ys) → All P xs
 All-front P xs ys all k d within =
     subst P (get_or-append xs ys d k within) (all k d (omega (arith, length-append xs ys)))
@@ -49,14 +49,14 @@ AllPairs-rest R x xs pairs i j d before within = pairs (suc i) (suc j) d (omega 
 pub AllPairs-first : {X : Type 0} (R : X → X → Type 0) (x : X) (xs : List X) → AllPairs R (x ∷ xs) → All (R x) xs
 AllPairs-first R x xs pairs k d within = pairs 0 (suc k) d (omega arith) (omega arith)
 
--- what holds of all pairs of a list holds of those of its front
+-- what holds of all pairs of a list holds of those of its first part
 pub AllPairs-front : {X : Type 0} (R : X → X → Type 0) (xs ys : List X) → AllPairs R (xs ++ ys) → AllPairs R xs
 AllPairs-front R xs ys pairs i j d before within =
     let longer : length (xs ++ ys) ≡ length xs + length ys = length-append xs ys in
     subst (λ x. R x (get_or xs j d)) (get_or-append xs ys d i (omega arith))
     (subst (λ y. R (get_or (xs ++ ys) i d) y) (get_or-append xs ys d j within) (pairs i j d before (omega arith)))
 
--- each of a list stands in R to the one after it
+-- each item before the last one has the relation R to the last one
 pub AllPairs-last : {X : Type 0} (R : X → X → Type 0) (xs : List X) (y : X) → AllPairs R (xs ++ y ∷ [])
     → (k : ℕ) (d : X) → k < length xs → R (get_or xs k d) y
 AllPairs-last R xs y pairs k d within =
@@ -137,7 +137,7 @@ order_step new f fs false is other pairs rest =
     let not_less : new.level ≤ f.level = grind (arith, nat_tests) in
     AllPairs-cons Below new (f ∷ fs) (below_all new f fs (omega arith) pairs) pairs
 
--- it keeps the order where no other has its level
+-- the order stays, where no other has its level
 pub order-by_level : (new : StackFrame) (fs : List StackFrame) → All (λ f. f.level ≢ new.level) fs → IsByLevel fs
     → IsByLevel (by_level new fs)
 order-by_level new [] others pairs = λ i j d before within. absurd (omega arith)
@@ -192,7 +192,7 @@ set_last_is frame (x ∷ xs) d some =
     λ fs. set fs (length fs - 1) (standing_at frame (get_or fs (length fs - 1) d)) ≡ with_last frame fs in
     subst P (sym is) (set_last_seam frame front f d)
 
--- two lists of as many frames, with the same words and levels
+-- two lists of equally many frames, with the same words and levels
 pub record Keeps (fs gs : List StackFrame) : Type 0 where
   pub length_is : length gs ≡ length fs
   pub words_are : sum_of_words gs ≡ sum_of_words fs
@@ -212,7 +212,7 @@ keeps_seam frame front f = record {
       (AllPairs-last Below front f pairs);
 }
 
--- where the last frame stands does not matter
+-- where the last frame is in its body does not matter
 pub keeps_with_last : (frame : Frame) (fs : List StackFrame) → 0 < length fs → Keeps fs (with_last frame fs)
 keeps_with_last frame [] some = absurd (omega arith)
 keeps_with_last frame (x ∷ xs) some =
@@ -242,7 +242,7 @@ stack_accepted {tasks} {isrs} {words} new room fits others s = record {
   sum = let more = sum-by_level new isrs in omega (arith, s.sum, more);
 }
 
--- the last routine stands elsewhere
+-- the last routine is elsewhere in its body
 pub isr_moved : {tasks isrs : List StackFrame} {words : ℕ} (moved : List StackFrame) → Keeps isrs moved
     → IsStack tasks isrs words → IsStack tasks moved words
 isr_moved {tasks} {isrs} {words} moved k s = record {
@@ -254,7 +254,7 @@ isr_moved {tasks} {isrs} {words} moved k s = record {
   sum = omega (arith, s.sum, k.words_are);
 }
 
--- the last task stands elsewhere
+-- the last task is elsewhere in its body
 pub task_moved : {tasks isrs : List StackFrame} {words : ℕ} (moved : List StackFrame) → Keeps tasks moved
     → IsStack tasks isrs words → IsStack moved isrs words
 task_moved {tasks} {isrs} {words} moved k s = record {

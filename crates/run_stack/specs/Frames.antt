@@ -1,4 +1,4 @@
--- The frames on a stack as two lists, and what each call makes of them.
+-- The frames on a stack as two lists, and what each call does to them.
 use Rattle.std.specs.Prelude.{◌≡◌, ℕ, ◌+◌, ◌-◌, ◌<◌, ◌≤◌, ◌^◌, ◌⊎◌, Bool, nat_lt, if◌then◌else◌, Option, option_map, option_to_list, List, [], ◌∷◌, ◌++◌, All, AllPairs, Any, length, take, sum_by, slice_get}
 use Rattle.tt_base.specs.declared.event.Owner.{Owner}
 use Rattle.tt_base.specs.declared.event.Owner.TheVariants as By
@@ -34,11 +34,11 @@ last fs = slice_get fs (length fs - 1)
 abbrev pub without_last : List StackFrame → List StackFrame
 without_last fs = take (length fs - 1) fs
 
--- a frame that stands elsewhere in its body
+-- an entry with this frame: it is elsewhere in its body
 abbrev pub standing_at : Frame → StackFrame → StackFrame
 standing_at frame f = record f { frame = frame }
 
--- the last one stands elsewhere in its body
+-- the last one is elsewhere in its body
 abbrev pub with_last : Frame → List StackFrame → List StackFrame
 with_last frame fs = without_last fs ++ option_to_list (option_map (standing_at frame) (last fs))
 
@@ -73,13 +73,13 @@ with_task new s = record { tasks = s.tasks ++ new ∷ []; isrs = s.isrs }
 abbrev pub with_isr : StackFrame → Frames → Frames
 with_isr new s = record { tasks = s.tasks; isrs = by_level new s.isrs }
 
--- the top one stands elsewhere in its body
+-- the top one is elsewhere in its body
 abbrev pub with_top : Frame → Frames → Frames
 with_top frame s = by_top s.isrs
     (record { tasks = s.tasks; isrs = with_last frame s.isrs })
     (record { tasks = with_last frame s.tasks; isrs = s.isrs })
 
--- the top one is gone
+-- the top one is taken away
 abbrev pub popped : Frames → Frames
 popped s = by_top s.isrs
     (record { tasks = s.tasks; isrs = without_last s.isrs })

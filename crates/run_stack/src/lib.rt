@@ -1,5 +1,5 @@
-//! The preemption stack: the unfinished activations of tasks and interrupt service routines, of
-//! which the top one runs.
+//! The preemption stack: the unfinished activations of tasks and interrupt service routines. The
+//! top one runs.
 #![tactic(auto)]
 
 mod stack;

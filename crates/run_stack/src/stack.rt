@@ -26,12 +26,12 @@ pub struct StackFrame {
     pub level: u8,
     /// How many words of stack it takes.
     pub words: u32,
-    /// Where its body stands.
+    /// Where it is in its body.
     pub frame: Frame,
 }
 
 /// The unfinished activations of tasks, in the order of activation, and the unfinished interrupt
-/// service routines by level, the lowest first. It takes no memory beside its own. Contracts see
+/// service routines by level, the lowest first. It takes no memory besides its own. Contracts see
 /// it as these two lists.
 #[derive(Drop)]
 pub struct RunStack {
@@ -51,7 +51,7 @@ impl Model for RunStack {
     ghost invariant = { λ s. IsStack s.tasks.items s.isrs.items s.words };
 }
 
-/// Gives the last of some frames this frame.
+/// Replaces the frame of the last of some entries.
 fn set_last(frames: &mut [StackFrame], frame: Frame)
     requires { 0 < length frames.old }
     ensures { frames.new ≡ with_last frame frames.old }
@@ -60,7 +60,7 @@ fn set_last(frames: &mut [StackFrame], frame: Frame)
     frames[end].frame = frame;
 }
 
-/// How many frames from the first on have a lower level.
+/// How many frames at the front have a lower level.
 fn count_lower(frames: &[StackFrame], level: u8) -> usize
     ensures value { result ≡ prefix_len (is_lower level) frames.now }
     ensures within { result ≤ length frames.now }
@@ -89,7 +89,7 @@ fn words_in(frames: &[StackFrame]) -> u64
     words
 }
 
-/// Whether one of some frames is of an owner.
+/// Whether one of some frames belongs to an owner.
 fn has(frames: &[StackFrame], owner: Owner) -> bool
     ensures { IsTrue result ↔ Any (λ f. f.owner ≡ owner) frames.now }
 {
@@ -108,7 +108,7 @@ impl RunStack {
         }
     }
 
-    /// Puts the frame of an activated task on those of the other tasks.
+    /// Puts the frame of an activated task on top of those of the other tasks.
     pub fn push_task(&mut self, task: TaskNo, frame: Frame, words: u32)
         requires { length self.old.tasks < TASKS }
         ensures { self.new ≡ with_task (task_frame task frame words) self.old }
@@ -158,7 +158,7 @@ impl RunStack {
         })
     }
 
-    /// Gives the top entry this frame. Its owner and words stay, and so do all other entries.
+    /// Replaces the frame of the top entry. Its owner and words stay, and so do all other entries.
     pub fn set_top(&mut self, frame: Frame)
         requires { 0 < depth_of self.old }
         ensures { self.new ≡ with_top frame self.old }

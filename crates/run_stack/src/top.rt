@@ -8,7 +8,7 @@ use tt_base::Owner;
 pub struct Top {
     /// Whose frame it is.
     pub owner: Owner,
-    /// Where its body stands.
+    /// Where it is in its body.
     pub frame: Frame,
     /// The ticks left of the `work` that its body has begun, 0 where it has begun none.
     pub work_left: u64,

@@ -87,7 +87,7 @@ enabled_more rows enabled isr are l is small = record {
 
 -- ---- a whole window
 
--- where both tests pass counts one
+-- what passes both tests counts one
 both_count : (p q : Bool) → ◌≡◌ {A = ℕ} (cond (p && q) 1 0) (cond q (cond p 1 0) 0)
 both_count true true = refl
 both_count true false = refl

@@ -8,7 +8,7 @@ use Rattle.schedule_check.specs.Demand.{is_within}
 use Rattle.schedule_check.proofs.Sums.{sum_both, sum_same_at}
 
 module _ {X : Type 0} (b : X → ℕ) (test : X → Bool) where
-  -- what stands in front of a cut is what passes the test
+  -- what comes before a cut is what passes the test
   pub cut_sum : (xs : List X) (place : ℕ) → IsCut test xs place
       → sum_by b (take place xs) ≡ sum_by (λ x. cond (test x) (b x) 0) xs
   cut_sum [] zero cut = refl
@@ -62,7 +62,7 @@ within_split from to offset x order =
     (cases_lt offset from)
 
 module _ {X : Type 0} (key : X → ℕ) (b : X → ℕ) (d : X) (from to : ℕ) (order : from ≤ to) where
-  -- what is within stands between the cuts
+  -- what is within is between the cuts
   pub between_cuts : (xs : List X) (first end : ℕ) → IsCut (λ x. nat_lt (key x) from) xs first
       → IsCut (λ x. nat_lt (key x) to) xs end
       → sum_by (λ x. cond (is_within from to (key x)) (b x) 0) xs + sum_by b (take first xs) ≡ sum_by b (take end xs)

@@ -320,7 +320,7 @@ pub record EnablesAt (c : ConfigParts) (s : ScriptParts) (isr T : ℕ) (w : Worl
       (mode_of c w) isr from (T - w.start)
 
 module _ (c : ConfigParts) (s : ScriptParts) (isr : ℕ) where
-  -- of the next instant, where the enables before it are within the rows up to it
+  -- where the enables before an instant are within the rows up to its offset, so are those before the next instant
   counted : (n m : ℕ) (v : World)
       → (enables_of isr (instant_at c s n).events ≡ rows_at isr (n - v.start) (mode_of c v).enables) → (from : ℕ)
       → v.start + from ≡ m → m ≤ n → enables_of isr (events_between c s m (n - m)) ≤ enables_in (mode_of c v) isr from

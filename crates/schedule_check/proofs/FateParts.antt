@@ -117,7 +117,7 @@ module _ (c : ConfigParts) (s : ScriptParts) (rules : IsConfig c) (bounded : IsB
   abbrev pub Over : OfEnd
   Over end w es = Through (OfActivate c (Settled c T es)) first es × EndsAt T es
 
-  -- a part that is silent in this
+  -- a part in which no round begins and no task is activated
   quiet_told : (w : World) (es : List Event) (m : Moved) → T0 w es → Early w → Of IsQuiet m.events
       → LeadsTo (λ v fs. Same w v) Never es m → LeadsTo T0 Over es m
   quiet_told w es m p e q h =

@@ -56,7 +56,7 @@ pub record IsOpen (c : ConfigParts) (T : ℕ) (w : World) (round : RoundStart) (
   pub undone : is_done (job_at w.jobs place).left ≡ false
   pub same : (job_at w.jobs place).entry ≡ entry
 
--- of an Activate event of a round, that it is that of a row, and this of the row's entry number
+-- an Activate event of a round is that of a row, and P holds of the row's entry number
 abbrev pub OfActivate : ConfigParts → (RoundStart → ℕ → Type 0) → RoundStart → Event → Type 0
 OfActivate c P round e =
     (at : ℕ) (task : TaskNo) → e ≡ Activate at task
@@ -87,7 +87,7 @@ abbrev pub Settled : ConfigParts → ℕ → List Event → RoundStart → ℕ �
 Settled c T es round entry = round.start + (row_of (mode_at c round.mode.0) entry).deadline ≤ T
     → HasEnded c es round entry
 
--- of a world and the events up to it, where the first round is this one
+-- the fates of the activations in the events up to a world, where the first round is this one
 pub record Told (c : ConfigParts) (first : RoundStart) (T : ℕ) (w : World) (es : List Event) : Type 0 where
   pub fates : Through (OfActivate c (Fate c T w es)) first es
   pub now : last_round first es ≡ round_in w
@@ -107,7 +107,7 @@ quiet_through c P now [] p = tt
 quiet_through c P now (e ∷ fs) p = (no_activate c P now e p.0.1, quiet_through c P (or_round (round_of e) now) fs p.1)
 
 module _ (c : ConfigParts) (first : RoundStart) (T : ℕ) where
-  -- what becomes of an unfinished one
+  -- what becomes of an unfinished activation
   open_forward : (at : ℕ) (w v : World) (es fs : List Event) → T ≤ at → Each c (IsEarly c T) T w → Forward c w v fs
       → (round : RoundStart) (entry : ℕ) → IsOpen c T w round entry → Fate c at v (es ++ fs) round entry
   open_forward at w v es fs more early f round entry o =

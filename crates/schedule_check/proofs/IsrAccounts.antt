@@ -35,7 +35,7 @@ enables_of isr es = count_by (is_enable isr) es
 pub count_more : (p : Event → Bool) (es fs : List Event) → count_by p (es ++ fs) ≡ count_by p es + count_by p fs
 count_more p es fs = sum_by-append (λ x. cond (p x) 1 0) es fs
 
--- of the marks and of what is left of a routine, after that many ticks, enables and arrivals
+-- the account of a routine, by its flags and what is left of it, after t ticks, e enables and a arrivals
 pub record Account (c : ConfigParts) (isr t e a : ℕ) (enabled held : List Bool) (isrs : List (List Stmt)) : Type 0 where
   pub gate : isr < length enabled
   pub hold : isr < length held
@@ -110,7 +110,7 @@ module _ (c : ConfigParts) (isr : ℕ) where
         by_arrivals = rw (get_or-set_same held isr true false k.hold) (omega arith);
       }
 
-  -- a mark of another source
+  -- the flags of another source
   pub account_other : (t e a j : ℕ) (x y : Bool) (enabled held : List Bool) (isrs : List (List Stmt)) → isr ≢ j
       → Account c isr t e a enabled held isrs → Account c isr t e a (set enabled j x) (set held j y) isrs
   account_other t e a j x y enabled held isrs ne k =

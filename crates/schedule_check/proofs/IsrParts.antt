@@ -50,7 +50,7 @@ monitored_leads P c is_due w es p = checked_leads P c _ (checked w.tick (mode_of
 
 module _ (c : ConfigParts) (s : ScriptParts) (rules : IsConfig c) (bounds : KeepsBounds c s) (isr : ℕ)
     (within : isr < length c.isrs) where
-  -- after that many ticks and arrivals, at this tick
+  -- after t ticks and a arrivals, at this tick
   abbrev pub Acc : (t a now : ℕ) → OfRun
   Acc t a now w es = (w.tick ≡ now) × Account c isr t (enables_of isr es) a w.isrs_enabled w.isrs_held w.isrs
 

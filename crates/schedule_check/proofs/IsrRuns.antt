@@ -1,4 +1,4 @@
--- In any consecutive instants of a run a time-triggered routine takes at most that many ticks.
+-- In any consecutive instants of a run, a time-triggered routine takes at most the ticks of its demand there.
 use Rattle.std.proofs.Common.{ℕ, zero, suc, ◌≡◌, ◌<◌, ◌≤◌, ◌+◌, ◌-◌, ◌*◌, List, [], ◌++◌, Bool, true, false, refl, ap, sym, ◌∙◌, subst, arith, length, get_or, add-one, ⊎_elim, append_assoc}
 use Rattle.std.specs.Prelude.{count_by, slice_index_or}
 use Rattle.std.proofs.lemmas.List.{get_or-replicate, length-replicate}

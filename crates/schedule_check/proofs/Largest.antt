@@ -16,7 +16,7 @@ module _ (f : ℕ → ℕ) where
       (λ (g : n ≤ k). let same : k ≡ n = omega arith in let e = ap f same in omega arith)
       (cases_lt k n)
 
-  -- what each value is at most, the largest is
+  -- where each value is at most m, so is the largest
   pub largest_le : (n m : ℕ) → ((k : ℕ) → k < n → f k ≤ m) → largest f n ≤ m
   unfolding largest
   largest_le zero m h = omega arith

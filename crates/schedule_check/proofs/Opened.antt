@@ -57,7 +57,7 @@ nothing_below x (point.At place) = cond-false (nat_lt place 0) x 0 (le-ltb place
 nothing_below x point.RoundEnd = refl
 
 module _ (w : Activation → ℕ) (mode : ModeDef) where
-  -- what the entries count whose monitoring point is an offset below this one
+  -- the sum of what the entries count whose monitoring point is an offset below this one
   closed : (n : ℕ) → sum_by (counted w mode) (checks_below mode n)
       ≡ sum_by (λ entry. cond (is_below n (point_of mode (row_of mode entry))) (counted w mode entry) 0)
       (entries_of mode)
@@ -232,7 +232,7 @@ module _ (w : Activation → ℕ) (mode : ModeDef) where
           (λ (here : (row_of mode n).offset ≤ o). inr (n, omega arith, here, λ k a l. absurd (omega arith)))
           (cases_lt o (row_of mode n).offset)
 
-      -- no offset has more open than that of an activation
+      -- what is open at an offset is at most what bounds it at the offsets of activations
       open_le : (o m : ℕ) → ((j : ℕ) → j < length mode.activations → open_at w c mode (row_of mode j).offset ≤ m)
           → open_at w c mode o ≤ m
       open_le o m each =

@@ -20,7 +20,7 @@ module _ (c : ConfigParts) (rules : IsConfig c) where
     mode_of_table = subst (IsMode c) (sym (ap (λ (t : TableRows). t.mode) of.is))
         (All-get_or (IsMode c) c.modes of.mode no_mode of.within rules.modes)
 
-    -- a row's offset is before its deadline, and that within the shortest round
+    -- a row's offset is before its deadline, and its deadline is within the shortest round
     pub row_within : (entry : ℕ) → entry < length table.mode.activations
         → ((row_of table.mode entry).offset < (row_of table.mode entry).deadline)
         × ((row_of table.mode entry).deadline ≤ c.round - c.adjust)
@@ -32,7 +32,7 @@ module _ (c : ConfigParts) (rules : IsConfig c) where
         let both = and_parts (nat_lt row.offset row.deadline) (nat_le row.deadline (c.round - c.adjust)) times in
         (ltb-true row.offset row.deadline both.0, leb-true row.deadline (c.round - c.adjust) both.1)
 
-    -- a row's offset is before its deadline, and that within the round
+    -- a row's offset is before its deadline, and its deadline is within the round
     pub row_bounds : (entry : ℕ) → entry < length table.mode.activations
         → ((row_of table.mode entry).offset < (row_of table.mode entry).deadline)
         × ((row_of table.mode entry).deadline ≤ 10000000)

@@ -10,11 +10,11 @@ use Rattle.schedule_check.proofs.Leasts.{least_is, least_none}
 use Rattle.schedule_check.proofs.Growing.{demand_more}
 
 module _ (c : ConfigParts) (mode : ModeDef) (row : Activation) where
-  -- at no offset after the activation's own and before this one the demand fits
+  -- the demand fits at no offset after the activation's own and before this one
   abbrev pub NoneBefore : ℕ → Type 0
   NoneBefore end = (t : ℕ) → row.offset < t → t < end → demand_fits c mode row t ≡ false
 
-  -- where the demand up to an offset does not fit, it fits at none up to below its own end
+  -- where the demand d up to an offset does not fit, it fits at none before the activation's offset plus d
   pub none_later : (end d : ℕ) → NoneBefore end → row.offset < end → d ≡ demand c mode row.offset end
       → end - row.offset < d → NoneBefore (row.offset + d)
   none_later end d none later is more t a b =
@@ -33,7 +33,7 @@ module _ (c : ConfigParts) (mode : ModeDef) (row : Activation) where
       (le-leb (demand c mode row.offset end) (end - row.offset) (omega arith))
       (λ j a b. none j (omega arith) b))
 
-  -- where it fits at none up to the deadline there is none
+  -- where it fits at none up to the deadline, there is no response end
   pub nothing : (end : ℕ) → NoneBefore end → row.offset ≤ row.deadline → row.deadline < end → None ≡ response c mode row
   unfolding response
   nothing end none h late =

@@ -1,4 +1,4 @@
--- No instant of a run is deeper than the bound of the depth, and none takes more words than that of the words.
+-- No instant of a run is deeper than the depth bound, and none takes more words than the words bound.
 use Rattle.std.proofs.Common.{ℕ, zero, suc, ◌≡◌, ◌<◌, ◌≤◌, ◌+◌, List, [], Bool, true, false, Option, None, Some, refl, ap, subst, cond, arith, length, ⊎_elim}
 use Rattle.std.specs.Prelude.{not, nat_le, nat_lt, sum_by, slice_index_or}
 use Rattle.std.specs.List.{range_with_len}
@@ -180,7 +180,7 @@ module _ (c : ConfigParts) (s : ScriptParts) (rules : IsConfig c) (script : IsSc
       cond_both (is_over (opening c s (world_at c s n)).end) 0 (number (opening c s (world_at c s n)).world)
       (λ (k : ℕ). k ≤ most) (λ _. omega arith) (λ on. each n g on)
 
-  -- what bounds a number of each instant bounds the greatest
+  -- what bounds a number at each instant bounds the greatest
   most_within : (n : ℕ) → n ≤ suc (last_instant c s) → most_before number c s n ≤ most
   unfolding most_before
   most_within zero l = omega arith

@@ -34,7 +34,7 @@ module _ (c : ConfigParts) (rules : IsConfig c) (table : TableRows) (of : IsTabl
   inside : (j : ℕ) → j < length table.mode.activations → (row_of table.mode j).offset < c.round + c.adjust
   inside j l = let b = row_within c rules table of j l in let a = b.0 in let d = b.1 in omega arith
 
-  -- the checks at an offset or before it stand in front
+  -- the checks at an offset or before it come first in the list
   front : (o : ℕ) → o ≤ table.limit
       → take (length (checks_below table.mode (suc o))) (checks_of table) ≡ checks_below table.mode (suc o)
   front o l =

@@ -55,7 +55,7 @@ owed_less c w p q left le within less =
 
 -- ---- the account
 
--- the ticks before T since a tick
+-- the ticks, from one tick up to below T, of the runners that pass a test
 abbrev pub taken : (Runner → Bool) → ConfigParts → ScriptParts → (from T : ℕ) → ℕ
 taken test c s from T = ticks_of test c s from (T - from)
 
@@ -68,8 +68,8 @@ taken_next test c s from T l =
     ap (λ (k : ℕ). ticks_of test c s from k) a
     ∙ ap (λ (n : ℕ). ticks_of test c s from (T - from) + (if test (runner_at c s n) then 1 else 0)) b
 
--- of an unfinished activation of a round that began at `start`, where the activations before N and the ticks before T
--- have happened
+-- the account of an unfinished activation of a round that began at `start`, where the activations before N and the
+-- ticks before T have happened
 pub record Owed (c : ConfigParts) (s : ScriptParts) (N T start : ℕ) (mode : ModeDef) (entry owed : ℕ) : Type 0 where
   pub row : entry < length mode.activations
   pub begun : start + (row_of mode entry).offset < N

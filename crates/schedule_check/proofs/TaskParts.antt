@@ -67,7 +67,7 @@ demand_found c mode from to n l h e =
     (within_here (task_budget c (row_of mode n)) from to (row_of mode n).offset e l)
 
 module _ (c : ConfigParts) (s : ScriptParts) (rules : IsConfig c) (T : ℕ) where
-  -- what is due up to tick N, at tick T
+  -- what is known at tick T, where the activations before tick N have happened
   At : ℕ → World → Type 0
   At N w = (w.tick ≡ T) × ((w.start ≤ T) × Tasks c s N T w)
 

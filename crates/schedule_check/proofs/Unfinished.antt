@@ -1,4 +1,4 @@
--- What is said of each unfinished activation of the present round, by the round's start, its mode and its entry number.
+-- What holds of each unfinished activation of the present round, by the round's start, its mode and its entry number.
 use Rattle.std.proofs.Common.{ℕ, ◌≡◌, ◌<◌, ◌≤◌, ◌+◌, ◌-◌, List, false, Option, None, Some, refl, ap, sym, ◌∙◌, subst, eqb, arith, length, ⊎_elim}
 use Rattle.std.proofs.lemmas.Bool.{cond_both}
 use Rattle.tt_base.specs.declared.event.Event.{Event}
@@ -24,18 +24,18 @@ use Rattle.tt_world.proofs.JobLists.{IsOldPlace, IsNewPlace, place_of_more, plac
 use Rattle.tt_world.proofs.TableRows.{row_found}
 use Rattle.tt_world.proofs.Points.{left_undone}
 
--- of the start of the round, its mode and an entry number
+-- a property of the start of a round, its mode and an entry number
 abbrev pub OfEntry : Type 1
 OfEntry = ℕ → ModeDef → ℕ → Type 0
 
--- at this tick it is said of each activation with statements left
+-- at this tick it holds of each activation with statements left
 pub record Each (c : ConfigParts) (R : OfEntry) (at : ℕ) (w : World) : Type 0 where
   pub tick : w.tick ≡ at
   pub started : w.start ≤ at
   pub each : (place : ℕ) → place < length w.jobs → is_done (job_at w.jobs place).left ≡ false
       → R w.start (mode_of c w) (job_at w.jobs place).entry
 
--- it is said of an activation at its own offset
+-- it holds of an activation at its own offset
 abbrev pub SaidOfNew : ConfigParts → OfEntry → ℕ → Type 0
 SaidOfNew c R T =
     (start number entry : ℕ) → entry < length (mode_at c number).activations

@@ -19,7 +19,7 @@ no_enable = record { offset = 0; isr = record { 0 = 0 } }
 abbrev pub is_before : {X : Type 0} → (offset : X → ℕ) (d : X) → List X → (to place : ℕ) → Bool
 is_before {X} offset d rows to place = nat_lt place (length rows) && nat_lt (offset (slice_index_or rows place d)) to
 
--- each row in front of a place has an offset below this one
+-- each row before a place has an offset below this one
 abbrev pub AreBefore : {X : Type 0} → (offset : X → ℕ) → List X → (to place : ℕ) → Type 0
 AreBefore {X} offset rows to place =
     (k : ℕ) (d : X) → k < place → nat_lt (offset (slice_index_or rows k d)) to ≡ true
@@ -31,11 +31,11 @@ pub record AreBegun (c : ConfigParts) (rows : List Activation) (begun : Begun) :
       ≡ sum_by (task_budget c) (take begun.end rows)
   pub bounded : begun.budgets ≤ begun.end * 10 ^ 12
 
--- how many enables of a routine stand in front of a place
+-- how many enables of a routine come before a place
 abbrev pub enables_in_front : List Enable → (isr place : ℕ) → ℕ
 enables_in_front rows isr place = count_by (λ (row : Enable). row.isr.0 == isr) (take place rows)
 
--- how many enables of each routine stand from one place up to below another
+-- how many enables each routine has from one place up to below another
 pub record AreEnabled (rows : List Enable) (enabled : Enabled) : Type 0 where
   pub within : enabled.end ≤ length rows
   pub all : length enabled.counts ≡ 16
@@ -43,7 +43,7 @@ pub record AreEnabled (rows : List Enable) (enabled : Enabled) : Type 0 where
       → slice_index_or enabled.counts isr 0 + enables_in_front rows isr enabled.first
       ≡ enables_in_front rows isr enabled.end
 
--- from one offset of a mode of a configuration up to a later one
+-- a window: from one offset of a mode of a configuration up to a later one
 pub record Window : Type 0 where
   pub parts : ConfigParts
   pub mode : ModeDef

@@ -35,7 +35,7 @@ abbrev pub is_enable : ℕ → Event → Bool
 is_enable isr (Enable at other) = other.0 == isr
 is_enable isr event = false
 
--- in any k consecutive instants of a run a time-triggered routine takes at most that many ticks
+-- in any k consecutive instants of a run, a time-triggered routine takes at most the ticks of its demand there
 abbrev pub IsrIsBounded : Type 0
 IsrIsBounded =
     (c : ConfigParts) (s : ScriptParts) → IsConfig c → IsScript c s → KeepsBounds c s → (isr : ℕ) → isr < length c.isrs
@@ -44,7 +44,7 @@ IsrIsBounded =
 
 -- ---- no miss
 
--- an event is the end of a task later than a tick, at or before another
+-- one of the events is the end of a task, after one tick and not after another
 abbrev pub HasEnd : List Event → TaskNo → (from deadline : ℕ) → Type 0
 HasEnd events task from deadline =
     (before after : List Event) × (at : ℕ) × (events ≡ before ++ End at (owner.Task task) ∷ after) × (from < at)

@@ -29,12 +29,12 @@ abbrev pub enables_in : ModeDef → (isr from to : ℕ) → ℕ
 enables_in mode isr from to = count_by
     (λ (row : Enable). (row.isr.0 == isr) && is_within from to row.offset) mode.enables
 
--- how often a routine begins at most at n enables and in some ticks, besides what is carried over
+-- how often a routine begins at most, with some enables and in some ticks, besides what is carried over
 abbrev pub most_begins : Option ℕ → (enables ticks : ℕ) → ℕ
 most_begins None enables ticks = enables
 most_begins (Some distance) enables ticks = min enables ((ticks + (distance - 1)) / distance)
 
--- a routine: an interrupt that is unfinished, one that an open gate admits, and the others
+-- the demand of a routine: for an occurrence that is unfinished, for one that an open gate admits, and for the others
 abbrev pub isr_demand : IsrDef → (enables ticks : ℕ) → ℕ
 isr_demand isr enables ticks = isr.budget * (2 + most_begins isr.distance enables ticks)
 

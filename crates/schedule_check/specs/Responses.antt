@@ -29,8 +29,8 @@ abbrev pub answer_at : ConfigParts → Option ℕ → CheckAnswer
 answer_at c None = Yes
 answer_at c (Some mode) = No (record { 0 = mode }) (unwrap_or (late_entry c (mode_at c mode)) 0)
 
--- the answer of the check: yes where every activation of every mode has a response end, and otherwise the first mode
--- with one that has none, and in it the first
+-- the answer of the check: yes where every activation of every mode has a response end; otherwise the first mode with
+-- an activation that has none, and the first such activation in it
 abbrev pub answer_of : ConfigParts → CheckAnswer
 answer_of c = answer_at c (late_mode c)
 

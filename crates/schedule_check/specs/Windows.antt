@@ -9,14 +9,14 @@ use Rattle.tt_world.specs.declared.world.Point.TheVariants as point
 use Rattle.tt_world.specs.Points.{point_of}
 use Rattle.tt_world.specs.Rows.{mode_at, no_task}
 
--- the offset at which the window of an activation with this monitoring point closes: the point, or where that is the
--- round's end, the longest round
+-- the offset at which the window of an activation with this monitoring point closes: the point, or the length of the
+-- longest round where the point is the round's end
 abbrev pub window_end : ConfigParts → Point → ℕ
 window_end c (point.At place) = place
 window_end c point.RoundEnd = c.round + c.adjust
 
--- whether the window of an activation covers an offset: it reaches from the activation's offset up to its end, and not
--- including it
+-- whether the window of an activation covers an offset: it reaches from the activation's offset up to its end, which it
+-- does not include
 abbrev pub is_open : ConfigParts → ModeDef → (offset : ℕ) → Activation → Bool
 is_open c mode offset row = nat_le row.offset offset && nat_lt offset (window_end c (point_of mode row))
 
@@ -24,7 +24,7 @@ is_open c mode offset row = nat_le row.offset offset && nat_lt offset (window_en
 abbrev pub stack_of : ConfigParts → Activation → ℕ
 stack_of c row = (slice_index_or c.tasks row.task.0 no_task).stack
 
--- what the activations count whose windows cover an offset, where each counts so much
+-- the sum of the weights of the activations whose windows cover an offset
 abbrev pub open_at : (Activation → ℕ) → ConfigParts → ModeDef → (offset : ℕ) → ℕ
 open_at weight c mode offset = sum_by (λ row. cond (is_open c mode offset row) (weight row) 0) mode.activations
 

@@ -15,7 +15,7 @@ use tt_world::Config;
 pub enum CheckAnswer {
     /// Each activation of each mode has a response end.
     Yes,
-    /// The first mode with an activation that has none, and the first of these.
+    /// The first mode with an activation that has none, and the first such entry in it.
     No { mode: ModeNo, entry: usize },
 }
 
@@ -33,8 +33,8 @@ fn late_entry(config: &Config, table: &Table) -> Option<usize>
 }
 
 /// Whether each activation of each mode has a response end; where one has none, the first mode with
-/// such an activation and in it the first. The tables are those of the configuration. A no does not
-/// mean that a deadline can be missed, since the check is pessimistic.
+/// such an activation, and the first such entry in it. The tables are those of the configuration. A
+/// no does not mean that a deadline can be missed, since the check is pessimistic.
 pub fn check(config: &Config, tables: &Tables) -> CheckAnswer
     requires { tables.now ≡ tables_of config.now }
     ensures { result ≡ answer_of config.now }

@@ -75,7 +75,7 @@ fn keeps_distances(config: &Config, script: &Script) -> bool
 /// Whether a script keeps the bounds that the configuration declares: each value of each demand is
 /// at most the demand's most, and consecutive arrivals of each time-triggered routine with a
 /// distance are at least that many ticks apart. All values and arrivals count, also those that no
-/// run uses. The script is one for the configuration.
+/// run uses. The script is one of this configuration.
 pub fn kept(config: &Config, script: &Script) -> bool
     requires { IsScript config.now script.now }
     ensures { IsTrue result ↔ KeepsBounds config.now script.now }

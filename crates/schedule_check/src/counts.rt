@@ -1,4 +1,4 @@
-//! The rows of a mode that a window of the round covers, counted on as the window grows.
+//! The rows of a mode that a window of the round covers, counted as the window grows.
 
 ghost use Rattle.std.specs.Prelude.{◌≡◌, ◌<◌, ◌≤◌, nat_lt, length, replicate};
 ghost use Rattle.std.specs.List.{All};
@@ -50,7 +50,7 @@ fn is_enable_before(rows: &[Enable], place: usize, to: u64) -> bool
 }
 
 impl Begun {
-    /// None, at a place.
+    /// No activation yet, at a place.
     pub(crate) fn none(first: usize) -> Begun
         ensures { result ≡ record { first = first; end = first; budgets = 0 } }
     {
@@ -61,7 +61,7 @@ impl Begun {
         }
     }
 
-    /// Goes on with those after them that have offsets below this one.
+    /// Adds the activations after them that have offsets below this one.
     pub(crate) fn extend(&mut self, parts: &ConfigParts, rows: &[Activation], to: u64)
         requires rules { IsConfig parts.now }
         requires few { length rows.now ≤ 4096 }
@@ -82,7 +82,7 @@ impl Begun {
 }
 
 impl Enabled {
-    /// None, at a place.
+    /// No enable yet, at a place.
     pub(crate) fn none(first: usize) -> Enabled
         ensures { result ≡ record { first = first; end = first; counts = replicate 16 0 } }
     {
@@ -93,7 +93,7 @@ impl Enabled {
         }
     }
 
-    /// Goes on with those after them that have offsets below this one.
+    /// Adds the enables after them that have offsets below this one.
     pub(crate) fn extend(&mut self, rows: &[Enable], to: u64)
         requires isrs { All (λ (row : Enable). row.isr.0 < 16) rows.now }
         requires ascending { IsNonDecreasingBy (λ (row : Enable). row.offset) rows.now }

@@ -13,7 +13,7 @@ use round_table::Table;
 use std::marker::Model;
 use tt_world::{Config, ConfigParts, IsrDef};
 
-/// How often a routine begins at most in that many ticks with that many enables, beside what is
+/// How often a routine begins at most in this many ticks with this many enables, besides what is
 /// carried over.
 fn most_begins(isr: &IsrDef, enables: u64, ticks: u64) -> u64
     requires { ForSome isr.now.distance (λ distance. 1 ≤ distance) }
@@ -26,7 +26,7 @@ fn most_begins(isr: &IsrDef, enables: u64, ticks: u64) -> u64
     }
 }
 
-/// What a routine asks for in that many ticks with that many enables: its budget for an occurrence
+/// What a routine asks for in this many ticks with this many enables: its budget for an occurrence
 /// that is unfinished when they begin, for one that an open gate admits, and for the others.
 fn isr_demand(isr: &IsrDef, enables: u64, ticks: u64) -> u64
     requires distance { ForSome isr.now.distance (λ distance. 1 ≤ distance) }
@@ -38,7 +38,7 @@ fn isr_demand(isr: &IsrDef, enables: u64, ticks: u64) -> u64
     isr.budget * (2 + most_begins(isr, enables, ticks))
 }
 
-/// What the time-triggered routines ask for in that many ticks with that many enables of each.
+/// What the time-triggered routines ask for in this many ticks with this many enables of each.
 fn isrs_demand(parts: &ConfigParts, counts: &[u64; MOST], ticks: u64) -> u64
     requires rules { IsConfig parts.now }
     requires few { (k : ℕ) → k < 16 → slice_index_or counts.now k 0 ≤ 4096 }
@@ -55,8 +55,8 @@ fn isrs_demand(parts: &ConfigParts, counts: &[u64; MOST], ticks: u64) -> u64
     sum
 }
 
-/// A window of the round: from an offset up to a later one, which moves on. The rows in between are
-/// counted as it comes to them, each once.
+/// A window of the round: from an offset up to a later one, its end, which moves on. Each row in
+/// between is counted once, when the end passes it.
 #[derive(Drop)]
 pub(crate) struct Window<'a> {
     parts: &'a ConfigParts,
@@ -104,7 +104,7 @@ impl<'a> Window<'a> {
         }
     }
 
-    /// Moves its end on to an offset, which is not in it.
+    /// Moves its end on to an offset, which the window does not include.
     pub(crate) fn extend(&mut self, to: u64)
         requires { self.old.to ≤ to }
         ensures { self.new ≡ record self.old { to = to } }
@@ -123,11 +123,12 @@ impl<'a> Window<'a> {
 }
 
 /// The demand of an activation from its offset up to a later offset of the round, in ticks: the
-/// budgets of the activations of its mode that begin before then, from itself on, and for each
-/// time-triggered routine its budget for an occurrence that is unfinished at the offset, for one
-/// that is admitted without an enable, and for each enable before then; of a routine with a
-/// distance for no more occurrences beside the two than distances begin before then. The table is
-/// that of a mode of the configuration. The formula is the bench's own.
+/// budgets of the activations of its mode that begin before then, from itself on, and what each
+/// time-triggered routine asks for. That is the routine's budget for an occurrence that is
+/// unfinished at the offset, for one that is admitted without an enable, and for each enable before
+/// then. A routine with a distance has, besides the first two, at most as many occurrences as
+/// distances begin before then. The table is that of a mode of the configuration. The formula is
+/// the bench's own.
 pub fn demand(config: &Config, table: &Table, entry: usize, t: u64) -> u128
     requires table { IsTableOf config.now table.now }
     requires entry { entry < length table.now.mode.activations }

@@ -3,10 +3,10 @@
 ghost use Rattle.schedule_check.specs.DeadlineLaws.{IsrIsBounded, NoMiss};
 ghost use Rattle.schedule_check.specs.StackLaw.{StackIsBounded};
 
-/// Where the script keeps its bounds, a time-triggered routine takes in any consecutive instants
-/// of a run at most its budget times two more than the number of its enables there; with a
-/// distance, two more than the smaller of that number and the number of distances that begin in
-/// that many ticks.
+/// Where the script keeps its bounds, a time-triggered routine takes at most (2 + n) times its
+/// budget in any k consecutive instants of a run, where n is the number of its enables there; for a
+/// routine with a distance, n is the smaller of that and the number of distances that begin in k
+/// ticks.
 pub fn isr_is_bounded()
     ensures { IsrIsBounded }
 {}
@@ -17,9 +17,9 @@ pub fn no_miss()
     ensures { NoMiss }
 {}
 
-/// In every run, also of a script that does not keep its bounds and where the check says no, no
-/// instant is deeper than the bound of the depth, and none takes more stack words than that of the
-/// words.
+/// In every run, no instant is deeper than the depth bound, and none takes more stack words than
+/// the words bound. This holds also where the script does not keep its bounds, and where the check
+/// says no.
 pub fn stack_is_bounded()
     ensures { StackIsBounded }
 {}

@@ -38,7 +38,8 @@ fn weight_of(measure: Measure, parts: &ConfigParts, row: Activation) -> u64
     }
 }
 
-/// What the activations count whose checks stand between two places of a table's list of checks.
+/// The sum of the weights of the activations whose checks are between two places of a table's list
+/// of checks.
 fn checked_between(
     measure: Measure,
     parts: &ConfigParts,
@@ -64,9 +65,10 @@ fn checked_between(
     sum
 }
 
-/// The largest over the offsets of a mode of what the activations count whose windows cover the
-/// offset. A window opens with its activation, so this is the largest at the offsets of
-/// activations. What has closed by then is in front of the checks of later offsets.
+/// The largest sum, over the offsets of a mode, of the weights of the activations whose windows
+/// cover the offset. A window opens with its activation, so this is the largest at the offsets of
+/// activations. The windows that have closed by then are those whose checks come before the checks
+/// of later offsets.
 fn most_in(measure: Measure, parts: &ConfigParts, table: &Table) -> u64
     requires rules { IsConfig parts.now }
     requires table { IsTableOf parts.now table.now }
@@ -102,10 +104,10 @@ fn most_open(measure: Measure, config: &Config, tables: &Tables) -> u64
 }
 
 /// How many activations and time-triggered routines are unfinished at once at most, in every run:
-/// the largest number of activations of one mode whose windows cover one offset, and the number of
+/// the largest number of activations of one mode whose windows cover one offset, plus the number of
 /// time-triggered routines. The window of an activation reaches from its offset up to its
-/// monitoring point, and not including it; where the point is the round's end, up to the longest
-/// round's. The tables are those of the configuration.
+/// monitoring point, which it does not include; where the point is the round's end, up to that of
+/// the longest round. The tables are those of the configuration.
 pub fn depth_bound(config: &Config, tables: &Tables) -> u64
     requires { tables.now ≡ tables_of config.now }
     ensures exact { result ≡ depth_bound config.now }
@@ -116,8 +118,8 @@ pub fn depth_bound(config: &Config, tables: &Tables) -> u64
 }
 
 /// How many stack words unfinished activations and time-triggered routines take at most, in every
-/// run: the largest sum over activations of one mode whose windows cover one offset, and that over
-/// the time-triggered routines. The tables are those of the configuration.
+/// run: the largest sum over activations of one mode whose windows cover one offset, plus the sum
+/// over the time-triggered routines. The tables are those of the configuration.
 pub fn words_bound(config: &Config, tables: &Tables) -> u64
     requires { tables.now ≡ tables_of config.now }
     ensures exact { result ≡ words_bound config.now }

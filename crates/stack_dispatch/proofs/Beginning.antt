@@ -57,7 +57,7 @@ pub lefts_begun : (body : List Stmt) (n : ℕ) (s : Subsystem)
     → lefts (begun body n s).routines ≡ slice_set (lefts s.routines) n body
 lefts_begun body n s = map-set left_in s.routines n (Some body)
 
--- something is left of each still
+-- something is still left of each
 pub settled_begun : (body : List Stmt) (n : ℕ) (s : Subsystem) → body ≢ [] → IsSettled s → IsSettled (begun body n s)
 settled_begun body n s some h = record {
   tasks = h.tasks;

@@ -19,7 +19,7 @@ fewer_kept p (x ∷ xs) =
     cond_both (p x) (x ∷ filter p xs) (filter p xs) (λ (ys : List Runner). length ys ≤ length (x ∷ xs))
     (λ _. omega arith) (λ _. omega arith)
 
--- one that is there goes
+-- a list without one that is there is shorter
 one_goes : (test : Runner → Bool) (xs : List Runner) → list_any test xs ≡ true
     → length (filter (λ r. not (test r)) xs) < length xs
 one_goes test [] e = cc
@@ -63,7 +63,7 @@ module _ (c : ConfigParts) (s : ScriptParts) where
       (λ (kept : List Runner). length kept ≤ length begun)
       (λ _. fewer_kept (λ r. not (is_job r)) begun) (λ _. omega arith)
 
-  -- those that have ended, and those that have begun and not ended, have begun
+  -- the statements that have ended, plus each `work` that is begun and not ended, are at most those that have begun
   account : (n : ℕ) → ended_before c s n + length (begun_before c s n) ≤ begins_before c s n
   unfolding ended_before begun_before begins_before
   account zero = omega arith
@@ -123,7 +123,7 @@ module _ (c : ConfigParts) (s : ScriptParts) where
         subst (λ n. FewMoves c s m n before after) (sym is)
         (subst (λ n. FewMoves c s m (m + j) before n) (sym counted) l)
 
-    -- a statement has ended with the last
+    -- a statement ends at the last instant
     pub few_by_end : after ≡ before + 1 → ends_at c s (m + j) ≡ true → FewMoves c s m last before after
     few_by_end counted e =
         let more = one_ended (m + j) e in
@@ -134,7 +134,7 @@ module _ (c : ConfigParts) (s : ScriptParts) where
         let same = ap (due_before c s) place in
         at_last (omega (arith, more, next, ended, due, same)) counted
 
-    -- something is due after the last
+    -- something is due at the instant after the last
     pub few_by_due : after ≡ before + 1 → is_due c s (world_at c s (m + suc j)) ≡ true
         → FewMoves c s m last before after
     few_by_due counted e =
@@ -160,7 +160,7 @@ module _ (c : ConfigParts) (s : ScriptParts) where
 
   -- ---- the moves of a run
 
-  -- those of the instants before, and of those that were passed
+  -- the moves of the instants before, and of those that were passed
   pub moves_last : (from last first before after : ℕ)
       → before ≤ first + (ended_before c s from + due_before c s (from + 1)) → FewMoves c s from last before after
       → after ≤ first + (ended_before c s (last + 1) + due_before c s (last + 2))

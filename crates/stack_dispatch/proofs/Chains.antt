@@ -1,4 +1,4 @@
--- Events that are told one after the other.
+-- Events that are reported one after the other.
 use Rattle.std.proofs.Common.{List, [], ◌∷◌, ◌++◌}
 use Rattle.tt_base.specs.declared.event.Event.{Event}
 use Rattle.trace_text.specs.declared.recorder.Recorder.{Ghosts}
@@ -6,7 +6,7 @@ use Rattle.stack_dispatch.specs.Told.{Logged, Tells}
 use Rattle.stack_dispatch.proofs.Telling.{tells_both}
 
 module _ {S : Type 0} (r : Ghosts S) where
-  -- two events were told
+  -- two events were reported
   pub tells_two : (a b d : Logged S) (one other : Event) → Tells r a (one ∷ []) b → Tells r b (other ∷ []) d
       → Tells r a (one ∷ other ∷ []) d
   tells_two a b d one other p q = tells_both r a b d (one ∷ []) (other ∷ []) p q

@@ -15,7 +15,7 @@ use Rattle.stack_dispatch.proofs.Telling.{SoFar, so_far_none, so_far_more, so_fa
 abbrev no_offset : IsrNo → EnableRow
 no_offset isr = record { offset = 0; isr = isr }
 
--- what is left gives the world and the end of all, and of the events of all the others were told
+-- what is left leads to the same world and end as all, and the events before those that are left were reported
 pub record Leads {L : Type 0} (Told : L → List Event → L → Type 0) (before : L) (all : Moved) (now : L)
     (left : Moved) : Type 0 where
   pub world_is : all.world ≡ left.world

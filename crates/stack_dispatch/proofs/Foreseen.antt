@@ -71,7 +71,7 @@ not_latched r (Some length) offset next e l m late here = let after = late lengt
 
 module _ {L : Type 0} {Told : L → List Event → L → Type 0} (telling : IsTelling Told) where
   module _ (c : ConfigParts) (s : ScriptParts) where
-    -- up to below the next due tick nothing is due
+    -- nothing is due before the next due tick
     module _ (st : RunState) (can : CanPass c s st) (next : ℕ) (ahead : IsAhead c 0 st next)
         (idle : st.world.tick < next) where
       here : st.world.start + offset_of st.world ≡ st.world.tick

@@ -20,7 +20,7 @@ finish_is who true false sub e f = refl
 finish_is who false ends sub e f = cc
 finish_is who true true sub e f = cc
 
--- what was made, from its parts
+-- what followed from an effect, by its parts
 pub parts_are : (e : Effected) (d : Did) (q : Round) (s : Subsystem) (b : Bool) → d ≡ e.did → q ≡ e.round
     → s ≡ e.subsystem → b ≡ e.ends
     → (let x : Effected = record { did = d; round = q; subsystem = s; ends = b } in x) ≡ e
@@ -53,7 +53,7 @@ module _ (who : Owner) (k : ℕ) (env : Store) (sub sub1 : Subsystem) (o : Optio
   pub effects_are : effects ≡ (idle_ticks k who env sub).effects
   effects_are = ap (λ (st : State). st.effects) tick_is
 
-  -- what may be called may be called of the subsystem after the ticks
+  -- a call that the owner may make may also be made after the ticks
   pub may_still : (now : ℕ) (r : Round) (setup setup1 : Setup) → setup1 ≡ setup
       → MayDo now who (idle_ticks k who env sub).effects r setup
       → MayDo now who effects r setup1
@@ -96,7 +96,7 @@ module _ (who : Owner) (k : ℕ) (env : Store) (sub sub1 : Subsystem) (o : Optio
           ap (owner_left sub1) picks ∙ left_is in
           (λ t. sym same_left ∙ ended_is.0 t, λ e. ended_is.1 (same_left ∙ e))
 
-      -- what was made is what the ticks give
+      -- what followed from the effect is what the ticks give
       pub gave : owner_left sub (Some who) ≢ [] → (over : Bool) → over ≡ (x.ends || ended)
           → GaveIdle body now who (idle_ticks k who env sub) r sub (record { did = x.did; ended = over }) x.round final
       unfolding E

@@ -41,7 +41,7 @@ use Rattle.stack_dispatch.proofs.Quiet.{can_more, jump_none, jump_some, last_run
 use Rattle.stack_dispatch.proofs.WorkedOff.{front_worked}
 use Rattle.stack_dispatch.proofs.Working.{fewer, work_depth, work_left, work_more, work_owner, work_runner, work_tick, work_words}
 
--- the events of the opening before k ticks of work, of which only that of the first has any; and those of the ticks
+-- the events of the opening after k ticks of work: only the first opening has any; and those of the instants before it
 abbrev opened_then : ℕ → List Event → List Event
 opened_then zero es = es
 opened_then (suc k) es = []
@@ -50,7 +50,7 @@ abbrev told_then : ℕ → (es line : List Event) → List Event
 told_then zero es line = []
 told_then (suc k) es line = es ++ line
 
--- a way to tell events of which nothing is asked
+-- a reporting of events of which nothing is asked
 quietly : IsTelling {L = Unit {0}} (λ _ _ _. Unit {0})
 quietly = record { none = λ _. tt; both = λ _ _ _ _ _ _ _. tt }
 
@@ -64,9 +64,6 @@ some_runner (runner.Osek i) some = refl
 module _ (c : ConfigParts) (s : ScriptParts) (t next : ℕ) (v : World) (b : Beside) (es : List Event) where
   abbrev line : List Event
   line = run_line v (owner_of c v (runner_of c v))
-
-  abbrev worked_state : ℕ → RunState
-  worked_state k = record { world = at_work c k v; beside = b }
 
   -- after the opening of instant t + k the one who runs has taken k ticks of work since that of instant t, which left
   -- the world v and had the events es
@@ -205,7 +202,7 @@ module _ (c : ConfigParts) (s : ScriptParts) (t next : ℕ) (v : World) (b : Bes
             ∙ ap (λ n. max (max most (f v)) n) same
             ∙ greater
 
-        -- one tick of work more
+        -- one more tick of work
         pub reached_more : Reached (suc k)
         reached_more = record {
           going = going_later;
@@ -296,7 +293,7 @@ module _ (c : ConfigParts) (s : ScriptParts) (t next : ℕ) (v : World) (b : Bes
         ap (λ (m : Moved). left_of m.world (runner_at c s (t + k))) h.opens
         ∙ ap (left_of (at_work c k v)) runner_now ∙ work_left c v k can
 
-    -- its tick ends a statement where no work is left then
+    -- its tick ends a statement where no work is left after it
     last_ends : (runner_of c v ≡ runner.Nobody → ⊥) → suc k ≤ max 1 (work_in_front (left_of v (runner_of c v)))
         → work_in_front (left_of v (runner_of c v)) ≤ suc k → ends_at c s (t + k) ≡ true
     last_ends somebody within few =

@@ -50,7 +50,7 @@ module _ (c : ConfigParts) (s : ScriptParts) (rules : IsConfig c) (script : IsSc
       (sym ran.reports.status ∙ ap (λ (end : RunEnd). status_by end report.ticks) is)
   run_meets r before after Failed ran said kept = tt
 
-  -- the report of a run that ended tells a depth and words that are at most their bounds
+  -- the report of a run that ended has a depth and words that are at most their bounds
   pub run_bounded : {S : Type 0} (r : Ghosts S) (before after : S) (run : Run)
       → Ran r (record { config = c; script = s }) before after run → OnEnded run (IsWithinBounds c)
   run_bounded r before after (Ended report) ran =

@@ -22,7 +22,7 @@ use Rattle.osek_idle.proofs.Picking.{AreSettled, ready_at}
 use Rattle.stack_dispatch.specs.Due.{AreMarked, CanBegin}
 use Rattle.stack_dispatch.specs.State.{RunState, Beside, window_in, with_sources}
 
--- of 16 flags those below a number are set where something is left, and none from it on
+-- of 16 flags, those below a number are set where something is left, and the others are not set
 pub record MarkedTo (count : ℕ) (lefts : List (List Stmt)) (flags : List Bool) : Type 0 where
   pub long : length flags ≡ 16
   pub marked : AreMarked count lefts flags

@@ -59,7 +59,7 @@ none_there p [] d e k l = absurd (omega arith)
 none_there p (x ∷ xs) d e zero l = (or_none (p x) (list_any p xs) e).0
 none_there p (x ∷ xs) d e (suc k) l = none_there p xs d (or_none (p x) (list_any p xs) e).1 k (omega arith)
 
--- the least of the next arrivals at the sources
+-- where the next arrival at each source is not before a tick, the least of them is not
 next_from : (c : ConfigParts) (now : ℕ) (g : Window) → AreSourcesOf c g
     → ((k : ℕ) → k < length (sources c) → IsFrom now (slice_get (left_at g (source_at c k)) 0))
     → IsFrom now (next_tick g)
@@ -95,7 +95,7 @@ module _ (c : ConfigParts) (s : ScriptParts) (t : ℕ) (g : Window) (are : AreSo
       absurd (omega arith))
       (cases_Bool (is_arrival c s a))
 
-  -- it comes at the tick from which they are left, or later
+  -- it is not before the tick from which the arrivals are left
   pub arrival_from : t ≤ a
   arrival_from = subst (IsFrom t) next
       (next_from c t g are (λ k below.

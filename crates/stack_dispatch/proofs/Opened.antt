@@ -27,7 +27,7 @@ use Rattle.tt_world.proofs.Ends.{are_bounded}
 use Rattle.tt_world.proofs.Keeps.{Holds, IgnoresGates, monitored_holds, enables_hold, arrivals_hold, acceptances_hold}
 use Rattle.tt_world.proofs.Late.{Late, late_at}
 use Rattle.tt_world.proofs.Modes.{Named, has_mode, opening_named, run_named}
-use Rattle.tt_world.proofs.Moves.{gives_first, gives_over, gives_done, gives_next, gives_stop}
+use Rattle.tt_world.proofs.Moves.{gives_first, gives_over, gives_done, gives_stop}
 use Rattle.tt_world.proofs.Openings.{activated_in, due_same}
 use Rattle.tt_world.proofs.Parts.{Before, Latched, Begun, Alone, Anything, Leads, followed_leads, chain_each, led_on}
 use Rattle.tt_world.proofs.Points.{Ahead, latch_ahead, round_end_ahead, checks_ahead, ahead_at}
@@ -217,7 +217,7 @@ module _ {L : Type 0} {Told : L → List Event → L → Type 0} (telling : IsTe
           ∙ sym (enables_are (rows (mode_of c w)) u)
           ∙ ap (λ (es : List Enable). chain (map enable es) u) here) g
 
-      -- after the acceptances the activations stand as before, and no checked point is ahead of the offset
+      -- after the acceptances the activations are as before, and no point of an unfinished activation was passed
       pub before_activation : (e0 e1 e2 e3 e4 : L) (w1 w2 w3 w4 : World) (end : Outcome)
           → Gives Told e0 e1 w1 end (monitored_entries c table.mode
           (slice_range (checks_of table) d.checks_from d.checks_to) w) → end ≡ None
@@ -354,14 +354,6 @@ module _ {L : Type 0} {Told : L → List Event → L → Type 0} (telling : IsTe
     instant_over w v a b end last g is =
         gives_stop a b v (Some last) (opening c s w) (step c s) refl
         (subst (λ o. Gives Told a b v o (opening c s w)) is g)
-
-    pub instant_on : (w v u : World) (a b d : L) (end last : Outcome) → Gives Told a b v end (opening c s w)
-        → end ≡ None
-        → Gives Told b d u last (step c s v) → Gives Told a d u last (instant c s w)
-    unfolding instant
-    instant_on w v u a b d end last g on h =
-        gives_next telling a b d v u last (opening c s w) (step c s)
-        (subst (λ o. Gives Told a b v o (opening c s w)) on g) h
 
     -- after the tick the arrivals to come are those from the next tick on
     pub ticked_sources : (t : ℕ) (st next : RunState) (a b : L) → Gives Told a b next.world None (step c s st.world)

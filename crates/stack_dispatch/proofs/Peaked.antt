@@ -1,5 +1,5 @@
 -- The greatest depth and the most words of stack, instant after instant.
-use Rattle.std.proofs.Common.{◌≡◌, ℕ, suc, None, Some, refl, ap, sym, ◌∙◌, arith}
+use Rattle.std.proofs.Common.{◌≡◌, ℕ, suc, Some, refl, ap, sym, ◌∙◌, arith}
 use Rattle.std.specs.Prelude.{max, if◌then◌else◌}
 use Rattle.tt_world.specs.declared.config.ConfigParts.{ConfigParts}
 use Rattle.tt_world.specs.declared.script.ScriptParts.{ScriptParts}
@@ -21,12 +21,6 @@ in_tick_over : (number : World → ℕ) (m : Moved) (end : Outcome) (last : RunE
 in_tick_over number m end last is same =
     ap (λ (o : Outcome). if is_over o then 0 else number m.world) (sym same ∙ is)
 
--- the number of the world after an opening
-pub in_tick_on : (number : World → ℕ) (m : Moved) (end : Outcome) (v : World) → end ≡ None → end ≡ m.end → v ≡ m.world
-    → in_tick number m ≡ number v
-in_tick_on number m end v on same world =
-    ap (λ (o : Outcome). if is_over o then 0 else number m.world) (sym same ∙ on) ∙ ap number (sym world)
-
 module _ (c : ConfigParts) (m : Moved) (p : Peaks) (end : Outcome) (same : end ≡ m.end) where
   -- an opening that ends the run raises nothing
   pub raised_over : (last : RunEnd) → end ≡ Some last → p ≡ raised c m p
@@ -36,15 +30,6 @@ module _ (c : ConfigParts) (m : Moved) (p : Peaks) (end : Outcome) (same : end �
       ap (λ (k : ℕ). record { deepest = k; words = p.words }) (sym (ap (max p.deepest) depth ∙ max_zero p.deepest))
       ∙ ap (λ (k : ℕ). record { deepest = max p.deepest (in_tick depth_of m); words = k })
       (sym (ap (max p.words) words ∙ max_zero p.words))
-
-  -- any other raises them to those of the world after it
-  pub raised_on : (v : World) → end ≡ None → v ≡ m.world
-      → record { deepest = max p.deepest (depth_of v); words = max p.words (words_of c v) } ≡ raised c m p
-  raised_on v on world =
-      ap (λ (k : ℕ). record { deepest = max p.deepest k; words = max p.words (words_of c v) })
-      (sym (in_tick_on depth_of m end v on same world))
-      ∙ ap (λ (k : ℕ). record { deepest = max p.deepest (in_tick depth_of m); words = max p.words k })
-      (sym (in_tick_on (words_of c) m end v on same world))
 
 -- before the first instant there is none
 pub peaks_first : (c : ConfigParts) (s : ScriptParts) → record { deepest = 0; words = 0 } ≡ peaks_before c s 0

@@ -73,7 +73,7 @@ pub set_by : (vars : List ℤ) (stmt : Stmt) (var : VarNo) (expr : Expr) → stm
 set_by vars stmt var expr e =
     ap (vars_by vars) (ap out-Stmt (e ∙ sym (s.rolls-Set var expr)) ∙ out-roll-Stmt (Stmt-F.Set var expr))
 
--- an `out` tells its value
+-- an `out` reports its value
 pub out_by : (at : ℕ) (hook : Owner) (vars : List ℤ) (stmt : Stmt) (expr : Expr) → stmt ≡ s.Out expr
     → outs_by at hook vars (out-Stmt stmt) ≡ Out at hook (value_of vars expr) ∷ []
 out_by at hook vars stmt expr e =

@@ -1,4 +1,4 @@
--- A move tells at most one Run event: that of its first tick.
+-- A move reports at most one Run event: that of its first tick.
 use Rattle.std.proofs.Common.{ℕ, Option, None, Some, ◌≡◌, ◌≤◌, ◌+◌, List, [], ◌∷◌, ◌++◌, Bool, true, false, refl, ap, sym, ◌∙◌, subst, arith, length, ⊎_elim}
 use Rattle.std.specs.Prelude.{◌&&◌, IfSome, filter, not}
 use Rattle.std.proofs.lemmas.Bool.{cases_Bool, cond-false, cond_both}
@@ -81,7 +81,7 @@ module _ (c : ConfigParts) (s : ScriptParts) where
       (⊎_elim (λ (over : is_over m.end ≡ true). led_over NoRuns NoRunsOver [] m over h)
       (λ (on : is_over m.end ≡ false). led_on NoRuns NoRunsOver [] m on h) (cases_Bool (is_over m.end)))
 
-  -- nor have the ticks, but for the line before them
+  -- the ticks have only that of the line before them
   pub jump_runs : (k : ℕ) (w : World) → runs_in (jump c s k w).events ≤ 1
   unfolding jump followed
   jump_runs k w =
@@ -107,7 +107,7 @@ module _ (c : ConfigParts) (s : ScriptParts) where
       by_end true m next h k = h
       by_end false m next h k = k
 
--- ---- moves as a way to tell events
+-- ---- moves as a reporting of events
 
 pub counting : IsTelling Counted
 counting = record {

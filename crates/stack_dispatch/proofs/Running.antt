@@ -19,8 +19,8 @@ use Rattle.tt_world.proofs.Ends.{tick_at, few_ticks, last_is, last_unique, goes_
 use Rattle.tt_world.proofs.Stamps.{EndsAs}
 use Rattle.tt_world.proofs.Closing.{schedule_says, ended_status, ended_stamp}
 
--- the world is that of the schedule at the present tick, and the events of the instants before it were told from this
--- on
+-- the world is that of the schedule at the present tick, and the events of the instants before it were reported, from
+-- `first` on
 pub record AtTick {L : Type 0} (Told : L → List Event → L → Type 0) (c : ConfigParts) (s : ScriptParts) (first : L)
     (w : World) (now : L)
     : Type 0 where
@@ -42,7 +42,7 @@ has_number c s bounded w a =
     let short = bounded.round_short in
     omega arith
 
--- ---- the events of a front of a run, and the others
+-- ---- the events of a prefix of a run, and the others
 
 front_is : (c : ConfigParts) (s : ScriptParts) (n k : ℕ)
     → events_before c s (n + k) ≡ events_before c s n ++ events_between c s n k

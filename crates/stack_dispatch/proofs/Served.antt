@@ -1,4 +1,4 @@
--- The checks of the entries that are due are those of the jobs whose point is due.
+-- The checks of the entries that are due are those of the activations whose point is due.
 use Rattle.std.proofs.Common.{ℕ, ◌≡◌, ◌<◌, ◌≤◌, ◌-◌, List, [], length, Bool, true, false, Option, None, Some, refl, ap, sym, ◌∙◌, subst, arith, ⊎_elim}
 use Rattle.std.specs.Prelude.{ℤ, pos, negsuc, ◌&&◌, nat_le, nat_lt}
 use Rattle.std.proofs.lemmas.Bool.{cond-true, cases_lt, eqb-true, leb-true, ltb-true, and_parts, false_from_ne_true}
@@ -29,7 +29,7 @@ use Rattle.stack_dispatch.specs.Checking.{monitored_entries}
 use Rattle.stack_dispatch.specs.Served.{IsServed, IsTableOf}
 use Rattle.stack_dispatch.proofs.Checking.{checked_by_entry}
 
--- a correction of nothing changes nothing
+-- a correction that is not 0 is a change
 pub no_change : (by : ℤ) → (by ≡ pos 0 → ⊥) → is_no_change by ≡ false
 no_change (pos ticks) ne = false_from_ne_true _ (λ e. ne (ap pos (eqb-true ticks 0 e)))
 no_change (negsuc ticks) ne = refl
@@ -58,7 +58,7 @@ module _ {L : Type 0} {Told : L → List Event → L → Type 0} (telling : IsTe
     rows : AreRows c (mode_of c w)
     rows = mode_rows c w.mode.0 served.rules
 
-    -- an entry whose monitoring point is the present offset has a job
+    -- an entry whose monitoring point is the present offset has an activation
     due_there : (entry : ℕ) → entry < length (mode_of c w).activations
         → is_at (offset_of w) (point_of (mode_of c w) (row_of (mode_of c w) entry)) ≡ true → entry < length w.jobs
     due_there entry l here =

@@ -44,7 +44,7 @@ some_one (Some left) some = refl
 pub some_ready : (states : States) (n : ℕ) → left_in (slice_index_or states n None) ≢ [] → is_ready states n ≡ true
 some_ready states n some = some_one (slice_index_or states n None) some
 
--- who is ready stays so where one that is ready goes on
+-- who is ready stays the same where one that is ready goes on
 pub ready_set : (xs : States) (n m : ℕ) (left : List Stmt) → is_ready xs n ≡ true
     → is_ready (slice_set xs n (Some left)) m ≡ is_ready xs m
 ready_set [] n m left h = cc
@@ -64,7 +64,7 @@ pub lefts_set : (tasks : States) (n : ℕ) (state : Option (List Stmt))
     → lefts (slice_set tasks n state) ≡ slice_set (lefts tasks) n (left_in state)
 lefts_set tasks n state = map-set left_in tasks n state
 
--- one of which nothing is left may go
+-- the removal of one of which nothing is left changes nothing of what is left
 spent : (xs : States) (n : ℕ) → left_in (slice_index_or xs n None) ≡ [] → lefts (slice_set xs n None) ≡ lefts xs
 spent xs n none =
     lefts_set xs n None
@@ -89,7 +89,7 @@ owner_ready owner.ErrorHook sub some = tt
 owner_ready owner.ShutdownHook sub some = tt
 owner_ready owner.Idle sub some = tt
 
--- after a tick of it
+-- it is still ready after a tick of it
 pub owner_stays : (who : Owner) (sub : Subsystem) (left : List Stmt) → Readied who sub
     → Readied who (owner_leaving (Some who) left sub)
 owner_stays (owner.Osek task) sub left h = ready_set sub.tasks task.0 task.0 left h ∙ h
@@ -123,7 +123,7 @@ leaving_settled owner.ErrorHook sub left some h = h
 leaving_settled owner.ShutdownHook sub left some h = h
 leaving_settled owner.Idle sub left some h = h
 
--- but for the owner all stay settled
+-- all but the owner stay settled
 finished_settled : (who : Owner) (sub : Subsystem) (left : List Stmt) → IsSettled sub
     → IsSettled (finished who (owner_leaving (Some who) left sub))
 finished_settled (owner.Osek task) sub left h = record {
@@ -272,7 +272,7 @@ module _ (body : ℕ → List Stmt) (now : ℕ) (r : Round) (setup : Setup) (all
   not_ended who true sub = refl
   not_ended who false sub = refl
 
-  -- after a tick of an owner, the effect and the end of the owner all are settled again
+  -- after a tick of an owner, its effect, and the owner's end, all are settled again
   pub settles : (who : Owner) (es : List Effect) (sub : Subsystem) (left : List Stmt) (ended : Bool)
       → (IsTrue ended ↔ (left ≡ []))
       → MayDo now who es r setup → IsSettled sub

@@ -1,4 +1,4 @@
--- The whole tick of the one who runs: what it told, and what follows from it.
+-- The whole tick of the one who runs: what it reported, and what follows from it.
 use Rattle.std.proofs.Common.{ℕ, zero, suc, ◌≡◌, ◌+◌, ◌-◌, ◌<◌, ◌≤◌, ◌^◌, List, [], ◌∷◌, true, Bool, refl, ap, sym, ◌∙◌, None, Some, subst, arith}
 use Rattle.std.specs.Prelude.{◌&&◌}
 use Rattle.std.proofs.lemmas.Bool.{cond-true}
@@ -174,7 +174,7 @@ module _ (c : ConfigParts) (s : ScriptParts) (k : ℕ) (some : 1 ≤ k) (st afte
     (runs : r ≡ runner_of c st.world) (owns : who ≡ owner_of c st.world r)
     (is : after.world ≡ waited (k - 1) who st.world) (beside : after.beside ≡ st.beside)
     (can : CanJump c s k st) where
-  -- the same one runs, and can take so many ticks
+  -- the same one runs, and can take k ticks
   pub waits_within : CanWork k r (left_of after.world r)
   waits_within =
       subst (λ (w : World). CanWork k r (left_of w r)) (sym is)
@@ -199,7 +199,7 @@ module _ (c : ConfigParts) (s : ScriptParts) (k : ℕ) (some : 1 ≤ k) (st afte
         beside = st.beside;
       })) (sym runs) can.last)))
 
-  -- so many ticks later
+  -- k - 1 ticks later
   pub waits_last : (last : ℕ) → last ≡ after.world.tick → last ≡ st.world.tick + (k - 1)
   waits_last last e = e ∙ ap (λ (w : World). w.tick) is ∙ tick_waited (k - 1) who st.world
 

@@ -209,7 +209,7 @@ module _ (c : ConfigParts) (s : ScriptParts) (st : RunState) (r : Runner) (who :
   pub some_bodies : HaveSome (task_body st.beside.codes st.beside.setup) (length st.beside.setup.tasks)
   some_bodies = have_some c st.beside.codes st.beside.setup codes_are setup_is can.rules
 
-  -- what the tick calls may be called
+  -- the one who runs may make the call of the tick
   pub may_now : MayDo st.world.tick who (state_after c s st.world (left_of st.world r)).effects (round_in st)
       st.beside.setup
   may_now =
@@ -291,7 +291,7 @@ module _ (c : ConfigParts) (s : ScriptParts) (st : RunState) (r : Runner) (who :
     codes_stay : stack.codes ≡ st.beside.codes
     codes_stay = ap (λ (x : Stacked). x.codes) others ∙ same_codes (stack_of st) r now_left
 
-    -- what its tick calls may be called
+    -- it may make the call of its tick
     pub stack_may : MayDo st.world.tick who es (round_in st) st.beside.setup
     stack_may = subst (λ (xs : List Effect). MayDo st.world.tick who xs (round_in st) st.beside.setup)
         (sym (ap (λ (x : State). x.effects) ticked)) may_now

@@ -33,7 +33,7 @@ use Rattle.stack_dispatch.proofs.WorkedOff.{last_tick, undone_worked}
 use Rattle.stack_dispatch.proofs.Working.{leave_lessened, left_lessened, owner_lessened, runner_lessened, some_left}
 use Rattle.tt_stack.specs.Stacked.{Stacked, runner_in, running, left_in, leaving_in}
 
--- what is seen of a state is what its fields give
+-- contracts see of a state what its fields give
 pub took_seen : (c : ConfigParts) (s : ScriptParts) (k : ℕ) (r : Runner) (v st : RunState) (taken : Taken) (now : World)
     → v ≡ st → Took c s r (lessened k r v.world) taken now → Took c s r (lessened k r st.world) taken now
 took_seen c s k r v st taken now seen t = subst (λ (x : RunState). Took c s r (lessened k r x.world) taken now) seen t
@@ -190,7 +190,7 @@ module _ (c : ConfigParts) (s : ScriptParts) (st : RunState) (r : Runner) (who :
     stack_works = ⊎_elim (λ (e : r ≡ runner.Nobody). absurd (somebody e))
         (λ (l : k ≤ max 1 (work_in_front (left_of st.world r))). l) within
 
-    -- it has so much work left
+    -- it has work left for k ticks, or k is at most 1
     pub stack_within : k ≤ max 1 (work_in_front (left_in (stack_of st) (running (stack_of st))))
     stack_within =
         subst (λ (q : Runner). k ≤ max 1 (work_in_front (left_in (stack_of st) q))) (sym running_is)
@@ -217,7 +217,7 @@ module _ (c : ConfigParts) (s : ScriptParts) (st : RunState) (r : Runner) (who :
           (state_of (left_in (stack_of st) q) st.world.vars st.world.cursors [])) running_is ticked
           ∙ ticks_as (left_in (stack_of st) r) (stack_left st r on) (omega (arith, stack_works, some))
 
-      -- what its last tick calls may be called
+      -- it may make the call of its last tick
       pub all_may : MayDo st.world.tick who es (round_in st) st.beside.setup
       all_may = stack_may c s less r who can_less runs_less owns_less on stack vars cursors es others_less ticked_less
 
@@ -301,7 +301,7 @@ module _ (c : ConfigParts) (s : ScriptParts) (st : RunState) (r : Runner) (who :
     idle_works = ⊎_elim (λ (e : r ≡ runner.Nobody). absurd (subst IsInIdleTime e on))
         (λ (l : k ≤ max 1 (work_in_front (left_of st.world r))). l) within
 
-    -- it has so much work left
+    -- it has work left for k ticks, or k is at most 1
     pub idle_within : k ≤ max 1 (work_in_front (owner_left (subsystem_of codes osek) (Some who)))
     idle_within = subst (λ (left : List Stmt). k ≤ max 1 (work_in_front left)) left_there idle_works
 
@@ -310,7 +310,7 @@ module _ (c : ConfigParts) (s : ScriptParts) (st : RunState) (r : Runner) (who :
     idle_state =
         ticks_as (owner_left (subsystem_of codes osek) (Some who)) (sym left_there) (omega (arith, idle_works, some))
 
-    -- what its last tick calls may be called
+    -- it may make the call of its last tick
     pub idle_may : MayDo st.world.tick who (idle_ticks k who (store_of st) (subsystem_of codes osek)).effects
         (round_in st) (setup_of osek)
     idle_may =

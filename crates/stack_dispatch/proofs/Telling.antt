@@ -1,4 +1,4 @@
--- What is told, one after the other.
+-- Events that are reported, one after the other.
 use Rattle.std.proofs.Common.{ℕ, ◌≡◌, ◌+◌, Bool, true, false, List, [], ◌∷◌, ◌++◌, length, refl, ap, sym, ◌∙◌, subst, arith, append_assoc}
 use Rattle.std.specs.Prelude.{filter}
 use Rattle.std.proofs.lemmas.List.{length-append}
@@ -58,7 +58,7 @@ module _ {S : Type 0} (r : Ghosts S) where
     never_falls = omega (arith, p.never_falls, q.never_falls);
   }
 
-  -- nothing was told
+  -- nothing was reported
   pub tells_none : (a : Logged S) → Tells r a [] a
   tells_none a = record {
     same_recorder = refl;
@@ -68,7 +68,7 @@ module _ {S : Type 0} (r : Ghosts S) where
     activations_are = counted_none a.activations;
   }
 
-  -- some events were told, and then others
+  -- some events were reported, and then others
   pub tells_both : (a b d : Logged S) (some others : List Event) → Tells r a some b → Tells r b others d
       → Tells r a (some ++ others) d
   tells_both a b d some others p q = record {
@@ -87,9 +87,9 @@ module _ {S : Type 0} (r : Ghosts S) where
   pub telling : IsTelling (Tells r)
   telling = record { none = tells_none; both = tells_both }
 
--- ---- events of which some were told
+-- ---- events of which some were reported
 
--- of all these events the ones before those that are left were told
+-- of all these events, those before the ones that are left were reported
 pub record SoFar {L : Type 0} (Told : L → List Event → L → Type 0) (before : L) (all : List Event) (now : L)
     (left : List Event)
     : Type 0 where

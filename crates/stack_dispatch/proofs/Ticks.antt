@@ -110,7 +110,7 @@ module _ (c : ConfigParts) (w : World) (r : Runner) (round : Round) (setup : Set
   may_do_of s rules (effect.Out value ∷ rest) allowed named = tt
   may_do_of s rules (effect.Service k ∷ rest) allowed named = may_call_of k allowed.0 named.0
 
-  -- what the tick of the one who runs calls it may call
+  -- the one who runs may make the call of its tick
   pub may_do : (s : ScriptParts) → IsConfig c → (left : List Stmt) → IsRunnable c (kind_of r) left
       → MayDo w.tick (owner_of c w r) (state_after c s w left).effects round setup
   may_do s rules left runnable =
@@ -308,7 +308,7 @@ module _ (c : ConfigParts) (s : ScriptParts) (r : Runner) (who : Owner) (w : Wor
 -- ---- what an effect keeps
 
 module _ (body : ℕ → List Stmt) (now : ℕ) (who : Owner) (round : Round) (sub : Subsystem) where
-  -- of the round it changes the wanted mode, the pending correction and the global times
+  -- of the round it changes at most the wanted mode, the pending correction and the global times
   abbrev KeepsRound : Round → Type 0
   KeepsRound x = x ≡ record round { wanted = x.wanted; pending = x.pending; times_used = x.times_used }
 

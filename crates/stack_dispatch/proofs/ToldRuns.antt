@@ -1,4 +1,4 @@
--- A run that is told to a recorder.
+-- A run that is reported to a recorder.
 use Rattle.std.proofs.Common.{◌≡◌, ℕ, IsTrue, Bool, true, false, List, ◌++◌, refl, sym, ap, ◌∙◌, subst}
 use Rattle.std.specs.Borrow.{MutBor}
 use Rattle.std.specs.Prelude.{Option, Some, None, MatchOption, if◌then◌else◌}
@@ -26,7 +26,7 @@ module _ {S : Type 0} (r : Ghosts S) (names : List NameEntry) where
   notes_by true s t events e ready p = cc
   notes_by false s t events e ready p = record { kept = p.kept; ready = ready; never_falls = p.never_falls }
 
--- a log to which nothing was told yet
+-- a log that has no events yet
 abbrev fresh : {S : Type 0} → MutBor S → List NameEntry → Logged S
 fresh lent names = record { recorder = lent; names = names; failed = false; events = 0; activations = 0 }
 
@@ -91,7 +91,7 @@ module _ {S : Type 0} (r : Ghosts S) (b : Benched) (lent : MutBor S) (after : Lo
       subst (Ran r b lent.now after.recorder.now) (sym run_is) (ran_failed p.front p.rest p.split p.told p.failed)
   told_run (Some last) p run run_is ready = ran_by after.failed refl last p run run_is ready
 
--- a run that was told to a log to which nothing was told before
+-- a run that was reported to a log that had no events
 pub logged_run : {S : Type 0} (r : Ghosts S) (b : Benched) (before after : Logged S) (last : Option Last) (run : Run)
     → IsFresh b.config.names before
     → MatchOption last (FailsWithin r before (schedule b.config b.script) after)

@@ -81,7 +81,7 @@ module _ (c : ConfigParts) (s : ScriptParts) (st : RunState) (kept : IsFor c s s
       (last_unfinished 0 st.world.jobs))
       (ap (λ (f : Fixed). f.levels) kept)
 
-  -- who runs on the stack is who runs
+  -- who runs on the stack is the one who runs
   pub runs_on_stack : (r : Runner) → runner_in (stack_of st) ≡ Some r → r ≡ runner_of c st.world
   unfolding runner_of
   runs_on_stack r e = first_some (isr_runner c st.world) (task_runner st.world) (oisr_runner c st.world)

@@ -21,14 +21,14 @@ more_then : (j n : ℕ) (rest : List Stmt) → 1 ≤ n → worked_off (suc j) (w
 more_then j zero rest l = absurd (omega arith)
 more_then j (suc n) rest l = ap (λ (x : Stmt-F Stmt). work_then (work_of x - suc j) rest) (outs-Work (suc n))
 
--- one who is left more than k ticks of work is left something after k of them
+-- after k ticks of a longer `work`, something is left exactly where it was before
 pub undone_worked : (k : ℕ) (left : List Stmt) → suc k ≤ max 1 (work_in_front left)
     → is_done (worked_off k left) ≡ is_done left
 undone_worked zero left l = refl
 undone_worked (suc k) [] l = refl
 undone_worked (suc k) (front ∷ rest) l = undone_then (work_of (out-Stmt front) - suc k) rest (omega arith)
 
--- and the others ticks of that work
+-- and the other ticks of that `work` are left
 pub front_worked : (k : ℕ) (left : List Stmt) → suc k ≤ max 1 (work_in_front left)
     → work_in_front (worked_off k left) ≡ work_in_front left - k
 front_worked zero left l = omega arith

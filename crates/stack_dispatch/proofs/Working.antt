@@ -277,7 +277,7 @@ left_lessened (suc k) r w can =
     (λ (l : suc (suc k) ≤ max 1 (work_in_front (left_of w r))).
     left_then w r (worked_off (suc k) (left_of w r)) (some_left (left_of w r) (omega arith))) can
 
--- what is left of a runner is what was left last
+-- what is left of a runner is what it was left with last
 pub leave_lessened : (k : ℕ) (r : Runner) (w : World) (left : List Stmt)
     → leaving (lessened k r w) r left ≡ leaving w r left
 leave_lessened zero r w left = refl

@@ -1,4 +1,4 @@
--- Deadline monitoring of jobs that stand at the places of their entry numbers.
+-- Deadline monitoring, where each activation is at the place of its entry number.
 use Rattle.std.specs.Prelude.{◌≡◌, ℕ, List, [], ◌∷◌, Option, None}
 use Rattle.tt_base.specs.declared.number.TaskNo.{TaskNo}
 use Rattle.tt_base.specs.declared.event.Event.{Event}

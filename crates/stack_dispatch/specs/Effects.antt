@@ -21,7 +21,7 @@ pub record Effected : Type 0 where
   pub subsystem : Subsystem
   pub ends : Bool
 
--- what the effects of some ticks make of them; they have at most one
+-- what follows from the effects of some ticks; there is at most one
 abbrev pub effected : (body : ℕ → List Stmt) → (now : ℕ) → Owner → List Effect → Round → Subsystem → Effected
 effected body now who [] r s = record { did = did.Nothing; round = r; subsystem = s; ends = false }
 effected body now who (effect.Out value ∷ rest) r s = record
@@ -30,7 +30,7 @@ effected body now who (effect.Service call ∷ rest) r s =
     let p = performed body now who call r s in
     record { did = did.Called call p.result; round = p.round; subsystem = p.subsystem; ends = p.ends }
 
--- the owner may make the call, where one is the effect
+-- the owner may make the call, where the effect is one
 abbrev pub MayDo : (now : ℕ) → Owner → List Effect → Round → Setup → Type 0
 MayDo now who [] r setup = Unit {0}
 MayDo now who (effect.Out value ∷ rest) r setup = Unit {0}
@@ -40,7 +40,7 @@ MayDo now who (effect.Service call ∷ rest) r setup = MayCall now who call r se
 abbrev pub HaveSome : (ℕ → List Stmt) → ℕ → Type 0
 HaveSome body count = (number : ℕ) → number < count → body number ≢ []
 
--- an owner of which nothing is left has its end, unless a service has ended it
+-- an owner of which nothing is left ends, unless a service has ended it
 abbrev pub finished_at : Owner → (ended ends : Bool) → Subsystem → Subsystem
 finished_at who ended true s = s
 finished_at who true false s = finished who s
@@ -51,8 +51,8 @@ abbrev pub idle_ticks : ℕ → Owner → Store → Subsystem → State
 idle_ticks k who env s = ticks (supply_of env.demands env.values) k
     (state_of (owner_left s (Some who)) env.vars env.cursors [])
 
--- what ticks of an owner in idle time gave, of which this is left: what they did, whether the owner has ended, the
--- round, and what is left of the tasks and routines
+-- what the ticks of an owner in idle time gave, where this is left of it: what they did, whether the owner has ended,
+-- the round, and what is left of the tasks and routines
 pub record GaveIdle (body : ℕ → List Stmt) (now : ℕ) (who : Owner) (left : State) (r : Round) (s : Subsystem)
     (taken : Taken)
     (round : Round) (after : Subsystem) : Type 0 where

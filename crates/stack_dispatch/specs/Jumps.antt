@@ -1,4 +1,4 @@
--- Ticks that the one who runs takes at once: ticks of `work`, and ticks of idle time, at which nothing is due.
+-- Ticks taken at once where nothing is due: ticks of `work` of the one who runs, and ticks at which nobody runs.
 use Rattle.std.specs.Prelude.{◌≡◌, ℕ, zero, suc, ◌+◌, ◌-◌, ◌≤◌, ◌&&◌, max, min, List, [], ◌∷◌, Some, ◌⊎◌}
 use Rattle.task_lang.specs.Tick.{work_then}
 use Rattle.task_lang.specs.declared.syntax.Stmt.{Stmt, out-Stmt}
@@ -20,8 +20,8 @@ use Rattle.stack_dispatch.specs.Ticking.{CanTick}
 
 -- ---- how many ticks
 
--- how many ticks a runner of which this is left takes at once, where nothing is due at so many: in idle time all of
--- them, else at most as many as the `work` at its front has left; and one at least
+-- how many ticks a runner of which this is left takes at once, where nothing is due at `free` ticks: all of these if
+-- nobody runs, else at most the ticks left of the `work` at its front; at least one
 abbrev pub jump_of : Runner → List Stmt → (free : ℕ) → ℕ
 jump_of Nobody left free = max free 1
 jump_of runner left free = max (min free (work_in_front left)) 1
@@ -52,7 +52,7 @@ waited (suc k) who w = record w { tick = w.tick + suc k; last = Some who }
 abbrev pub at_work : ConfigParts → ℕ → World → World
 at_work c k w = let runner = runner_of c w in lessened k runner (waited k (owner_of c w runner) w)
 
--- k ticks of work of the one who runs, which tell nothing but the line before the first of them, and then its next tick
+-- k ticks of work of the one who runs, whose only event is the line before the first, and then its next tick
 unfoldable pub jump : ConfigParts → ScriptParts → ℕ → World → Moved
 jump c s k w =
     let runner = runner_of c w in
@@ -79,8 +79,8 @@ pub record IsOnSchedule (c : ConfigParts) (s : ScriptParts) (w : World) : Type 0
   pub world : w ≡ world_at c s w.tick
   pub going : GoesOnBefore c s w.tick
 
--- the instants from one on up to a last one were passed, and no instant before that one ends the run: their events were
--- told, and the world and how the run goes on are those after the last one
+-- the instants from one on up to a last one were passed, and no instant before the last ends the run: their events were
+-- reported, and the world and the end of the run are those after the last one
 pub record Passes {L : Type 0} (Told : L → List Event → L → Type 0) (c : ConfigParts) (s : ScriptParts)
     (from last : ℕ) (before after : L) (world : World) (end : Outcome) : Type 0 where
   pub later : from ≤ last

@@ -35,7 +35,7 @@ pub record IsMade (c : ConfigParts) (s : ScriptParts) (tables : List TableRows) 
   pub tables_are : tables ≡ tables_of c
   pub state_is : state ≡ first_state c s
 
--- all events of the schedule were told, and it ends so
+-- all events of the schedule were reported, and this is how it ends
 pub record EndsAll {S : Type 0} (r : Ghosts S) (c : ConfigParts) (s : ScriptParts) (before after : Logged S)
     (last : Last) : Type 0 where
   pub told : Tells r before (schedule c s) after
@@ -44,7 +44,7 @@ pub record EndsAll {S : Type 0} (r : Ghosts S) (c : ConfigParts) (s : ScriptPart
   pub rounds : last.rounds ≡ last_round (schedule c s)
   pub peaks : last.peaks ≡ peaks_before c s (suc (last_instant c s))
 
--- a front of the events of a schedule was told, within which the log failed
+-- a prefix of the events of a schedule was reported, and the log failed within it
 pub record FailsWithin {S : Type 0} (r : Ghosts S) (before : Logged S) (events : List Event)
     (after : Logged S) : Type 0 where
   pub front : List Event
@@ -69,7 +69,7 @@ pub record EndedRun {S : Type 0} (r : Ghosts S) (b : Benched) (before after : S)
   pub noted : Notes r b.config.names before (schedule b.config b.script) after
   pub reports : Reports b.config b.script report
 
--- by its answer: the recorder noted the schedule, and this is its report, or it was cut within the schedule
+-- by the run's answer: the recorder noted the schedule, and this is its report, or it was cut within the schedule
 abbrev pub Ran : {S : Type 0} → Ghosts S → Benched → S → S → Run → Type 0
 Ran r b before after (Ended report) = EndedRun r b before after report
 Ran r b before after Failed = CutWithin r b.config.names before (schedule b.config b.script) after
@@ -79,7 +79,7 @@ abbrev pub OnEnded : Run → (Report → Type 0) → Type 0
 OnEnded (Ended report) P = P report
 OnEnded Failed P = ⊤
 
--- the depth and the words that a report tells are at most the bounds of the configuration
+-- the depth and the words of a report are at most the bounds of the configuration
 pub record IsWithinBounds (c : ConfigParts) (report : Report) : Type 0 where
   pub depth : report.deepest ≤ depth_bound c
   pub words : report.words ≤ words_bound c
@@ -97,7 +97,7 @@ pub record KeepsLaws (c : ConfigParts) (events : List Event) : Type 0 where
 abbrev pub IsNotMissed : Run → Type 0
 IsNotMissed run = OnEnded run (λ report. (task : TaskNo) → report.end ≢ ending.Missed task)
 
--- the answer of a run that ended so, if it did, with this log
+-- the answer of a run with this end, if it ended, and with this log
 abbrev pub answered : {S : Type 0} → Option Last → Logged S → Run
 answered None log = Failed
 answered (Some last) log = if log.failed then Failed

@@ -1,4 +1,4 @@
--- What the parts of an opening rest on.
+-- What the parts of an opening require.
 use Rattle.std.specs.Prelude.{◌≡◌, ℕ, ◌+◌, ◌^◌, ◌<◌, ◌≤◌, false, not, List, [], Option, None, Some, IfSome, length, slice_index_or, slice_range}
 use Rattle.std.specs.List.{count_by}
 use Rattle.std.specs.Option.{ForSome}
@@ -28,8 +28,8 @@ use Rattle.stack_dispatch.specs.Counts.{IsDueAt}
 use Rattle.stack_dispatch.specs.Due.{NoneAccepted}
 use Rattle.stack_dispatch.specs.State.{RunState, IsFor, window_in}
 
--- the parts meet the rules, the round stands where it can stand at this part of an opening, the jobs stand as the
--- rows of the mode, and the monitoring points of those that are unfinished are still to come
+-- the configuration and the script meet the rules, the round is where it can be at this part of an opening, the
+-- activations are placed as the rows of the mode, and the monitoring points of the unfinished ones are still to come
 pub record IsServed (phase : Phase) (c : ConfigParts) (s : ScriptParts) (w : World) : Type 0 where
   pub rules : IsConfig c
   pub script : IsScript c s
@@ -54,7 +54,7 @@ pub record HasRoom (c : ConfigParts) (table : TableRows) (entry : ℕ) (st : Run
       ≡ slice_index_or st.beside.codes (row_of table.mode entry).task.0 []
   pub room : unfinished_of st.world.jobs < 64
 
--- places of the lists of a table: those of what stands at an offset
+-- the places, in the lists of a table, of what is due at an offset
 pub record StandsAt (table : TableRows) (offset : ℕ) (due : Due) : Type 0 where
   pub checks : slice_range (checks_of table) due.checks_from due.checks_to ≡ entries_due (is_at offset) table.mode
   pub checks_within : due.checks_to ≤ length (checks_of table)
@@ -105,7 +105,7 @@ round_in st = record {
   times_used = st.world.times_used;
 }
 
--- after the present offset nothing stands in the table of the present mode up to below a tick
+-- in the table of the present mode, nothing is due after the present offset and before a tick
 abbrev pub AreRowsFree : ConfigParts → World → ℕ → Type 0
 AreRowsFree c w tick = (offset : ℕ) → offset_of w + 1 ≤ offset → w.start + offset < tick → IsFree offset (mode_of c w)
 

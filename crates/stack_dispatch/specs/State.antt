@@ -15,9 +15,9 @@ use Rattle.isr_window.specs.Played.{with_window}
 use Rattle.osek_idle.specs.Subsystem.{Setup}
 use Rattle.osek_idle.specs.Standing.{setup_for}
 
--- what the runner keeps beside the world: how long a round is, how far it is corrected, how many modes and rounds
--- there are, the global times; the demands and the values that the script gives for them; the bodies of all programs,
--- the number of the first routine's, the levels of the routines, and what never changes of the OSEK subsystem; and
+-- what the runner keeps beside the world: how long a round is, how far it is corrected, how many modes and rounds there
+-- are, the global times; the demands and the values that the script gives for them; the bodies of all programs, the
+-- number of the first routine's program, the levels of the routines, and what never changes of the OSEK subsystem; and
 -- the ticks of the arrivals that were not yet taken
 pub record Beside : Type 0 where
   pub round : ℕ

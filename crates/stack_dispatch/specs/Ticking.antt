@@ -66,7 +66,7 @@ TookBy c s runner w left (effect.Service call ∷ rest) taken after =
     let answer = service c s runner call left w in
     GaveAnswer taken after runner (did.Called call answer.result) answer
 
--- the tick of a runner in a world, but for its events and the end of the run
+-- the tick of a runner in a world, without its events and the end of the run
 abbrev pub Took : ConfigParts → ScriptParts → Runner → World → Taken → World → Type 0
 Took c s runner w taken after =
     let state = state_after c s w (left_of w runner) in
@@ -80,7 +80,7 @@ follows c who (did.Called call result) w =
     let line = Called w.tick who call result ∷ [] in
     if is_shutdown call then preceded line (shuts_down c (Some ending.Shutdown) w) else goes_on w line
 
--- a part of the code of a tick did what its definition gives, and the runner has ended or not
+-- a part of the code of a tick did what its definition gives, also as to whether the runner has ended
 pub record IsTick {L : Type 0} (Told : L → List Event → L → Type 0) (before after : L) (world : World) (end : Outcome)
     (ended : Bool)
     (tick : RunnerTick) : Type 0 where

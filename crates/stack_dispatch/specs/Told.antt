@@ -1,4 +1,4 @@
--- What was told of a run.
+-- What was reported of a run.
 use Rattle.std.specs.Prelude.{◌≡◌, ◌≤◌, ℕ, Bool, true, false, List, length}
 use Rattle.std.specs.Borrow.{MutBor}
 use Rattle.tt_base.specs.declared.event.Event.{Event}
@@ -8,8 +8,8 @@ use Rattle.tt_world.specs.Load.{activations_in}
 use Rattle.trace_text.specs.declared.recorder.Recorder.{Ghosts}
 use Rattle.trace_text.specs.Records.{KeptAll, CutWithin}
 
--- the recorder that is lent, the names of the events' things, whether a note has failed, and how many events and
--- activations were told
+-- the recorder that is borrowed, the names of the things in events, whether a note has failed, and how many events and
+-- activations were reported
 pub record Logged (S : Type 0) : Type 0 where
   pub recorder : MutBor S
   pub names : List NameEntry
@@ -17,7 +17,7 @@ pub record Logged (S : Type 0) : Type 0 where
   pub events : ℕ
   pub activations : ℕ
 
--- a log with these names to which nothing was told yet
+-- a log with these names, and no events yet
 pub record IsFresh {S : Type 0} (names : List NameEntry) (log : Logged S) : Type 0 where
   pub names_are : log.names ≡ names
   pub not_failed : log.failed ≡ false
@@ -30,15 +30,15 @@ pub record Keeps {S : Type 0} (r : Ghosts S) (names : List NameEntry) (before : 
   pub kept : KeptAll r names before events after
   pub never_falls : r.faults before ≤ r.faults after
 
--- by whether a note had failed before and has now
+-- by whether a note had failed before, and has failed now
 abbrev pub ByFailed : {S : Type 0} → Ghosts S → List NameEntry → Bool → S → List Event → Bool → S → Type 0
 ByFailed r names true before events true after = after ≡ before
 ByFailed r names true before events false after = ⊥
 ByFailed r names false before events true after = CutWithin r names before events after
 ByFailed r names false before events false after = Keeps r names before events after
 
--- Events were told: they were noted, or it was cut within them; after that nothing is noted any more. All of them
--- were counted.
+-- Events were reported: the recorder noted them, or was cut within them; after that it notes nothing any more. All of
+-- them were counted.
 pub record Tells {S : Type 0} (r : Ghosts S) (before : Logged S) (events : List Event) (after : Logged S) : Type 0 where
   pub same_recorder : after.recorder.ghost_name ≡ before.recorder.ghost_name
   pub names_are : after.names ≡ before.names

@@ -1,4 +1,4 @@
-//! The bench: an application with its script, whose run is told to a recorder.
+//! The bench: an application with its script, whose run is reported to a recorder.
 
 ghost use Rattle.std.specs.Prelude.{◌≡◌, ◌≤◌, ◌+◌, IfOk, IsTrue};
 ghost use Rattle.tt_world.specs.ScriptRules.{IsScript};
@@ -13,7 +13,8 @@ use trace_text::Recorder;
 use tt_base::{Ledger, Memory, Steps};
 use tt_world::{Config, Script};
 
-/// An application with its script, and all that its run needs. Contracts see it as both.
+/// An application with its script, and all that its run needs. Contracts see the configuration and
+/// the script.
 #[derive(Drop)]
 pub struct Bench {
     config: Config,
@@ -45,8 +46,8 @@ impl Bench {
     ghost use Rattle.stack_dispatch.specs.Counts.{most_moves, runs_in};
     ghost use Rattle.stack_dispatch.specs.Reports.{IsNotMissed, IsWithinBounds, KeepsLaws, OnEnded, Ran};
 
-    /// A configuration on the bench, with a script that was made for it. It makes all codes,
-    /// tables and counters. Out of memory is its one refusal.
+    /// A configuration on the bench, with a script that was made for it. The call makes all codes,
+    /// tables and counters. Its only error is out of memory.
     pub fn new(alloc: Global, config: Config, script: Script) -> Result<Bench, Memory>
         requires { IsScript config script }
         ensures { IfOk result (λ bench. bench ≡ record { config = config; script = script }) }
@@ -61,15 +62,15 @@ impl Bench {
         })
     }
 
-    /// Runs up to the first missed deadline, the call of ttShutdownOS or the last round, and tells
-    /// each event to the recorder. It takes no memory. After an event that the recorder did not
-    /// keep it goes on to the next instant at which something may happen, and ends. A step is
-    /// counted for each move: the ticks of the one who runs that are taken at once.
+    /// Runs up to the first missed deadline, the call of ttShutdownOS or the last round, and
+    /// reports each event to the recorder. It takes no memory. After an event that the recorder did
+    /// not keep, it goes on to the next instant at which something may happen, and ends there. A
+    /// step is counted for each move, that is, for the ticks that the one who runs takes at once.
     pub fn run_trace<R: Recorder, L: Ledger>(self, recorder: &mut R, steps: &mut Steps<L>) -> Run
         requires { IsTrue (R.ready recorder.old) }
         ensures ran { Ran R.Recorder self recorder.old recorder.new result }
 
-        // The laws of the events that an ended run told, read from them without a state of the run.
+        // The laws of the events of a run, which are read from the events alone.
         ensures laws { KeepsLaws self.config (schedule self.config self.script) }
 
         // Where the check of the configuration says yes and the script keeps its bounds, no
@@ -82,11 +83,11 @@ impl Bench {
         // The stack is never deeper than the bound of the configuration, and never has more words.
         ensures bounded { OnEnded result (IsWithinBounds self.config) }
 
-        // No more moves are counted than there are statements that are begun and instants at which
-        // something is due, and one.
+        // The moves that are counted are at most the statements that are begun, plus the instants
+        // at which something is due, plus one.
         ensures few { steps.new ≤ steps.old + most_moves self.config self.script }
 
-        // And no less than there are changes of the owner, where the run has ended.
+        // And they are at least the changes of the owner, where the run has ended.
         ensures enough { OnEnded result (λ _. steps.old
             + runs_in (schedule self.config self.script) ≤ steps.new) }
     {

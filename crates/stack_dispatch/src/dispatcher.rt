@@ -167,7 +167,7 @@ impl State {
         self.open_due(config, script, tables, log)
     }
 
-    /// The tick of the next expiry point of the round, the greatest tick where there is none.
+    /// The tick of the next expiry point of the round; where there is none, the greatest tick.
     fn next_row(&self, config: &ConfigParts, tables: &Tables) -> Tick
         requires modes { self.now.beside.modes ≡ length config.now.modes }
         requires tables { tables.now ≡ tables_of config.now }
@@ -185,7 +185,7 @@ impl State {
         }
     }
 
-    /// The least tick after the present one at which something is due. Something is due then.
+    /// The next tick after the present one at which something is due.
     fn next_due(&self, config: &ConfigParts, script: &ScriptParts, tables: &Tables) -> Tick
         requires fixed { IsFor config.now script.now self.now.beside }
         requires timed { Timed Begun config.now script.now self.now.world }
@@ -261,8 +261,8 @@ impl State {
         None
     }
 
-    /// The instants from the present one on, up to the one at whose tick something is due next, the
-    /// work at the front of the one who runs ends, or another statement is there.
+    /// Passes the instants from the present one on: until something is due, or until the `work` at
+    /// the front of the one who runs ends; one instant where another statement is there.
     pub(crate) fn pass<R: Recorder, L: Ledger>(
         &mut self,
         config: &ConfigParts,

@@ -40,8 +40,8 @@ fn arrival(at: Tick, arrived: Arrived) -> Event
     }
 }
 
-/// Marks those of this many time-triggered sources whose routine is unfinished, where none is
-/// marked.
+/// Marks those of the first `count` time-triggered sources whose routine is unfinished. At the call
+/// none is marked.
 fn mark_isrs(stack: &TtStack, count: usize, busy: &mut Busy)
     requires few { count ≤ 16 }
     requires none { busy.old.isrs ≡ replicate 16 false }
@@ -56,8 +56,8 @@ fn mark_isrs(stack: &TtStack, count: usize, busy: &mut Busy)
     }
 }
 
-/// Marks those of this many sources of the OSEK subsystem whose routine is unfinished, where none
-/// is marked.
+/// Marks those of the first `count` sources of the OSEK subsystem whose routine is unfinished. At
+/// the call none is marked.
 fn mark_oisrs(osek: &Osek, count: usize, busy: &mut Busy)
     requires few { count ≤ 16 }
     requires none { busy.old.oisrs ≡ replicate 16 false }
@@ -85,7 +85,7 @@ impl State {
         log.tell(Event::Enable { at: self.tick, isr });
     }
 
-    /// The enables at these places of the table's list of enables, up to below the second place.
+    /// The enables in this half-open range of places of the table's list of enables.
     pub(crate) fn enable_all<R: Recorder>(
         &mut self,
         table: &Table,

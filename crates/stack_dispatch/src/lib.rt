@@ -1,4 +1,4 @@
-//! A run of a configuration and a script, which keeps frames, tells its events to a recorder, and
+//! A run of a configuration and a script, which keeps frames, reports its events to a recorder, and
 //! goes from one instant at which something may happen to the next.
 #![tactic(auto)]
 

@@ -1,4 +1,4 @@
-//! The log of a run: each event is told to a recorder, up to the first that it does not keep.
+//! The log of a run: each event is reported to a recorder, up to the first that it does not keep.
 
 ghost use Rattle.std.specs.Prelude.{◌≡◌, [], ◌∷◌, false, IsTrue};
 ghost use Rattle.tt_io.specs.Count.{counted};
@@ -9,16 +9,16 @@ use std::marker::Model;
 use trace_text::{Noted, Recorder};
 use tt_base::{Event, Names};
 
-/// Tells events to a recorder, up to the first that it does not keep, and counts all of them.
+/// Reports events to a recorder, up to the first that it does not keep, and counts all of them.
 #[derive(Drop)]
 pub(crate) struct Log<'a, R: Recorder> {
     pub(crate) recorder: &'a mut R,
     pub(crate) names: &'a Names,
     /// Whether the recorder did not keep an event.
     pub(crate) failed: bool,
-    /// How many events were told. It stays at its last value.
+    /// How many events were reported. The count stays at its greatest value.
     pub(crate) events: u64,
-    /// How many of them were activations. It stays at its last value.
+    /// How many of them were activations. The count stays at its greatest value.
     pub(crate) activations: u64,
 }
 
@@ -39,7 +39,7 @@ impl<'a, R: Recorder> Model for Log<'a, R> {
     ghost invariant = { λ l. l.failed ≡ false → IsTrue (R.ready l.recorder.now) };
 }
 
-/// A count after an event, which counts if it is an activation.
+/// A count of activations, after one more event.
 fn count_activation(count: u64, event: &Event) -> u64
     ensures { result ≡ counted count (activations_in (event.now ∷ [])) }
 {
@@ -50,7 +50,7 @@ fn count_activation(count: u64, event: &Event) -> u64
 }
 
 impl<'a, R: Recorder> Log<'a, R> {
-    /// A log that lends this recorder, and to which nothing was told yet.
+    /// A log that borrows this recorder, and has no events yet.
     pub(crate) fn new(recorder: &'a mut R, names: &'a Names) -> Log<'a, R>
         requires { IsTrue (R.ready recorder.old) }
         ensures same_recorder { result.recorder.ghost_name ≡ recorder.entry.ghost_name }
@@ -66,7 +66,7 @@ impl<'a, R: Recorder> Log<'a, R> {
         }
     }
 
-    /// Tells an event.
+    /// Reports an event.
     #[tactic(auto, using(trace_text::proofs::Recording::cut_event))]
     pub(crate) fn tell(&mut self, event: Event)
         ensures { Tells R.Recorder self.old (event ∷ []) self.new }
@@ -89,14 +89,14 @@ impl<'a, R: Recorder> Log<'a, R> {
         self.failed
     }
 
-    /// How many events were told.
+    /// How many events were reported.
     pub(crate) fn events(&self) -> u64
         ensures { result ≡ self.now.events }
     {
         self.events
     }
 
-    /// How many activations were told.
+    /// How many activations were reported.
     pub(crate) fn activations(&self) -> u64
         ensures { result ≡ self.now.activations }
     {

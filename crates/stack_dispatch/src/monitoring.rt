@@ -15,9 +15,9 @@ use tt_base::{Event, TaskNo, Tick};
 use tt_stack::TtStack;
 use tt_world::{ConfigParts, RunEnd};
 
-/// Checks at a tick the activations of the entries at these places of the table's list of checks,
-/// up to below the second place, up to the first that is missed, and answers its task. The
-/// activation of an entry stands at the place of its number.
+/// Checks, at a tick, the activations of the entries in this half-open range of places of the
+/// table's list of checks, up to the first that is missed, and answers its task. The activation of
+/// an entry is at the place of its number.
 #[tactic(auto, using(crate::proofs::Checking::entries_end), unfolding(crate::specs::Checking::checked_entries))]
 fn check<R: Recorder>(
     at: Tick,
@@ -45,8 +45,8 @@ fn check<R: Recorder>(
 }
 
 impl State {
-    /// Checks the activations of the entries at these places of the table's list of checks, up to
-    /// below the second place. After a missed check the hooks are called, and the run ends.
+    /// Checks the activations of the entries in this half-open range of places of the table's list
+    /// of checks. After a missed check the hooks are called, and the run ends.
     pub(crate) fn monitor<R: Recorder>(
         &mut self,
         config: &ConfigParts,

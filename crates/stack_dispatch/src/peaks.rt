@@ -13,7 +13,7 @@ use tt_world::ConfigParts;
 pub(crate) struct Peaks {
     /// How many activations and time-triggered routines were unfinished at once.
     pub(crate) deepest: u64,
-    /// The words of stack that those unfinished at once take.
+    /// How many words of stack they took at once.
     pub(crate) words: u64,
 }
 

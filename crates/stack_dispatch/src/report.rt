@@ -3,7 +3,7 @@
 use tt_base::Tick;
 use tt_world::RunEnd;
 
-/// What a run came to. All events of the schedule are counted, whatever the recorder keeps.
+/// The result of a run. All events of the schedule are counted, whatever the recorder keeps.
 #[derive(Clone, Copy, Debug, PartialEq, Eq)]
 pub struct Report {
     /// The tick of the last event.
@@ -17,7 +17,7 @@ pub struct Report {
     /// The greatest depth of the stack: how many activations of tasks and time-triggered routines
     /// were unfinished at once, at an instant that took a tick.
     pub deepest: u64,
-    /// The most words of stack that those unfinished at once take.
+    /// The most words of stack that the unfinished ones took at once.
     pub words: u64,
     /// How the run ended.
     pub end: RunEnd,

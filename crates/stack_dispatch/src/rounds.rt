@@ -21,7 +21,7 @@ use tt_base::Event;
 use tt_world::{ConfigParts, RunEnd, ScriptParts};
 
 impl State {
-    /// Tells the head of the run.
+    /// Reports the head of the run.
     #[tactic(auto, using(crate::proofs::Chains::tells_two), unfolding(tt_world::specs::Rounds::head))]
     pub(crate) fn begin<R: Recorder>(&self, script: &ScriptParts, log: &mut Log<R>)
         ensures { Gives (Tells R.Recorder) log.old log.new self.now.world None

@@ -20,7 +20,7 @@ use trace_text::Recorder;
 use tt_base::{Ledger, Steps, Tick};
 use tt_world::{ConfigParts, RunEnd, ScriptParts};
 
-/// How a run ended, and what it came to beside its events.
+/// How a run ended, and its results besides its events.
 #[derive(Clone, Copy, Debug, PartialEq, Eq)]
 pub(crate) struct Last {
     pub(crate) end: RunEnd,
@@ -31,8 +31,8 @@ pub(crate) struct Last {
     pub(crate) peaks: Peaks,
 }
 
-/// A run of parts that meet the rules, from the state before tick 0 on: how it ended, or nothing
-/// where the log has failed before.
+/// A run of parts that meet the rules, from the state before tick 0 on: how it ended, or None where
+/// the log failed first.
 pub(crate) fn run<R: Recorder, L: Ledger>(
     config: &ConfigParts,
     script: &ScriptParts,

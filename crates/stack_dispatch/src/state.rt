@@ -120,7 +120,7 @@ impl State {
         self.stack.depth() as u64
     }
 
-    /// The words of stack that those unfinished take.
+    /// How many words of stack the unfinished ones take.
     pub(crate) fn words(&self, config: &ConfigParts) -> u64
         requires { HasMode config.now self.now.world }
         ensures { result ≡ words_of config.now self.now.world }

@@ -47,7 +47,7 @@ fn is_shutdown(call: Call) -> bool
     call == Call::Shutdown
 }
 
-/// What the effect of a tick made.
+/// What followed from the effect of a tick.
 #[derive(Clone, Copy, Debug, PartialEq, Eq)]
 struct Effected {
     did: Did,
@@ -117,7 +117,7 @@ fn finish_at(osek: &mut Osek, who: Owner, ended: bool, ends: bool)
     }
 }
 
-/// k ticks of the one who runs in idle time, who is this one.
+/// k ticks of this owner, which is the one who runs in idle time.
 fn tick_in_idle_time<L: Ledger>(
     who: Owner,
     k: u64,
@@ -275,7 +275,7 @@ impl State {
         }
     }
 
-    /// Tells what a tick did, and does what follows from it.
+    /// Reports what a tick did, and does what follows from it.
     fn tell_did<R: Recorder>(
         &mut self,
         config: &ConfigParts,
@@ -314,7 +314,7 @@ impl State {
         }
     }
 
-    /// The tick is over: the end of an owner that has ended is told, and the tick is raised.
+    /// The tick is over: the end of the owner is reported, if it has ended, and the tick is raised.
     fn end_tick<R: Recorder>(&mut self, who: Owner, ended: bool, log: &mut Log<R>)
         requires { self.old.world.tick + 1 < 2 ^ 64 }
         ensures gives { Gives (Tells R.Recorder) log.old log.new self.new.world None
@@ -331,7 +331,7 @@ impl State {
         }
     }
 
-    /// Tells the owner of the tick where it is another than that of the tick before.
+    /// Reports the owner of the tick where it is another than that of the tick before.
     fn tell_run<R: Recorder>(&self, who: Owner, log: &mut Log<R>)
         ensures { Tells R.Recorder log.old (run_line self.now.world who) log.new }
     {
@@ -340,7 +340,7 @@ impl State {
         }
     }
 
-    /// The ticks but the last of some of an owner are over.
+    /// Of k ticks of an owner, all but the last are over.
     fn wait(&mut self, who: Owner, k: u64)
         requires some { 1 ≤ k }
         requires number { self.old.world.tick + k < 2 ^ 64 }

@@ -1,4 +1,4 @@
-//! A run that is told to a recorder.
+//! A run that is reported to a recorder.
 
 ghost use Rattle.std.specs.Prelude.{◌≡◌, ◌≤◌, ◌+◌, IsTrue};
 ghost use Rattle.tt_world.specs.ConfigRules.{IsConfig};
@@ -16,7 +16,7 @@ use trace_text::Recorder;
 use tt_base::{Ledger, Steps};
 use tt_world::{ConfigParts, ScriptParts};
 
-/// The answer of a run that ended so, with this log.
+/// The answer of a run with this end, if it ended, and with this log.
 fn answer<R: Recorder>(last: Option<Last>, log: &Log<R>) -> Run
     ensures value { result ≡ answered last log.now }
     ensures ready { OnEnded result (λ _. IsTrue (R.ready log.now.recorder.now)) }
@@ -38,8 +38,8 @@ fn answer<R: Recorder>(last: Option<Last>, log: &Log<R>) -> Run
     })
 }
 
-/// A run of parts that meet the rules, from the state before tick 0 on, told to a log to which
-/// nothing was told before.
+/// A run of parts that meet the rules, from the state before tick 0 on, reported to a log that has
+/// no events yet.
 fn run_logged<R: Recorder, L: Ledger>(
     config: &ConfigParts,
     script: &ScriptParts,
@@ -62,8 +62,8 @@ fn run_logged<R: Recorder, L: Ledger>(
     answer(last, log)
 }
 
-/// A run of parts that meet the rules, from the state before tick 0 on, told to a recorder. The log
-/// is taken apart at the end, so that the recorder is seen to be given back.
+/// A run of parts that meet the rules, from the state before tick 0 on, reported to a recorder. The
+/// log is taken apart at the end, so that contracts see that the recorder is given back.
 pub(crate) fn run_told<R: Recorder, L: Ledger>(
     config: &ConfigParts,
     script: &ScriptParts,

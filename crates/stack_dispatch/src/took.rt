@@ -3,11 +3,11 @@
 use tt_base::{Call, Tick};
 use tt_world::RunEnd;
 
-/// What the tick of the one who runs did beside the ticks of its body.
+/// What the tick of the one who runs did besides the ticks of its body.
 #[derive(Clone, Copy, Debug, PartialEq, Eq)]
 pub(crate) enum Did {
     Nothing,
-    /// It put out a value.
+    /// It output a value.
     Out(i32),
     /// It called a service, which answered this result.
     Called(Call, u8),

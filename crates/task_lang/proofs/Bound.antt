@@ -1,4 +1,4 @@
--- The worst case of a body in its limits has 128 bits.
+-- The worst case of a body in its limits fits 128 bits.
 use Rattle.std.proofs.Common.{◌≡◌, ℕ, zero, suc, ◌+◌, ◌*◌, ◌^◌, ◌≤◌, ◌<◌, max, Bool, true, List, [], ◌∷◌, map, sym, ap, subst, ◌∙◌, arith, add-mul, one-mul, mul_left_comm, mul-le-mul_right}
 use Rattle.std.specs.Prelude.{◌&&◌, nat_le, sum, slice_get}
 use Rattle.std.proofs.lemmas.List.Sums.{sum_by-cons}
@@ -11,7 +11,7 @@ use Rattle.task_lang.specs.Limits.{IsNestedInLimit, IsCountInLimit, AreNumbersIn
 use Rattle.task_lang.specs.Worst.{most_of, worst_step, worst_of, worst_in}
 use Rattle.task_lang.proofs.Numbers.{and_left, and_right, from_nat_le, most_small}
 
--- the greatest worst case of a statement with n blocks open in it, for each statement counted
+-- the bound on the worst case for each statement counted, where at most n blocks are open at once
 abbrev cap : ℕ → ℕ
 cap zero = 10000001
 cap (suc depth) = 65536 * cap depth

@@ -1,4 +1,4 @@
--- What the tests on the numbers of a body give.
+-- What the tests of the numbers of a body give.
 use Rattle.std.proofs.Common.{◌≡◌, ℕ, ◌+◌, ◌*◌, ◌≤◌, ◌<◌, Bool, true, false, List, [], ◌∷◌, refl, arith, ◌∙◌, sym}
 use Rattle.std.specs.Prelude.{zero, suc, ◌&&◌, nat_le, slice_get}
 use Rattle.std.proofs.lemmas.Bool.Decides.{nat_tests}
@@ -39,7 +39,7 @@ repeat_tests turns body passed =
 inner_less : (turns inner top : ℕ) → 1 ≤ turns → turns * (1 + inner) < top → inner < top
 inner_less turns inner top some fits = grind arith
 
--- the body of a `repeat` has numbers in range too, and its worst case is no larger
+-- the body of a `repeat` also has numbers in range, and its worst case has the same bound
 pub repeat_body : (demands : List Demand) (turns : ℕ) (body : List Stmt) (top : ℕ)
     → each_of is_number_in_range (s.Repeat turns body) ≡ true
     → worst_of demands (s.Repeat turns body) < top → AreNumbersInRange body × (worst_in demands body < top)

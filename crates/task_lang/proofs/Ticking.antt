@@ -77,7 +77,7 @@ one_turn : (turns inner rest : ℕ) → 1 ≤ turns
 one_turn zero inner rest some = absurd (omega arith)
 one_turn (suc n) inner rest some = grind arith
 
--- the statement in front has numbers in range
+-- the first statement has numbers in range
 abbrev IsFrontInRange : Stmt-F Stmt → Type 0
 IsFrontInRange front = is_number_in_range front ≡ true
 
@@ -126,7 +126,7 @@ front_range (Stmt-F.Repeat turns body) inside = refl
 front_range (Stmt-F.Out expr) inside = refl
 front_range (Stmt-F.Service call) inside = refl
 
--- what a test of each statement says of a statement that is opened
+-- what a test of each statement says of an opened statement
 opened : (test : Stmt-F Bool → Bool) (stmt : Stmt) → each_of test stmt ≡ true
     → test (map-Stmt Stmt Bool (each_of test) (out-Stmt stmt))
     && inner_pass (map-Stmt Stmt Bool (each_of test) (out-Stmt stmt)) ≡ true

@@ -1,4 +1,4 @@
--- Which statements which owner may have.
+-- Which owner may have which statements.
 use Rattle.std.specs.Prelude.{Bool, true, false}
 use Rattle.tt_base.specs.declared.event.Call.{Call}
 use Rattle.tt_base.specs.declared.event.Call.TheVariants.{Switch, Sync, Shutdown, Activate, Chain, Terminate}

@@ -1,5 +1,4 @@
--- What is seen of an expression or a statement that is opened, and what a definition by steps gives of it, for each
--- variant.
+-- For each variant of an expression or a statement: what opening it gives, and what a definition by steps gives for it.
 use Rattle.std.specs.Prelude.{◌≡◌, ℕ, ℤ, List, map}
 use Rattle.std.proofs.Common.{sym, ap, ◌∙◌}
 use Rattle.tt_base.specs.declared.event.Call.{Call}

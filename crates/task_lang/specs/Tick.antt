@@ -26,12 +26,12 @@ supply_of demands values = record { demands = demands; values = values }
 abbrev pub state_of : List Stmt → List ℤ → List ℕ → List Effect → State
 state_of left vars cursors effects = record { left = left; vars = vars; cursors = cursors; effects = effects }
 
--- n ticks of work in front of the rest, and nothing where n is 0
+-- n ticks of work and then the rest; only the rest where n is 0
 abbrev pub work_then : ℕ → List Stmt → List Stmt
 work_then zero rest = rest
 work_then (suc n) rest = s.Work (suc n) ∷ rest
 
--- n turns in front of the rest, and nothing where n is 0
+-- n turns and then the rest; only the rest where n is 0
 abbrev pub repeat_then : ℕ → List Stmt → List Stmt → List Stmt
 repeat_then zero body rest = rest
 repeat_then (suc n) body rest = s.Repeat (suc n) body ∷ rest
@@ -58,7 +58,7 @@ abbrev pub use_one : Supply → ℕ → List ℕ → List ℕ
 use_one supply demand cursors =
     slice_set cursors demand (min (slice_index cursors demand + 1) (length (values_of supply demand)))
 
--- one tick, by the statement in front of the rest
+-- one tick of the first statement; the rest follows it
 abbrev pub tick_by : Supply → State → Stmt-F Stmt → List Stmt → State
 tick_by supply state (Stmt-F.Work ticks) rest = record state { left = work_then (ticks - 1) rest }
 tick_by supply state (Stmt-F.Take demand) rest = record state {

@@ -11,7 +11,7 @@ use Rattle.task_lang.specs.Worst.{most_of, worst_in}
 abbrev pub KeepsMost : Supply → Type 0
 KeepsMost supply = (demand used : ℕ) → given supply demand used ≤ most_of (slice_get supply.demands demand)
 
--- Each value that the script gives for a demand is at most its most.
+-- No value that the script gives for a demand is more than its most.
 abbrev pub AreValuesKept : Supply → Type 0
 AreValuesKept supply =
     (demand : ℕ) → IsTrue (list_all (λ value. nat_le value (most_of (slice_get supply.demands demand)))
@@ -30,13 +30,13 @@ pub record LastsThroughTicks (supply : Supply) (test : Stmt-F Bool → Bool) : T
   pub take : (demand : DemandNo) (used n : ℕ) → given supply demand.0 used ≡ suc n → test (Stmt-F.Take demand) ≡ true
       → test (Stmt-F.Work (suc n)) ≡ true
 
--- A tick leaves statements that all pass such a test, inner ones too.
+-- Where all statements pass such a test, inner ones too, they still do after a tick.
 abbrev pub TickKeepsEach : Type 0
 TickKeepsEach = (supply : Supply) (state : State) (test : Stmt-F Bool → Bool) → LastsThroughTicks supply test
     → each_in test state.left ≡ true
     → each_in test (tick supply state).left ≡ true
 
--- A tick leaves numbers that are in range.
+-- A tick keeps the numbers in range.
 abbrev pub TickKeepsNumbers : Type 0
 TickKeepsNumbers = (supply : Supply) (state : State) → KeepsMost supply → AreMostsInRange supply.demands
     → AreNumbersInRange state.left

@@ -17,7 +17,7 @@ one_if b = if b then pos 1 else pos 0
 abbrev pub is_same : ℤ → ℤ → Bool
 is_same a b = le_z a b && le_z b a
 
--- what an operator gives of two values: sums, differences and products modulo 2^32
+-- the result of an operator on two values: sums, differences and products modulo 2^32
 abbrev pub result_of : Op → ℤ → ℤ → ℤ
 result_of Add a b = int_wrap w32 (a +ℤ b)
 result_of Sub a b = int_wrap w32 (a -ℤ b)

@@ -1,4 +1,4 @@
-//! Which statements which owner may have. The table is the bench's own.
+//! Which owner may have which statements. The table is the bench's own.
 
 ghost use Rattle.std.specs.Prelude.{◌≡◌};
 ghost use Rattle.task_lang.specs.declared.syntax.Stmt.{out-Stmt};

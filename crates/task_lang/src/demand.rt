@@ -6,7 +6,7 @@ use std::alloc::Global;
 use std::marker::Model;
 use tt_base::{DemandNo, Memory, Series};
 
-/// How many ticks a demand asks for: at most, and where the script gives no value.
+/// How many ticks a demand asks for: the most, and the number where the script gives no value.
 #[derive(Clone, Copy, Debug, PartialEq, Eq)]
 pub struct Demand {
     /// The most ticks.
@@ -37,7 +37,7 @@ impl Model for Cursors {
 }
 
 impl Cursors {
-    /// So many demands, of which no value was used.
+    /// No value of any of these demands was used.
     pub fn new(alloc: Global, demands: usize) -> Result<Cursors, Memory>
         ensures { IfOk result (λ cursors. cursors ≡ replicate demands 0) }
     {
@@ -54,8 +54,8 @@ impl Cursors {
         self.used.as_slice()
     }
 
-    /// Uses one value more of a demand, where it has one, and answers how many were used
-    /// before. A demand that is not there has none.
+    /// Uses one more value of a demand, if it has one, and answers how many were used before. A
+    /// demand that does not exist has none.
     pub(crate) fn use_one(&mut self, demand: DemandNo, values: usize) -> usize
         ensures before { result ≡ slice_index self.old demand.0 }
         ensures after { self.new

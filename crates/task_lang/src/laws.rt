@@ -8,14 +8,14 @@ pub fn tick_lowers_worst()
     ensures { TickLowersWorst }
 {}
 
-/// A tick leaves statements that all pass a test, inner ones too, where a statement that passes
-/// leaves one that passes. Such are the tests of names, of expressions, and of who may have a
-/// statement.
+/// Where all statements pass a test, inner ones too, they still do after a tick, if the test passes
+/// at what a tick makes of a statement that passes. The tests of names, of expressions, and of who
+/// may have a statement are such tests.
 pub fn tick_keeps_each()
     ensures { TickKeepsEach }
 {}
 
-/// A tick leaves numbers that are in range, where the script gives no demand more than its most.
+/// A tick keeps the numbers in range, where the script gives no demand more than its most.
 pub fn tick_keeps_numbers()
     ensures { TickKeepsNumbers }
 {}

@@ -9,7 +9,7 @@ use tt_base::{Call, DemandNo, VarNo};
 pub enum Op {
     /// `+`: the sum.
     Add,
-    /// `-`: the first less the second.
+    /// `-`: the first minus the second.
     Sub,
     /// `*`: the product.
     Mul,
@@ -41,7 +41,7 @@ pub enum Stmt {
     Work(u64),
     /// `take`: one tick, then as many ticks of computing as the script gives for the demand.
     Take(DemandNo),
-    /// `set`: a variable gets the value of an expression.
+    /// `set`: gives a variable the value of an expression.
     Set(VarNo, Expr),
     /// `if`: the first body where the expression is not 0, else the second.
     If(Expr, Body, Body),

@@ -25,10 +25,10 @@ pub enum Effect {
     Service(Call),
 }
 
-/// What is left of a body. Contracts see it as a list of statements, the front one first.
+/// What is left of a body. Contracts see it as a list of statements, the next one first.
 #[derive(Debug, Drop)]
 pub struct Left {
-    /// The statements in reverse order, so that the front one is the last.
+    /// The statements in reverse order, so that the next one is the last.
     stack: Vec<Stmt>,
 }
 
@@ -77,9 +77,9 @@ impl Left {
         self.stack.is_empty()
     }
 
-    /// One tick of the statement in front, and its effect, if it has one. Where nothing is left,
-    /// nothing happens. A variable or a demand that is not there counts as 0 and keeps nothing.
-    /// Each expression has at most 100 terms. `Memory`: nothing has changed.
+    /// One tick of the first statement, and its effect, if it has one. Where nothing is left,
+    /// nothing happens. A variable or a demand that does not exist counts as 0 and keeps nothing.
+    /// Each expression has at most 100 terms. On `Memory` nothing has changed.
     #[tactic(auto, unfolding(crate::specs::Tick::tick))]
     pub fn tick(
         &mut self,
@@ -112,7 +112,7 @@ impl Left {
     }
 }
 
-/// One tick of a statement that was taken from the front. `Memory`: it is there again.
+/// One tick of a statement that was taken from the front. On `Memory` it is back there.
 fn tick_front(
     stack: &mut Vec<Stmt>,
     alloc: Global,
@@ -159,7 +159,7 @@ fn tick_front(
     }
 }
 
-/// Puts `work` in front, where there are ticks of it.
+/// Puts `work` at the front, unless it has no ticks.
 fn put_work(stack: &mut Vec<Stmt>, ticks: u64)
     requires { vec_len stack.old < vec_capacity stack.old }
     ensures { reverse stack.new.items ≡ work_then ticks (reverse stack.old.items) }
@@ -202,7 +202,7 @@ fn usual_of(demands: &Demands, demand: DemandNo) -> u64
         .map_or(0, |demand| demand.usual)
 }
 
-/// Puts the body that an `if` chooses in front. `Memory`: the `if` is there again.
+/// Puts the body that an `if` chooses at the front. On `Memory` the `if` is back there.
 fn put_branch(
     stack: &mut Vec<Stmt>,
     expr: Expr,
@@ -228,8 +228,8 @@ fn put_branch(
     Ok(())
 }
 
-/// Puts one turn of a `repeat` in front, and after it the turns that are left. `Memory`: the
-/// `repeat` is there again.
+/// Puts one turn of a `repeat` at the front, and after it the turns that are left. On `Memory` the
+/// `repeat` is back there.
 fn put_turn(stack: &mut Vec<Stmt>, alloc: Global, turns: u64, body: Body) -> Result<(), Memory>
     requires { vec_len stack.old < vec_capacity stack.old }
     ensures ok { OnOk result (reverse stack.new.items
@@ -253,7 +253,7 @@ fn put_turn(stack: &mut Vec<Stmt>, alloc: Global, turns: u64, body: Body) -> Res
     Ok(())
 }
 
-/// Puts the statements of a body in front of what is left, where there is room for them.
+/// Puts the statements of a body before what is left. There is room for them.
 fn move_to_front(stack: &mut Vec<Stmt>, mut body: Body)
     requires { vec_len stack.old + length body ≤ vec_capacity stack.old }
     ensures { reverse stack.new.items ≡ body ++ reverse stack.old.items }

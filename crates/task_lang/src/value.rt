@@ -20,7 +20,7 @@ pub fn value(expr: &Expr, vars: &Vars) -> i32
     }
 }
 
-/// What an operator gives of two values.
+/// The result of an operator on two values.
 pub fn apply(op: Op, left: i32, right: i32) -> i32
     ensures { result ≡ result_of op left right }
 {

@@ -1,4 +1,4 @@
--- What a body is compiled to is its code.
+-- A body is compiled to its code.
 use Rattle.std.proofs.Common.{◌≡◌, ◌≤◌, ◌<◌, ◌^◌, true, List, length, sym, ap, subst, ◌∙◌}
 use Rattle.task_lang.specs.declared.syntax.Stmt.{Stmt}
 use Rattle.task_lang.specs.Limits.{nesting_in, each_in, is_number_in_range}

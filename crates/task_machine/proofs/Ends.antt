@@ -9,7 +9,7 @@ use Rattle.task_machine.specs.declared.instr.Instr.{Instr}
 use Rattle.task_machine.specs.declared.instr.Instr.TheVariants as i
 use Rattle.task_machine.proofs.Fronts.{body_left}
 
--- all instructions stand from the first place to the end
+-- these instructions are in the code from the first place to the end
 pub stands_all : (xs pre : List Instr) → Stands (pre ++ xs) (length pre) xs (length (pre ++ xs))
 stands_all [] pre = sym (ap length (append-nil pre))
 stands_all (x ∷ xs) pre =

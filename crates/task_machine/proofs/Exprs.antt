@@ -1,4 +1,4 @@
--- What stands at the front of an expression.
+-- The term at the front of an expression.
 use Rattle.std.proofs.Common.{◌≡◌, ℕ, ℤ, ◌+◌, List, [], ◌∷◌, ◌++◌, Option, Some, None, refl, sym, ap, subst, ◌∙◌}
 use Rattle.std.specs.Prelude.{slice_get, slice_index_or, pos}
 use Rattle.task_lang.specs.declared.syntax.Op.{Op}
@@ -49,7 +49,7 @@ module _ (code : List Instr) (vars : List ℤ) where
     pub second : Stands code middle (expr_code b) q
     pub is : v ≡ result_of op (value_of vars a) (value_of vars b)
 
-  -- what the term at the front of an expression says of its value and its end
+  -- what the first term of an expression says of its value and its end
   abbrev pub Begins : Option Term → ℕ → ℤ → ℕ → Type 0
   Begins (Some (t.Const n)) p v q = (v ≡ n) × (p + 1 ≡ q)
   Begins (Some (t.Var x)) p v q = (v ≡ slice_index_or vars x.0 (pos 0)) × (p + 1 ≡ q)

@@ -1,4 +1,4 @@
--- What stands at the front where a frame stands.
+-- The first statement at the place of a frame.
 use Rattle.std.proofs.Common.{◌≡◌, ℕ, suc, ◌+◌, ◌<◌, List, [], ◌∷◌, ◌++◌, length, Some, None, refl, sym, ap, subst, ◌∙◌, arith}
 use Rattle.std.specs.Prelude.{slice_get, slice_index}
 use Rattle.std.proofs.lemmas.Option.{slice_get_past}
@@ -42,7 +42,7 @@ stands_length code p [] q h = omega (arith, h)
 stands_length code p (x ∷ xs) q h = omega (arith, stands_length code (p + 1) xs q h.1)
 
 module _ (code : List Instr) (cs : List ℕ) where
-  -- a body in front
+  -- a body before what is left
   pub body_left : (d p q : ℕ) (body rest : List Stmt) → Stands code p (body_code d body) q → Left code cs d q rest
       → Left code cs d p (body ++ rest)
   body_left d p q [] rest h left = subst (λ n. Left code cs d n rest) (sym h) left
@@ -106,7 +106,7 @@ module _ (code : List Instr) (cs : List ℕ) where
   Front (i.Service call) d p l = Fronts l (Stmt-F.Service call) (λ rest. Left code cs d (p + 1) rest)
   Front (i.Term t) d p l = ⊥
 
-  -- one instruction stands at a place
+  -- one instruction is at a place
   seen : (a j : Instr) (d p : ℕ) (l : List Stmt) → slice_get code p ≡ Some a → slice_get code p ≡ Some j
       → Front a d p l → Front j d p l
   seen a j d p l h e f = let same : a ≡ j = cc in subst (λ k. Front k d p l) same f
@@ -210,7 +210,7 @@ module _ (code : List Instr) (cs : List ℕ) where
             refl;
       })
 
-  -- with no instruction there, nothing is left
+  -- where no instruction is, nothing is left
   pub none_at : (d p : ℕ) (l : List Stmt) → Left code cs d p l → slice_get code p ≡ None → l ≡ []
   none_at _ _ _ (At_end p past) e = refl
   none_at _ _ _ (At_stmt d p q s (Stmt-F.Work n) rest o h left) e = let g = h.0 in cc

@@ -120,6 +120,6 @@ module _ (code : List Instr) (cs : List ℕ) where
   where_left _ _ _ (At_again d p start back inner rest g far body left) =
       at_again d p start back inner rest g far body (where_left d (p + 1) rest left)
 
-  -- With so much work begun before a place, the list that is left is this one.
+  -- With this much work begun before a place, the list that is left is this one.
   pub rests_is : (p work : ℕ) (l : List Stmt) → Rests code cs l p work → work_then work (left_at code cs p) ≡ l
   rests_is p work l r = ap (work_then work) (where_left r.depth p r.below r.left) ∙ sym r.is

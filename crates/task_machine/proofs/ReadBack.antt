@@ -16,7 +16,7 @@ use Rattle.task_machine.specs.declared.instr.Instr.{Instr}
 use Rattle.task_machine.specs.declared.instr.Instr.TheVariants as i
 use Rattle.task_machine.specs.declared.instr.Term.TheVariants as t
 
--- what is seen at the front of instructions
+-- what is seen at the first of some instructions
 abbrev pub seen_of : List Instr → Seen
 seen_of xs = at 0 (reading xs)
 
@@ -27,7 +27,7 @@ pub seen_cons : (x : Instr) (xs : List Instr) → seen_of (x ∷ xs) ≡ read_on
 unfolding reading
 seen_cons x xs = refl
 
--- what is seen past some instructions
+-- what is seen after some instructions
 pub later_at : (xs ys : List Instr) → at (length xs) (reading (xs ++ ys)) ≡ seen_of ys
 unfolding reading
 later_at [] ys = refl
@@ -80,7 +80,7 @@ body_level (y ∷ ys) depth rest =
     ∙ y.1 depth (body_code depth (stmts ys) ++ rest)
     ∙ ap (put y.0) (body_level ys depth rest)
 
--- a list in front of another, from the lengths
+-- the first of two joined lists, by their lengths
 front_of : {A : Type 0} (xs ys : List A) → take (length (xs ++ ys) - length ys) (xs ++ ys) ≡ xs
 front_of {A} [] ys = let none : length ys - length ys ≡ 0 = omega arith in ap (λ n. take n ys) none
 front_of {A} (x ∷ xs) ys =
@@ -89,7 +89,7 @@ front_of {A} (x ∷ xs) ys =
     ap (λ n. take n (x ∷ (xs ++ ys))) more ∙ ap (λ zs. x ∷ zs) (front_of xs ys)
 
 module _ (seen : Seen) where
-  -- past the first body of an `if`
+  -- after the first body of an `if`
   pub skipped : (second : List Stmt)
       → open_first (puts second seen) seen
       ≡ record { exprs = seen.exprs; block = []; around = First second seen.block ∷ seen.around }

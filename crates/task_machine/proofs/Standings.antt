@@ -84,7 +84,7 @@ module _ (code : List Instr) (cs : List ℕ) (l : List Stmt) (p : ℕ) (r : Rest
       sym (front_is code cs l _ _ (front_at code cs r.depth p l (rests_left code cs l p r) (i.Service call) g))
   idle_front (Some (i.Term t)) g = absurd (never_passed code cs l p (i.Term t) r g tt)
 
--- The work that was begun is the `work` in front.
+-- The work that was begun is the `work` at the front.
 front_work : (code : List Instr) (cs : List ℕ) (l : List Stmt) (p w : ℕ) → Rests code cs l p w → w ≡ work_in_front l
 front_work code cs l p zero r = idle_front code cs l p r (slice_get code p) refl
 front_work code cs l p (suc w) r = sym (ap work_in_front r.is ∙ ap work_of (outs-Work (suc w)))
@@ -97,7 +97,7 @@ begun_is_front codes frame sound =
 
 -- ---- ticks
 
--- what ticks of a frame leave, with its codes
+-- what ticks of a frame leave, together with its codes
 pub record Outcome (codes : List (List Stmt)) (frame : Frame) (vars : List ℤ) (cursors : List ℕ)
     (effect : Option Effect) (state : State) : Type 0 where
   pub sound : IsSound codes frame

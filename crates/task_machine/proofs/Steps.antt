@@ -106,7 +106,7 @@ pub rests_left : (code : List Instr) (cs : List ℕ) (l : List Stmt) (p : ℕ) (
     → Left code cs r.depth p l
 rests_left code cs l p r = subst (λ m. Left code cs r.depth p m) (sym r.is) r.left
 
--- what cannot stand where a tick is taken
+-- what cannot be at a place where a tick is taken
 abbrev pub IsPassed : Instr → Type 0
 IsPassed (i.Work n) = 1 ≤ n
 IsPassed (i.Skip n) = Unit {0}
@@ -252,7 +252,7 @@ module _ (code : List Instr) (cs : List ℕ) (supply : Supply) (l : List Stmt) (
         effects_are = refl;
       })
 
-  -- the counters of outer repetitions stay
+  -- the counters of outer repetitions stay the same
   outer : (c m e : ℕ) → e < c → slice_index cs e ≡ slice_index (slice_set cs c m) e
   outer c m e lt = sym (get_or-set_other cs c e m 0 (λ same. absurd (omega (arith, same))))
 
@@ -311,7 +311,7 @@ module _ (code : List Instr) (cs : List ℕ) (supply : Supply) (l : List Stmt) (
         effects_are = refl;
       })
 
-  -- `take` in front
+  -- a `take` at the front
   pub record Taken (v : ℕ) (cursors' : List ℕ) (st : State) : Type 0 where
     pub below : List Stmt
     pub later : Left code cs d (p + 1) below

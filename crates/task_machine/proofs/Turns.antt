@@ -51,12 +51,12 @@ work_some : (w : ℕ) (below : List Stmt) → w ≢ 0 → work_then w below ≢ 
 work_some zero below some = absurd (some refl)
 work_some (suc w) below some = λ e. cc
 
--- A frame that had not ended, and has work left, has not ended.
+-- A frame that had not ended, and has work left, still has not ended.
 still_open : (ended : Bool) (l : List Stmt) (w : ℕ) (below : List Stmt) → l ≢ [] → w ≢ 0 → IsTrue ended ↔ (l ≡ [])
     → IsTrue ended ↔ (work_then w below ≡ [])
 still_open ended l w below some more iff = (λ t. absurd (some (iff.0 t)), λ e. absurd (work_some w below more e))
 
--- with `work` left at the same place
+-- some `work` is left at the same place
 pub work_goes_on : (code : List Instr) (f : Frame) (l : List Stmt) (w : ℕ) (r : Rests code f.counters l f.place w)
     → w ≢ 0 → f.work ≢ 0
     → IsTrue f.ended ↔ (l ≡ []) → IsAt code f (work_then f.work r.below)

@@ -49,7 +49,7 @@ stmt_code = fold-Stmt (ℕ → List Instr) stmt_step
 abbrev pub body_code : ℕ → List Stmt → List Instr
 body_code depth body = joined depth (map stmt_code body)
 
--- the same of one level
+-- the same for one level
 abbrev pub layer_code : ℕ → Stmt-F Stmt → List Instr
 layer_code depth (Stmt-F.Work ticks) = i.Work ticks ∷ []
 layer_code depth (Stmt-F.Take demand) = i.Take demand ∷ []
@@ -60,12 +60,12 @@ layer_code depth (Stmt-F.Repeat turns inner) = repeat_code depth turns (body_cod
 layer_code depth (Stmt-F.Out expr) = i.Out ∷ expr_code expr
 layer_code depth (Stmt-F.Service call) = i.Service call ∷ []
 
--- The instructions stand in the code from the first place up to the second.
+-- These instructions are in the code, from the first place up to the second.
 abbrev pub Stands : List Instr → ℕ → List Instr → ℕ → Type 0
 Stands code p [] q = p ≡ q
 Stands code p (x ∷ xs) q = (slice_get code p ≡ Some x) × Stands code (p + 1) xs q
 
--- the term that an instruction is
+-- an instruction as a term
 abbrev pub term_in : Option Instr → Option Term
 term_in (Some (i.Term term)) = Some term
 term_in _ = None

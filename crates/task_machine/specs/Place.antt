@@ -44,7 +44,7 @@ pub record Still (code : List Instr) (counters : List ℕ) (p : ℕ) : Type 0 wh
   pub ticks : passes counters (slice_get code p) ≡ None
   pub idle : work_in (slice_get code p) ≡ 0
 
--- At this place with so much work begun before it, this list is left.
+-- With this much work begun before this place, this list is left.
 pub record Rests (code : List Instr) (counters : List ℕ) (l : List Stmt) (p work : ℕ) : Type 0 where
   pub depth : ℕ
   pub below : List Stmt

@@ -1,5 +1,5 @@
--- The body that instructions are the code of, and what is left of it at a place. The instructions are read from the
--- last to the first.
+-- The body whose code some instructions are, and what is left of it at a place. The instructions are read from the last
+-- to the first.
 use Rattle.std.specs.Prelude.{ℕ, ◌+◌, ◌-◌, List, [], ◌∷◌, ◌++◌, length, take, slice_index, slice_index_or}
 use Rattle.task_lang.specs.declared.syntax.Op.{Op}
 use Rattle.task_lang.specs.declared.syntax.Expr.{Expr}
@@ -27,7 +27,7 @@ pub record Seen : Type 0 where
 abbrev pub nothing : Seen
 nothing = record { exprs = []; block = []; around = [] }
 
--- what was seen at a place, from the front of a list of what was seen at one place after another
+-- what was seen at the place n, in a list of what was seen at each place
 abbrev pub at : ℕ → List Seen → Seen
 at n seen = slice_index_or seen n nothing
 
@@ -69,7 +69,7 @@ close_turn turns (Turn counter from_end rest ∷ around) seen =
     record { exprs = seen.exprs; block = s.Repeat turns seen.block ∷ rest; around = around }
 close_turn turns _ seen = seen
 
--- one instruction before what is seen at the places after it
+-- one instruction, in front of what is seen at the places after it
 abbrev pub read_one : Instr → List Seen → Seen
 read_one (i.Work ticks) later = put (s.Work ticks) (at 0 later)
 read_one (i.Take demand) later = put (s.Take demand) (at 0 later)
@@ -93,12 +93,11 @@ reading (x ∷ xs) = read_one x (reading xs) ∷ reading xs
 abbrev pub seen_at : List Instr → ℕ → Seen
 seen_at code p = at p (reading code)
 
--- the body that instructions are the code of
+-- the body whose code these instructions are
 abbrev pub body_in : List Instr → List Stmt
 body_in code = (seen_at code 0).block
 
--- what is left of the blocks that are open: past the second body of an `if`, and the turns of a `repeat` that its
--- counter says
+-- what is left of the open blocks: what comes after an `if`, and the turns of a `repeat` that its counter says
 abbrev pub left_around : List Instr → (counters : List ℕ) → List Block → List Stmt
 left_around code counters [] = []
 left_around code counters (First second rest ∷ around) = rest ++ left_around code counters around

@@ -17,7 +17,7 @@ body_of codes program = slice_index_or codes program []
 abbrev pub code_of : List (List Stmt) → ℕ → List Instr
 code_of codes program = body_code 0 (body_of codes program)
 
--- The list of statements that is left where a frame stands.
+-- The list of statements that is left at the place of a frame.
 unfoldable pub left_of : List (List Stmt) → Frame → List Stmt
 left_of codes frame = work_then frame.work (left_at (code_of codes frame.program) frame.counters frame.place)
 
@@ -30,7 +30,7 @@ pub record IsAt (code : List Instr) (frame : Frame) (l : List Stmt) : Type 0 whe
   pub rests : Rests code frame.counters l frame.place frame.work
   pub ended : IsTrue frame.ended ↔ (l ≡ [])
 
--- The frame is one of these codes: its program exists, and it rests at a place of it.
+-- The frame belongs to these codes: its program exists, and it rests at a place of it.
 pub record IsSound (codes : List (List Stmt)) (frame : Frame) : Type 0 where
   pub exists : frame.program < length codes
   pub is_at : IsAt (code_of codes frame.program) frame (left_of codes frame)
@@ -45,7 +45,7 @@ abbrev pub work_of : {A : Type 0} → Stmt-F A → ℕ
 work_of (Stmt-F.Work ticks) = ticks
 work_of _ = 0
 
--- the ticks of the `work` at the front of a list, and 0 where another statement is there, or none
+-- the ticks of the `work` at the front of a list, 0 where the first statement is no `work` or there is none
 abbrev pub work_in_front : List Stmt → ℕ
 work_in_front [] = 0
 work_in_front (front ∷ rest) = work_of (out-Stmt front)
@@ -58,11 +58,11 @@ work_begun frame = frame.work
 abbrev pub is_ended : Frame → Bool
 is_ended frame = frame.ended
 
--- A frame of no codes, so that it stands for no list.
+-- A frame that stands for no list, whatever the codes are (at most 256).
 abbrev pub IsNoFrame : Frame → Type 0
 IsNoFrame frame = (codes : List (List Stmt)) → length codes ≤ 256 → IsSound codes frame → ⊥
 
--- A frame stands for the same list once more codes were appended.
+-- A frame stands for the same list after more codes were appended.
 abbrev pub CodesMayGrow : Type 0
 CodesMayGrow = (codes more : List (List Stmt)) (frame : Frame) (l : List Stmt) → StandsFor codes frame l
     → StandsFor (codes ++ more) frame l

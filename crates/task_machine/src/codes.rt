@@ -84,7 +84,7 @@ impl Codes {
         self.codes.len()
     }
 
-    /// The number of the code that is this far after another.
+    /// The number of the code that comes this many codes after another.
     pub fn number_after(&self, first: u16, count: u16) -> u16
         requires { first + count < length self.now }
         ensures { result ≡ first + count }

@@ -1,4 +1,4 @@
-//! From a body to its instructions.
+//! Compiling a body to its instructions.
 
 ghost use Rattle.std.specs.Prelude.{◌≡◌, ◌≤◌, ◌+◌, ◌++◌, ◌∷◌, [], IsTrue, IfOk, OnOk};
 ghost use Rattle.task_lang.specs.Limits.{IsNestedInLimit, AreNumbersInRange, nesting_of, nesting_in, each_of, is_number_in_range};
@@ -14,7 +14,7 @@ use tt_base::Memory;
 const TOO_MANY: usize = 0x1_0000_0000_0000;
 
 /// The code of a body. The time is linear in the number of statements. It calls itself once for
-/// each term of an expression, of which the rules allow 100.
+/// each term of an expression; the rules allow 100 terms.
 pub fn compile(alloc: Global, body: &Body) -> Result<Code, Memory>
     requires nested { IsNestedInLimit body.now }
     requires numbers { AreNumbersInRange body.now }
@@ -27,7 +27,7 @@ pub fn compile(alloc: Global, body: &Body) -> Result<Code, Memory>
     Ok(Code { instrs })
 }
 
-/// The instructions of a body inside this number of repetitions.
+/// The instructions of a body that is inside this number of repetitions.
 #[cycle(emitting)]
 fn body_instrs(alloc: Global, body: &[Stmt], depth: u8) -> Result<Vec<Instr>, AllocError>
     requires nested { depth + nesting_in body.now ≤ 4 }

@@ -33,7 +33,7 @@ impl Model for Env {
 }
 
 impl Env {
-    /// These variables, demands and values, copied. No value of a demand was used.
+    /// Copies of these variables, demands and values. No value of a demand was used.
     pub fn new(
         alloc: Global,
         vars: &Vars,
@@ -66,7 +66,7 @@ impl Env {
         &self.vars
     }
 
-    /// Gives a variable a value. Nothing else changes. A variable that is not there keeps nothing.
+    /// Gives a variable a value, if it exists. Nothing else changes.
     pub fn set_var(&mut self, var: VarNo, value: i32)
         ensures { self.new ≡ record self.old { vars = slice_set self.old.vars var.0 value } }
     {

@@ -10,7 +10,7 @@ use task_lang::Vars;
 use task_lang::value::apply;
 use tt_base::VarNo;
 
-/// The value of the expression at a place, and the place after it. A variable that is not there
+/// The value of the expression at a place, and the place after it. A variable that does not exist
 /// counts as 0. It takes no memory, and calls itself once for each term.
 pub(crate) fn evaluate(code: &[Instr], place: usize, vars: &Vars) -> (i32, usize)
     ensures value { (expr : Expr) (q : ℕ) → Stands code.now place (expr_code expr) q

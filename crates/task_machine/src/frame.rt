@@ -1,4 +1,4 @@
-//! Where an unfinished activation stands in its code.
+//! Where an unfinished activation is in its code.
 
 ghost use Rattle.std.specs.Prelude.{◌≡◌, ◌<◌, ◌↔◌, List, [], ◌∷◌, length, IsTrue};
 ghost use Rattle.task_lang.specs.declared.syntax.Stmt.{Stmt};
@@ -24,7 +24,7 @@ pub struct Frame {
 impl Default for Frame {
     ghost is_default = { IsNoFrame };
 
-    /// A frame that stands for no list, with any codes. It fills unused places.
+    /// A frame that stands for no list, whatever the codes are. It fills unused places.
     fn default() -> Frame {
         Frame {
             place: 0,
@@ -37,7 +37,7 @@ impl Default for Frame {
 }
 
 impl Frame {
-    /// The frame of a program of which nothing was done. It takes no memory.
+    /// The frame of a program that has not begun. It takes no memory.
     pub fn start(codes: &Codes, program: u16) -> Frame
         requires { program < length codes.now }
         ensures program { program_of result ≡ program }
@@ -61,7 +61,7 @@ impl Frame {
         self.program
     }
 
-    /// The ticks left of the `work` at the front; 0 where another statement is there, or none.
+    /// The ticks left of the `work` at the front; 0 where no `work` is there.
     pub fn work_left(&self) -> u64
         ensures begun { result ≡ work_begun self.now }
         ensures front { (codes : List (List Stmt)) → IsSound codes self.now

@@ -17,20 +17,20 @@ pub enum Term {
 /// One instruction. Where it has an expression, the terms follow it in prefix form.
 #[derive(Clone, Copy, Debug, PartialEq, Eq)]
 pub enum Instr {
-    /// So many ticks of computing.
+    /// This many ticks of computing.
     Work(u64),
     /// One tick, then the ticks that a demand is given.
     Take(DemandNo),
     /// A variable gets the value of the expression.
     Set(VarNo),
-    /// Where the expression is 0, this number of instructions after it is passed.
+    /// Where the expression is 0, this number of instructions after it is skipped.
     If(usize),
-    /// So many instructions are passed, in no time.
+    /// This many instructions are skipped, in no time.
     Skip(usize),
     /// The counter that it sets, and the turns of the body that follows.
     Repeat(u8, u16),
-    /// The end of a body: while its counter is not 0, one turn more, this number of instructions
-    /// back.
+    /// The end of the body of a `repeat`: while its counter is not 0, it goes this number of
+    /// instructions back, for one more turn.
     Again(u8, usize),
     /// Puts out the value of the expression.
     Out,

@@ -2,7 +2,7 @@
 
 ghost use Rattle.task_machine.specs.Standing.{CodesMayGrow};
 
-/// A frame stands for the same list once more codes were appended.
+/// A frame stands for the same list after more codes were appended.
 pub fn codes_may_grow()
     ensures { CodesMayGrow }
 {}

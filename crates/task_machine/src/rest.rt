@@ -9,7 +9,7 @@ ghost use Rattle.task_machine.specs.Standing.{IsAt};
 use crate::frame::Frame;
 use crate::instr::Instr;
 
-/// Moves a frame on from a place to the next one where a tick is taken. A `work` there is begun.
+/// Moves a frame from a place to the next one where a tick is taken. A `work` there is begun.
 pub(crate) fn settle(frame: &mut Frame, code: &[Instr], start: usize)
     requires { AreInRange code.now }
     ensures program { frame.new.program ≡ frame.old.program }
@@ -22,7 +22,7 @@ pub(crate) fn settle(frame: &mut Frame, code: &[Instr], start: usize)
     frame.ended = is_end(code, place, work);
 }
 
-/// Whether nothing is left at a place before which so much work is begun.
+/// Whether nothing is left at a place, where this much work is begun before it.
 fn is_end(code: &[Instr], place: usize, work: u64) -> bool
     requires { AreInRange code.now }
     ensures { (counters : List ℕ) (l : List Stmt) → Rests code.now counters l place work
@@ -49,7 +49,7 @@ fn resting_place(code: &[Instr], start: usize, counters: &[u16; 4]) -> (usize, u
     }
 }
 
-/// How many instructions are passed at a place, where it takes no time.
+/// How many instructions are passed at a place in no time. None where it takes time.
 fn passed_at(code: &[Instr], place: usize, counters: &[u16; 4]) -> Option<usize>
     requires { AreInRange code.now }
     ensures passes { result ≡ passes counters.now (slice_get code.now place) }

@@ -26,7 +26,7 @@ pub struct Progress {
     pub ended: bool,
 }
 
-/// Where the tick of one statement leads, before the places that take no time, and what it does.
+/// Where a tick leads, before places that take no time are passed, and what it does.
 #[derive(Clone, Copy, Debug, PartialEq, Eq)]
 struct Step {
     place: usize,
@@ -34,8 +34,8 @@ struct Step {
 }
 
 /// Takes k ticks of the list that a frame stands for: one, or at most as many as the `work` at its
-/// front has left. It counts one step and takes no memory. A variable or a demand that is not
-/// there counts as 0 and keeps nothing.
+/// front has left. It counts one step and takes no memory. A variable or a demand that does not
+/// exist counts as 0 and keeps nothing.
 pub fn advance<L: Ledger>(
     frame: &mut Frame,
     codes: &Codes,

@@ -19,7 +19,7 @@ decimal_two n big small =
     ∙ ap (λ k. decimal k ++ (48 + n / 10 % 10) ∷ (48 + n % 10) ∷ []) hundreds
     ∙ ap (λ k. decimal (n / 100) ++ (48 + k) ∷ (48 + n % 10) ∷ []) tens
 
--- two places after a front are changed
+-- two places after a prefix are changed
 set_two : (front : List ℕ) (x y a b : ℕ) (rest : List ℕ)
     → take (length front + 2) (set (set (front ++ x ∷ y ∷ rest) (length front) a) (length front + 1) b)
     ≡ front ++ a ∷ b ∷ []

@@ -41,7 +41,7 @@ notes_then {S} {r} {names} {s} {m} {t} {xs} {ys} all split p q = record {
   never_falls = omega (arith, p.never_falls, q.never_falls);
 }
 
--- a count that rose after it did not fall
+-- a count that did not fall and then rose
 pub rose_later : (a b c : ℕ) → a ≤ b → Rose b c → Rose a c
 rose_later a b c le rose = grind (arith, rose)
 

@@ -1,4 +1,4 @@
--- What a recorder before a sink does over a run: the lines of its events, as one text.
+-- What a recorder that writes to a sink does over a run: the lines of its events, as one text.
 use Rattle.std.proofs.Common.{◌≡◌, ℕ, List, [], ◌∷◌, ◌++◌, Option, refl, sym, ap, ◌∙◌, subst, append_assoc, append-nil}
 use Rattle.std.specs.Prelude.{Result, Ok, Err}
 use Rattle.std.specs.List.{FoldsTo}
@@ -39,7 +39,7 @@ module _ {O : Type 0} (written : O → Option (List ℕ)) where
     same_sink = q.same_sink ∙ p.same_sink;
   }
 
-  -- a text was put, and it was cut within another, so within both and more
+  -- a text was put and another was cut, so a longer text that begins with both was cut
   cuts_then : (s m t : SinkRecorder O) (first second rest : List ℕ)
       → Puts written s first m → Cuts written m second t → Cuts written s ((first ++ second) ++ rest) t
   cuts_then s m t first second rest p q =
@@ -64,7 +64,7 @@ module _ {O : Type 0} (written : O → Option (List ℕ)) where
   puts_all names (event ∷ events) s t (m, first, rest) =
       puts_then s m t (line_of names event) (text_of names events) first (puts_all names events m t rest)
 
-  -- the four meanings of a recorder before a sink
+  -- the four meanings of a recorder that writes to a sink
   abbrev pub to_sink : (O → ℕ) → Ghosts (SinkRecorder O)
   to_sink faults = record {
     ready = takes;
@@ -88,7 +88,7 @@ module _ {O : Type 0} (written : O → Option (List ℕ)) where
       (cuts_then s p.middle t (text_of names p.done) (line_of names p.next) (text_of names p.rest)
       (puts_all names p.done s p.middle p.kept) p.cut)
 
-  -- by an answer
+  -- by the answer
   pub recorded_text : {T E : Type 0} (faults : O → ℕ) (names : List NameEntry) (s : SinkRecorder O)
       (events : List Event)
       (t : SinkRecorder O) (result : Result T E)
@@ -96,7 +96,7 @@ module _ {O : Type 0} (written : O → Option (List ℕ)) where
   recorded_text faults names s events t (Ok value) p = noted_text faults names s events t p
   recorded_text faults names s events t (Err error) p = cut_text faults names s events t p
 
-  -- nothing waited at first, a text was put, and what waited was then sent in part: so was the text
+  -- nothing waited at first, a text was put, and then what waited was sent in part: the text was sent in part
   pub sent_part : (s t : SinkRecorder O) (text : List ℕ) (after : Option (List ℕ)) → waiting_in s ≡ []
       → Puts written s text t → AppendsPart (written (sink_of t).now) after (waiting_in t)
       → AppendsPart (written (sink_of s).now) after text

@@ -1,4 +1,4 @@
--- What is seen of a recorder that keeps events.
+-- What contracts see of a recorder that keeps events.
 use Rattle.std.specs.Prelude.{◌≡◌, ℕ, List, [], ◌∷◌, ◌++◌}
 use Rattle.tt_base.specs.declared.event.Event.{Event}
 use Rattle.trace_text.specs.declared.list_recorder.ListRecorder.{ListRecorder}
@@ -15,7 +15,7 @@ room_in r = r.room
 abbrev pub faults_in : ListRecorder → ℕ
 faults_in r = r.faults
 
--- an event came to those that were kept, and nothing else changed
+-- an event was appended to those that were kept, and nothing else changed
 pub record Lists (before : ListRecorder) (event : Event) (after : ListRecorder) : Type 0 where
   pub events : events_in after ≡ events_in before ++ event ∷ []
   pub room : room_in after ≡ room_in before

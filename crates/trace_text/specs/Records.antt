@@ -30,7 +30,7 @@ pub record CutWithin {S : Type 0} (r : Ghosts S) (names : List NameEntry) (befor
   pub cause : Rose (r.faults before) (r.faults after)
   pub never_falls : r.faults before ≤ r.faults after
 
--- by an answer: it noted these events, or was cut within them
+-- by the answer: it noted these events, or was cut within them
 abbrev pub Records : {S T E : Type 0} → Ghosts S → List NameEntry → S → List Event → S → Result T E → Type 0
 Records r names before events after (Ok value) = Notes r names before events after
 Records r names before events after (Err error) = CutWithin r names before events after

@@ -1,4 +1,4 @@
--- What is seen of a recorder before a sink, and what its notes do.
+-- What contracts see of a recorder that writes to a sink, and what its notes do.
 use Rattle.std.specs.Prelude.{◌≡◌, ℕ, Bool, false, not, Option, List, ◌++◌, Result, Ok, Err}
 use Rattle.std.specs.Borrow.{MutBor}
 use Rattle.tt_io.specs.Known.{AppendsPart}
@@ -21,7 +21,7 @@ takes r = not r.failed
 abbrev pub SameSink : {O : Type 0} → SinkRecorder O → SinkRecorder O → Type 0
 SameSink before after = (sink_of after).ghost_name ≡ (sink_of before).ghost_name
 
--- a text came to what waited: of both a front was appended to the sink, where it tells its bytes, and the others wait
+-- a text was added to what waited: a prefix of both was appended to the sink, if it says what it took; the rest waits
 pub record Puts {O : Type 0} (written : O → Option (List ℕ)) (before : SinkRecorder O) (text : List ℕ)
     (after : SinkRecorder O)
     : Type 0 where
@@ -29,7 +29,7 @@ pub record Puts {O : Type 0} (written : O → Option (List ℕ)) (before : SinkR
       (waiting_in after)
   pub same_sink : SameSink before after
 
--- a text came to what waited, and a proper prefix of both was appended to the sink, where it tells its bytes
+-- a text was added to what waited: a proper prefix of both was appended to the sink, if it says what it took
 pub record Cuts {O : Type 0} (written : O → Option (List ℕ)) (before : SinkRecorder O) (text : List ℕ)
     (after : SinkRecorder O)
     : Type 0 where
@@ -37,7 +37,7 @@ pub record Cuts {O : Type 0} (written : O → Option (List ℕ)) (before : SinkR
   pub same_sink : SameSink before after
   pub over : takes after ≡ false
 
--- by an answer: a text was put, or cut
+-- by the answer: a text was put, or cut
 abbrev pub Writes : {O T E : Type 0} → (O → Option (List ℕ)) → SinkRecorder O → List ℕ → SinkRecorder O → Result T E
     → Type 0
 Writes written before text after (Ok value) = Puts written before text after

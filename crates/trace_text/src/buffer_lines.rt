@@ -13,7 +13,7 @@ use tt_base::{Call, Declared, Event, ModeNo, Names, Owner, TaskNo, Tick};
 use tt_io::CAPACITY;
 
 impl LineBuffer {
-    /// The stamp in front of a line.
+    /// The stamp at the start of a line.
     #[inline(always)]
     fn begin(&mut self, stamp: &mut Stamp, at: Tick)
         requires { length self.old + 24 ≤ CAPACITY }
@@ -88,7 +88,7 @@ impl LineBuffer {
         self.end();
     }
 
-    /// A body puts out a value.
+    /// A body outputs a value.
     fn out(&mut self, stamp: &mut Stamp, at: Tick, names: &Names, owner: Owner, value: i32)
         requires { length self.old + 96 ≤ CAPACITY }
         ensures { let name = owner_name names.now owner in

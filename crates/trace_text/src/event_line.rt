@@ -10,8 +10,8 @@ use crate::line::Line;
 use tt_base::{Call, Declared, Event, ModeNo, Names, Owner, TaskNo, Tick};
 
 /// The line of an event, its LF included: at most 96 bytes. Its stamp in ticks comes first, and one
-/// space stands between words. A thing that the names do not have stands as an empty word. The
-/// words are the bench's own.
+/// space is between words. A thing that the names do not have is an empty word. The words are the
+/// bench's own.
 #[tactic(auto, unfolding(crate::specs::Lines::line_of))]
 pub fn line_of(event: &Event, names: &Names) -> Line
     ensures line { result ≡ line_of names.now event.now }
@@ -127,7 +127,7 @@ fn check(at: Tick, names: &Names, task: TaskNo, met: bool) -> Line
     line
 }
 
-/// A body puts out a value.
+/// A body outputs a value.
 fn out(at: Tick, names: &Names, owner: Owner, value: i32) -> Line
     ensures line { let name = owner_name names.now owner in
         result ≡ line (decimal at ∷ codes "out" ∷ name ∷ signed_decimal value ∷ []) }

@@ -1,5 +1,5 @@
-//! The text of a trace: the line of each event, and who notes events. Other printed lines are made
-//! of the same words.
+//! The text of a trace: the line of each event, and the recorders that note events. Other printed
+//! lines are made of the same words.
 #![tactic(auto)]
 
 mod buffer_lines;

@@ -17,7 +17,7 @@ use tt_io::{CAPACITY, Sink, WriteFault, put_all};
 /// memory, and contracts see it as the list of the bytes that wait.
 #[derive(Drop)]
 pub(crate) struct LineBuffer {
-    /// How many bytes wait, from the front of `bytes` on.
+    /// How many bytes wait, at the front of `bytes`.
     len: usize,
     bytes: [u8; CAPACITY],
 }
@@ -43,7 +43,7 @@ impl LineBuffer {
         }
     }
 
-    /// How many more bytes have room.
+    /// How many more bytes it has room for.
     #[inline(always)]
     pub(crate) fn room(&self) -> usize
         ensures { result + length self.now ≡ CAPACITY }
@@ -77,8 +77,8 @@ impl LineBuffer {
         self.len = end;
     }
 
-    /// Appends the first bytes of a name with zeros after it. Sixteen bytes are copied at once,
-    /// and those past the name are written over by what comes next.
+    /// Appends the first bytes of a name that has zeros after it. Sixteen bytes are copied at once,
+    /// and those after the name are overwritten by what comes next.
     #[inline(always)]
     fn front_of_name(&mut self, text: &[u8; NAME_BYTES], len: usize)
         requires short { len ≤ NAME_BYTES }

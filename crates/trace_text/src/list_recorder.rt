@@ -8,8 +8,8 @@ use crate::{Noted, Recorder};
 use std::alloc::Global;
 use tt_base::{Event, Memory, Names};
 
-/// Keeps the events that it notes, in the room that it has. A note that finds no room left fails,
-/// and no other does.
+/// Keeps the events that it notes, as long as it has room. A note fails exactly where no room is
+/// left.
 #[derive(Drop)]
 pub struct ListRecorder {
     events: Vec<Event>,

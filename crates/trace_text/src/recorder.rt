@@ -19,7 +19,7 @@ pub enum Noted {
 #[derive(Clone, Copy, Debug, PartialEq, Eq)]
 pub struct Failed;
 
-/// What a run tells its events to, one after the other.
+/// What a run reports its events to, one after another.
 pub trait Recorder {
     ghost use Rattle.std.specs.Prelude.{Bool, List, ℕ};
     ghost use Rattle.tt_base.specs.declared.event.Event.{Event};
@@ -32,13 +32,13 @@ pub trait Recorder {
     /// after.
     ghost kept: { Self → Event → List NameEntry → Self → Type 0 };
 
-    /// What a note that fails leaves: the same four.
+    /// What a note that fails does, of the same four.
     ghost cut: { Self → Event → List NameEntry → Self → Type 0 };
 
     /// How many faults there were. The count stays at its last value, 2^64 - 1.
     ghost faults: { Self → ℕ };
 
-    /// Notes an event. Its things have these names.
+    /// Notes an event. The things in it have these names.
     fn note(&mut self, event: &Event, names: &Names) -> Noted
         requires { IsTrue (ready self.old) }
 

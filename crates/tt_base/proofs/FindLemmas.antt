@@ -21,7 +21,7 @@ use Rattle.tt_base.proofs.NamesLemmas.{slice_get-append_left, slice_get-push}
 pub same_bytes : (xs ys : List ℕ) → bytes_eq xs ys ≡ true → xs ≡ ys
 same_bytes xs ys = (bytes_eq-Decides xs ys).0
 
--- among no names none declares anything
+-- in an empty list no name declares anything
 pub find_name-nil : (name : List ℕ) → find_name [] name ≡ None
 unfolding find_name
 find_name-nil name = refl
@@ -33,7 +33,7 @@ declared_at-push names entry place lt =
     let few : place ≤ length names = omega arith in
     rw (slice_get-append_left names (entry ∷ []) place lt, take-append-le place names (entry ∷ []) few)
 
--- what the last name declares
+-- what the name at the end of the list declares
 declared_at-last : (names : List NameEntry) (entry : NameEntry)
     → declared_at (names ++ entry ∷ []) (length names) ≡ Some (declared entry.kind (count_of entry.kind names))
 declared_at-last names entry =
@@ -44,7 +44,7 @@ declared_at-last names entry =
       take_all (length names) names all,
     )
 
--- whether an entry has a name
+-- whether an entry has this name
 abbrev has : List ℕ → NameEntry → Bool
 has name = λ entry. bytes_eq entry.name name
 
@@ -55,7 +55,7 @@ position-within p xs lt = grind (arith, common_steps, nat_tests)
 position-past : {X : Type 0} (p : X → Bool) (xs : List X) → length xs ≤ position_or_len p xs → position p xs ≡ None
 position-past p xs le = grind (arith, common_steps, nat_tests)
 
--- the first place in a longer list
+-- the first place that passes a test, in a list with one item more
 position-push : {X : Type 0} (p : X → Bool) (xs : List X) (x : X)
     → position p (xs ++ x ∷ []) ≡ (if eqb (position_or_len p xs) (length xs)
     then (if p x then Some (length xs) else None) else position p xs)
@@ -82,7 +82,7 @@ find_name-past : (names : List NameEntry) (name : List ℕ) → length names ≤
 unfolding find_name
 find_name-past names name le = ap (option_and_then (declared_at names)) (position-past (has name) names le)
 
--- a name that stands among the first of the names
+-- a name that is among the names before the last
 find_name-push_within : (names : List NameEntry) (entry : NameEntry) (name : List ℕ)
     → position_or_len (has name) names < length names
     → find_name (names ++ entry ∷ []) name ≡ find_name names name
@@ -92,11 +92,11 @@ find_name-push_within names entry name lt =
     ∙ declared_at-push names entry (position_or_len (has name) names) lt
     ∙ sym (find_name-within names name lt)
 
--- the thing that the last name declares, where it is this name
+-- the thing that the last entry declares, where it has this name
 abbrev pub declared_last : List NameEntry → NameEntry → Bool → Option Declared
 declared_last names entry same = if same then Some (declared entry.kind (count_of entry.kind names)) else None
 
--- a name that does not
+-- a name that is not among them
 find_name-push_past : (names : List NameEntry) (entry : NameEntry) (name : List ℕ)
     → length names ≤ position_or_len (has name) names
     → find_name (names ++ entry ∷ []) name ≡ declared_last names entry (bytes_eq entry.name name)
@@ -113,7 +113,7 @@ find_name-push_past names entry name le =
 declared_at-within : (names : List NameEntry) (place : ℕ) → place < length names → declared_at names place ≡ None → ⊥
 declared_at-within names place lt = grind (arith, common_steps, gets)
 
--- a name that declared something declares the same
+-- a name that already declared something still declares the same
 pub find_name-push_known : (names : List NameEntry) (entry : NameEntry) (name : List ℕ) (which : Declared)
     → find_name names name ≡ Some which → find_name (names ++ entry ∷ []) name ≡ Some which
 find_name-push_known names entry name which known =
@@ -121,7 +121,7 @@ find_name-push_known names entry name which known =
     (λ le. let unknown : find_name names name ≡ None = find_name-past names name le in cc)
     (cases_lt (position_or_len (has name) names) (length names))
 
--- a name that declared nothing declares the last thing, where it is its name
+-- a name that declared nothing declares the last thing, where the last entry has this name
 pub find_name-push_unknown : (names : List NameEntry) (entry : NameEntry) (name : List ℕ) → find_name names name ≡ None
     → find_name (names ++ entry ∷ []) name ≡ declared_last names entry (bytes_eq entry.name name)
 find_name-push_unknown names entry name unknown =

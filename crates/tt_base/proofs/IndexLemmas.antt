@@ -19,7 +19,7 @@ use Rattle.tt_base.specs.declared.names.NameKind.TheVariants as Kind
 use Rattle.tt_base.proofs.NamesLemmas.{names_of-push_same, names_of-push_other, slice_get-append_left, slice_get-push}
 use Rattle.tt_base.proofs.FindLemmas.{same_bytes, find_name-nil, declared_last, find_name-push_known, find_name-push_unknown}
 
--- the name that the place with a number names
+-- the name at the place that has this number in a list of places
 pub name_of_number : (names : List NameEntry) (places : List ℕ) (kept : List (List ℕ)) (number : ℕ)
     → map (name_at names) places ≡ map Some kept
     → option_and_then (name_at names) (slice_get places number) ≡ slice_get kept number
@@ -39,7 +39,7 @@ name_at-push names entry place name is = by_entry (slice_get names place) refl w
   by_entry (Some other) some =
       let kept = slice_get-append_left names (entry ∷ []) place (slice_get_within names place other some) in cc
 
--- places name what they did when the names grow
+-- the names at these places stay the same when a name is added
 names_at-push : (names : List NameEntry) (entry : NameEntry) (places : List ℕ) (kept : List (List ℕ))
     → map (name_at names) places ≡ map Some kept → map (name_at (names ++ entry ∷ [])) places ≡ map Some kept
 names_at-push names entry [] kept is = is
@@ -48,7 +48,7 @@ names_at-push names entry (place ∷ places) (name ∷ kept) is =
     let first = name_at-push names entry place name (cc) in
     let rest = names_at-push names entry places kept (cc) in cc
 
--- and one more place names the last name
+-- with one more place, that of the last name, they are these names and the last one
 names_at-last : (names : List NameEntry) (entry : NameEntry) (places : List ℕ) (kept : List (List ℕ))
     → map (name_at names) places ≡ map Some kept
     → map (name_at (names ++ entry ∷ [])) (places ++ length names ∷ []) ≡ map Some (kept ++ entry.name ∷ [])
@@ -115,7 +115,7 @@ pub places_of-set_same : (lists : Lists) (i : ℕ) (list d : Vec ℕ Global) →
     → places_of (set lists i list) ≡ places_of lists
 places_of-set_same lists i list d same = map-set_same (λ (l : Vec ℕ Global). l.items) lists i list d same
 
--- nothing that counts is changed
+-- nothing that matters is changed
 pub IsIndexed-same : (names names' : List NameEntry) (places places' : List (List ℕ)) (index index' : Index)
     → names' ≡ names → places' ≡ places → index'.entries ≡ index.entries
     → IsIndexed names places index → IsIndexed names' places' index'
@@ -201,7 +201,7 @@ found-push names places index new entry indexed which is keeps name =
       by_name false apart None unknown =
           unknown ∙ sym (find_name-push_unknown names entry name unknown ∙ ap (declared_last names entry) apart)
 
--- the thing that was put into the map is declared by the first of its name
+-- where a name was not in the map and was put into it, KeepsFirst holds
 pub KeepsFirst-new : (index new : Index) (name : List ℕ) (which : Declared) → get bytes_eq index name ≡ None
     → Updates bytes_eq index new name (Some which) → KeepsFirst index new name which
 KeepsFirst-new index new name which absent updates = λ other. updates.0 other

@@ -16,7 +16,7 @@ drop-zeros zero m = grind (arith, common_steps)
 drop-zeros (suc n) zero = grind (arith, common_steps)
 drop-zeros (suc n) (suc m) = grind (arith, common_steps, drop-zeros n m)
 
--- a name in front of the zeros of an array
+-- a name followed by the rest of an array of zeros
 pub padded : (text zeros : List ℕ) → zeros ≡ replicate {A = ℕ} 16 0 → is_name text ≡ true
     → IsPadded (length text) (text ++ drop (length text) zeros)
 padded text zeros is named = record {

@@ -48,10 +48,10 @@ padded_bytes len bytes p =
     ap (λ k. take len bytes ++ replicate (16 - k) 0) (padded_len len bytes p)
     ∙ ap (λ xs. take len bytes ++ xs) (sym p.zeros) ∙ take-append-drop len bytes
 
--- those bytes as one number, which is what is hashed
+-- a name with zeros after it as one number, which is what is hashed
 unfoldable pub number_of_name : List ℕ → ℕ
 number_of_name name = from_le_bytes w128 (with_zeros name)
 
--- equal names have one number
+-- equal names have the same number
 pub same_number : (a b : List ℕ) → IsTrue (bytes_eq a b) → fed.u128 (number_of_name a) ≡ fed.u128 (number_of_name b)
 same_number a b same = ap (λ n. fed.u128 (number_of_name n)) ((bytes_eq-Decides a b).0 same)

@@ -10,11 +10,11 @@ use Rattle.tt_base.specs.declared.names.Declared.{Declared}
 use Rattle.tt_base.specs.declared.names.NameEntry.{NameEntry}
 use Rattle.tt_base.specs.Names.{index_of, names_of, find_name}
 
--- what a name declares, by the map
+-- what each name declares, as a map
 abbrev pub Index : Type 0
 Index = HashMap (List ℕ) Declared (BuildHasherDefault FoldHasher)
 
--- a name that declares nothing declares this thing afterwards; all other names declare what they did
+-- a name that declared nothing declares this thing afterwards; every other name declares what it did before
 abbrev pub KeepsFirst : Index → Index → List ℕ → Declared → Type 0
 KeepsFirst old new name which = (other : List ℕ) → get bytes_eq new other
     ≡ (if bytes_eq name other then Some (unwrap_or (get bytes_eq old name) which) else get bytes_eq old other)

@@ -18,7 +18,7 @@ index_of Kind.Isr = 4
 index_of Kind.Osek = 5
 index_of Kind.Oisr = 6
 
--- whether two kinds are one
+-- whether two kinds are the same
 abbrev pub is_same_kind : NameKind → NameKind → Bool
 is_same_kind kind other = index_of kind == index_of other
 

@@ -1,8 +1,8 @@
--- What a list ends as, once a `&mut` to one of its items has ended.
+-- What becomes of a list, once a `&mut` to one of its items has ended.
 use Rattle.std.specs.Prelude.{ℕ, List, slice_set}
 use Rattle.std.specs.Borrow.{Lends, RattleType, MutBor, Fml}
 use Rattle.tt_base.specs.contracts.series.Series.{the_row}
 
--- the list ends with the last value that r had at this place
+-- in the end the list has, at this place, the last value that r had
 abbrev pub LendsItem : (T : RattleType) → MutBor (List T.Denot) → ℕ → MutBor T.Denot → Fml
 LendsItem T list place r = Lends (the_row T) T list r (slice_set list.now place)

@@ -1,4 +1,4 @@
-//! What every crate of the bench stands on: the answer 'out of memory', numbers of declared things,
+//! What every crate of the bench builds on: the answer 'out of memory', numbers of declared things,
 //! ticks, events, names, a list type, and a counter of steps.
 #![tactic(auto)]
 

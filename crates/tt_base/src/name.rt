@@ -37,7 +37,7 @@ impl Model for Name {
 }
 
 impl Name {
-    /// The name that a text is. None exactly where the text is no name.
+    /// A text as a name. None exactly where the text is no name.
     pub fn new(text: &[u8]) -> Option<Name>
         ensures { MatchOption result (is_name text.now ≡ false)
             (λ n. (is_name text.now ≡ true) × (n ≡ text.now)) }
@@ -77,7 +77,7 @@ impl Name {
         &self.bytes
     }
 
-    /// Whether two names are one.
+    /// Whether two names are the same.
     pub fn is_same(&self, other: &Name) -> bool
         ensures { result ≡ bytes_eq self.now other.now }
     {

@@ -190,8 +190,8 @@ impl Names {
         Ok(which)
     }
 
-    /// The thing that a name declares: the first name added that equals it counts. None exactly
-    /// where there is none.
+    /// The thing that a name declares. Of equal names, the one added first counts. None exactly
+    /// where no name equals it.
     pub fn find(&self, name: Name) -> Option<Declared>
         ensures { result ≡ find_name self.now name }
     {
@@ -207,7 +207,7 @@ impl Names {
     }
 }
 
-/// The name at the place that a list of places has for a number.
+/// The name whose place is `places[number]`.
 fn name_of_number(entries: &[NameEntry], places: &[usize], number: usize) -> Option<Name>
     ensures { result ≡ option_and_then (name_at entries.now) (slice_get places.now number) }
 {
@@ -215,8 +215,8 @@ fn name_of_number(entries: &[NameEntry], places: &[usize], number: usize) -> Opt
     Some(entries.get(place)?.name)
 }
 
-/// Notes what a name declares. A name that declares something keeps that. When out of memory, the
-/// index is unchanged.
+/// Records what a name declares, unless the name already declares something. When out of memory,
+/// the index is unchanged.
 fn keep_first(
     index: &mut HashMap<Name, Declared>,
     name: Name,

@@ -1,4 +1,4 @@
--- Rules that are asked in groups: the first that is broken, and what it says where none is.
+-- Rules that are asked in groups: the first that is broken, and what holds where none is.
 use Rattle.std.proofs.Common.{◌≡◌, ℕ, zero, suc, ◌+◌, List, [], ◌∷◌, ◌++◌, Option, Some, None, length, refl, ap, sym, ◌∙◌, arith}
 use Rattle.tt_rules.specs.declared.broken.Broken.{Broken}
 use Rattle.tt_rows.specs.declared.row.NumberedRow.{NumberedRow}
@@ -46,7 +46,7 @@ module _ (d : Document) where
   kept number (rule ∷ rules) is (suc n) =
       kept (number + 1) rules (broken_later number (least_line (rule d)) (first_broken (number + 1) rules d) is) n
 
-  -- where none of the first rules is broken, it is the first of the others
+  -- where none of the first rules is broken, the first broken rule is that of the others
   pub join_none : (number : ℕ) (first others : List Rule) → first_broken number first d ≡ None
       → first_broken number (first ++ others) d ≡ first_broken (number + length first) others d
   join_none number [] others kept = ap (λ n. first_broken n others d) (omega arith)
@@ -55,7 +55,7 @@ module _ (d : Document) where
       (first_broken (number + 1) (first ++ others) d) (first_broken (number + length (rule ∷ first)) others d) kept
       (λ later. join_none (number + 1) first others later ∙ ap (λ n. first_broken n others d) (omega arith))
 
-  -- where one of the first rules is broken, it is that one
+  -- where one of the first rules is broken, it is the first broken rule
   pub join_some : (number : ℕ) (first others : List Rule) (broken : Broken) → first_broken number first d ≡ Some broken
       → first_broken number (first ++ others) d ≡ Some broken
   join_some number [] others broken is = cc

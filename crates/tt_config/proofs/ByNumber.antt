@@ -1,4 +1,4 @@
--- What parts give each number, with one part more.
+-- What parts give to each number, with one more part.
 use Rattle.std.proofs.Common.{◌≡◌, ◌≢◌, ℕ, zero, suc, ◌+◌, ◌<◌, Bool, true, false, List, [], ◌∷◌, ◌++◌, length, map, take, get_or, set, replicate, Option, Some, None, refl, ap, sym, ◌∙◌, arith, if◌then◌else◌}
 use Rattle.std.specs.Prelude.{◌==◌}
 use Rattle.std.proofs.lemmas.Bool.{eqb-true}
@@ -11,7 +11,7 @@ use Rattle.tt_rules.specs.Order.{below}
 use Rattle.tt_config.specs.Lists.{at_number, by_number, given, put_at}
 use Rattle.tt_config.proofs.Counted.{length-below}
 
--- the number at a place below one
+-- the number at a place in the numbers below n
 get_or-below : (n k d : ℕ) → k < n → get_or (below n) k d ≡ k
 get_or-below zero k d lt = absurd (omega arith)
 get_or-below (suc n) k d lt = by (k == n) refl (get_or-below n k d) where
@@ -22,14 +22,14 @@ get_or-below (suc n) k d lt = by (k == n) refl (get_or-below n k d) where
       let less : k < n = grind (arith, nat_tests) in
       get_or_append_left (below n) (n ∷ []) d k (omega (arith, length-below n)) ∙ rest less
 
--- what belongs to each number below one, at a number
+-- what belongs to each number below n, read at one number
 get_or-each : {X : Type 0} (f : ℕ → X) (n k : ℕ) (d : X) → k < n → get_or (map f (below n)) k d ≡ f k
 get_or-each f n k d lt = get_or-map f (below n) k 0 d (omega (arith, length-below n)) ∙ ap f (get_or-below n k 0 lt)
 
 length-each : {X : Type 0} (f : ℕ → X) (n : ℕ) → length (map f (below n)) ≡ n
 length-each f n = length-map (below n) f ∙ length-below n
 
--- lists that belong to the same numbers are one, where each is
+-- a list whose item at each number is what belongs to that number is the list of these
 same_each : {X : Type 0} (f : ℕ → X) (n : ℕ) (xs : List X) (d : X) → length xs ≡ n
     → ((k : ℕ) → k < n → get_or xs k d ≡ f k) → xs ≡ map f (below n)
 same_each f n xs d long each =
@@ -81,7 +81,7 @@ module _ {A B : Type 0} (count : ℕ) (place : A → Option (ℕ × B)) where
       (length-put xs (place x))
       (λ k lt. put_one xs (place x) k lt ∙ sym (given-push xs x k))
 
-  -- one part more
+  -- one more part
   pub by_number-more : (xs : List (At A)) (i : ℕ) (x : At A) (lists more : List (List B)) (o : Option (ℕ × B))
       → i < length xs → x ≡ get_or xs i x
       → lists ≡ by_number count place (parts (take i xs)) → o ≡ place x.part → more ≡ put_at o lists

@@ -59,7 +59,7 @@ module _ {A : Type 0} (kind : NameKind) (part_of : Row → Option A)
         count_parts rows,
       )
 
--- what a body gives that there may be
+-- what a body gives, if there is a body
 abbrev owned : {A : Type 0} → (BodyPart → List A) → Option BodyPart → List A
 owned part_in None = []
 owned part_in (Some b) = part_in b
@@ -135,7 +135,7 @@ named rows =
       oisrs = count_owners Kind.Oisr (oisr_in demands) (oisr_one demands) names rows;
     }
 
--- 8. None has too many.
+-- 8. No kind has too many.
 pub few : (rows : List NumberedRow) → AreDeclarationsSound (declarations_of rows)
     → AreFew (config_with (elaborated_of rows))
 few rows sound =

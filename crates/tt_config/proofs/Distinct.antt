@@ -1,4 +1,4 @@
--- The numbers of owners differ, where no owner has that of one above.
+-- The numbers of owners differ, where no owner has the number of one above.
 use Rattle.std.proofs.Common.{◌≡◌, ℕ, true, false, not, List, [], ◌∷◌, ◌++◌, map, Option, Some, None, refl, ap, ◌∙◌, sym, arith}
 use Rattle.std.specs.Prelude.{◌==◌, flat_map}
 use Rattle.std.specs.List.{AllByRecursion as Each, list_any}
@@ -23,7 +23,7 @@ use Rattle.tt_rules.proofs.Kept.{kept_one}
 use Rattle.tt_rules.proofs.Pairs.{pairs_differ}
 use Rattle.tt_config.specs.Owners.{isr_by, isr_in, osek_by, osek_in, oisr_by, oisr_in}
 
--- a number that there may be, as a list
+-- a number, if there is one, as a list
 abbrev told : Option ℕ → List ℕ
 told None = []
 told (Some n) = n ∷ []
@@ -38,7 +38,7 @@ module _ (number_of : Owner → Option ℕ) where
   abbrev numbers : List BodyPart → List ℕ
   numbers bodies = flat_map (λ b. told (key b)) bodies
 
-  -- the owners after one with a number have others
+  -- the owners after one with a number have other numbers
   others : (n : ℕ) (o : Option ℕ) (bodies : List BodyPart) → o ≡ Some n
       → Each (λ (b : BodyPart). same_by same_number (λ (x : Option ℕ). x) o (key b) ≡ false) bodies
       → list_any (λ other. other == n) (numbers bodies) ≡ false

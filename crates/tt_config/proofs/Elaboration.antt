@@ -35,7 +35,7 @@ most_small Kind.Osek = omega arith
 most_small Kind.Oisr = omega arith
 
 module _ (rows : List NumberedRow) where
-  -- what the rules that need no number of a name say for what is elaborated next
+  -- what the rules that need no number of a name say about what is elaborated next
   module _ (none : None ≡ first_broken 1 first_rules (document_of rows)) where
     no_line : AreKept first_rules (document_of rows)
     no_line = kept (document_of rows) 1 first_rules (sym none)
@@ -66,7 +66,7 @@ module _ (rows : List NumberedRow) where
       let owned = f ∙ ap (λ ns. bodies_of ns rows) named in
       λ i. record { declared = a i; names = named i; said = told i; demands = asked i; bodies = owned i }
 
-  -- 2, 3, 9. The worst cases of what is elaborated can be told.
+  -- 2, 3, 9. The worst cases of what is elaborated can be computed.
   pub elaborated_tellable : (d : Elaborated) (bodies : List (At BodyPart)) → d ≡ elaborated_of rows
       → bodies ≡ d.bodies → length rows < 2 ^ 32 → lines_2 rows ≡ [] → lines_3 rows ≡ []
       → None ≡ first_broken 9 declaration_rules (document_of rows) → AreTellable d.demands bodies

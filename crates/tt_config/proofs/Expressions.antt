@@ -102,7 +102,7 @@ some_words (t ∷ terms) sound =
       sum_by-cons (length {A = ℕ}) (term_word t) (map term_word terms),
     )
 
--- the words of a line that ends with an expression
+-- a line of at most 200 bytes that ends with an expression has at most 100 terms in it
 few_terms : (before : List (List ℕ)) (terms : List Term) → list_all is_sound_term terms ≡ true
     → nat_le (length (joined (before ++ (map term_word terms ++ [])))) 200 ≡ true → length terms ≤ 100
 few_terms before terms sound short =

@@ -1,11 +1,11 @@
--- Rows are fewer than the numbers that a line can have.
+-- There are fewer rows than numbers that a line can have.
 use Rattle.std.proofs.Common.{◌≡◌, ℕ, suc, ◌+◌, ◌-◌, ◌^◌, ◌≤◌, ◌<◌, true, List, [], ◌∷◌, length, arith, ap, subst}
 use Rattle.std.specs.Prelude.{nat_le, slice_get, Some}
 use Rattle.task_lang.proofs.Numbers.{and_left, and_right, from_nat_le}
 use Rattle.tt_rows.specs.declared.row.NumberedRow.{NumberedRow}
 use Rattle.tt_rows.specs.Sound.{AreSound, ascend_from}
 
--- lines that ascend are at most as many as the line of the last row says
+-- there are at most as many lines that ascend as the number of the last line
 last_bound : (least : ℕ) (row last : NumberedRow) (rows : List NumberedRow) → ascend_from least (row ∷ rows) ≡ true
     → slice_get (row ∷ rows) (length rows) ≡ Some last → length rows + least ≤ last.line
 last_bound least row last [] ascend is =

@@ -14,7 +14,7 @@ abbrev pub one_if : Bool → ℕ
 one_if true = 1
 one_if false = 0
 
--- one name more
+-- one more name
 pub count-cons : (kind : NameKind) (first : NameEntry) (names : List NameEntry)
     → count_of kind (first ∷ names) ≡ one_if (is_same_kind kind first.kind) + count_of kind names
 count-cons kind first names = by (is_same_kind kind first.kind) where
@@ -76,7 +76,7 @@ either_same true is = refl
 either_same false is = is
 
 module _ (names : List NameEntry) (kind : NameKind) (name : List ℕ) where
-  -- what a name declares that is declared as a kind has a number below its count
+  -- where a name is declared as a kind, the number of what it declares is below the count of that kind
   abbrev IsBelow : Option Declared → Type 0
   IsBelow which = has_kind (uses kind name) (option_map kind_of which) ≡ true
       → unwrap_or (option_map number_of which) 0 < count_of kind names

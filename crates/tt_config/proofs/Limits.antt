@@ -67,7 +67,7 @@ nesting-flat (Stmt-F.Repeat n x) flat = cc
 nesting-flat (Stmt-F.Out e) flat = fold-Out ℕ nesting_step e
 nesting-flat (Stmt-F.Service c) flat = fold-Service ℕ nesting_step c
 
--- a statement is a block at most, with what is inside it
+-- a statement is at most one block around what is inside it
 nesting-block : (head : Head) (first second : List Stmt) (n : ℕ) → nesting_in first ≤ n → nesting_in second ≤ n
     → nesting_of (statement_of head first second) ≤ 1 + n
 nesting-block (Stmt-F.Work t) first second n one other = omega (arith, fold-Work ℕ nesting_step t)
@@ -78,7 +78,7 @@ nesting-block (Stmt-F.Repeat t x) first second n one other = omega (arith, fold-
 nesting-block (Stmt-F.Out e) first second n one other = omega (arith, fold-Out ℕ nesting_step e)
 nesting-block (Stmt-F.Service c) first second n one other = omega (arith, fold-Service ℕ nesting_step c)
 
--- what stands in each open thing nests no deeper than its place allows
+-- the statements of an open thing nest no deeper than its place allows
 record IsLow (outside : List Open) (b : Branches) : Type 0 where
   first : nesting_in b.first + length outside ≤ 4
   second : nesting_in b.second + length outside ≤ 4
@@ -171,7 +171,7 @@ few-open (inner ∷ outer) OfRepeat le high =
     omega (arith, leb-false 5 (length (inner ∷ outer)) (not-true (nat_le 5 (length (inner ∷ outer))) high))
 few-open (inner ∷ outer) OfEnd le high = omega arith
 
--- rows whose blocks are well formed and never more than 4 in a body, with what is open before them
+-- rows with well-formed blocks, never more than 4 in a body; `stack` is what is open before them
 record AreInBlocks (rows : List NumberedRow) : Type 0 where
   stack : List Open
   last : ℕ

@@ -51,14 +51,14 @@ rows_fit rows sound is_9 is_14 =
     (each_both K S rows (each_row known rows (kept_one 1 (Every known) (rows_at rows) is_14))
     (each_from_all (λ (row : NumberedRow). is_sound_row row.row) rows sound.sound)))
 
--- a fact for a part that there may be
+-- a fact for a part, if there is one
 abbrev pub IfPart : {A : Type 0} → (A → Type 0) → Option A → Type 0
 IfPart P None = Unit {0}
 IfPart P (Some part) = P part
 
 module _ {A : Type 0} (P : A → Type 0) (Q : Row → Type 0) (part_of : Row → Option A)
     (gives : (row : Row) → Q row → IfPart P (part_of row)) where
-  -- what each part has, where each row gives it
+  -- what holds of each part, where each row gives it
   pub each_part : (rows : List NumberedRow) → EachRow Q rows → Each P (parts (each_at part_of rows))
   each_part [] h = tt
   each_part (row ∷ rows) h = by (part_of row.row) (gives row.row h.0) (each_part rows h.1) where
@@ -69,7 +69,7 @@ module _ {A : Type 0} (P : A → Type 0) (Q : Row → Type 0) (part_of : Row →
 
 module _ (P : Owner → Type 0) (Q : Row → Type 0) (gives : (row : Row) → Q row → IfPart P (owner_in row))
     (names : List NameEntry) where
-  -- what each owner of a body has
+  -- what holds of the owner of each body
   pub each_owner : (rows : List NumberedRow) → EachRow Q rows
       → Each (λ (x : At BodyPart). P x.part.owner) (bodies_of names rows)
   each_owner [] h = tt

@@ -98,7 +98,7 @@ fits_owner demands body (owner.Oisr priority) range light = (
 fits_owner demands body owner.ErrorHook range light = tt
 fits_owner demands body owner.ShutdownHook range light = tt
 
--- ---- bodies whose worst case can be told
+-- ---- bodies whose worst case can be computed
 
 module _ (rows : List NumberedRow) (short : length rows < 2 ^ 32) (is_2 : lines_2 rows ≡ [])
     (is_3 : lines_3 rows ≡ []) (is_9 : lines_9 rows ≡ []) where
@@ -122,7 +122,7 @@ module _ (rows : List NumberedRow) (short : length rows < 2 ^ 32) (is_2 : lines_
       let fits = λ (d : Demand). nat_le d.usual d.most in
       all_from_each fits demands (each_weaker IsDemand (λ d. fits d ≡ true) (λ d h. h.1) demands each_demand)
 
-  -- 2, 3, 9. The worst case of each body can be told.
+  -- 2, 3, 9. The worst case of each body can be computed.
   pub tellable : AreTellable demands (bodies_of (names_in rows) rows)
   tellable = by (bodies_of (names_in rows) rows) (bodies_nested (names_in rows) rows is_2 is_3)
       (bodies_counted (names_in rows) rows short)
@@ -317,7 +317,7 @@ module _ (rows : List NumberedRow) (rules : KeepBodyRules rows) where
         (parts bodies) good);
   }
 
-  -- 2, 3, 9, 17. The numbers of each body's owner have the widths of those of a configuration.
+  -- 2, 3, 9, 17. The numbers of each body's owner fit the widths of those of a configuration.
   pub bodies_fit : AreFit c.demands bodies
   bodies_fit = by bodies (tellable rows rules.short rules.rule_2 rules.rule_3 rules.rule_9) ranges
       (each_every (is_light c.demands) bodies rules.rule_17) where

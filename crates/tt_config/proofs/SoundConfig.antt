@@ -163,7 +163,7 @@ pub script_is_sound : (rows : List NumberedRow) → AreSound rows → broken_rul
 unfolding config_of script_of
 script_is_sound rows sound is = script_sound rows (none_broken rows is) sound
 
--- what is built of rows is their configuration and their script
+-- what is built from rows is their configuration and their script
 module _ (rows : List NumberedRow) (d : Elaborated) (is : d ≡ elaborated_of rows) where
   pub config_is : (c : ConfigParts) → c ≡ config_with d → c ≡ config_of rows
   unfolding config_of
@@ -189,7 +189,7 @@ module _ (rows : List NumberedRow) (d : Elaborated) (is : d ≡ elaborated_of ro
       subst (λ (e : Elaborated). AreFit e.demands e.bodies) (sym is)
       (bodies_fit rows (body_rules rows sound (none_broken rows none) short))
 
-  -- 26. The number of rounds has the width of that of a script.
+  -- 26. The number of rounds fits the width of that of a script.
   pub rounds_fit : broken_rule rows ≡ None → first_or_zero (parts d.said.counts) ≤ 100000
   rounds_fit none =
       let rounds = first_or_zero (parts (each_at rounds_in rows)) in

@@ -1,4 +1,4 @@
--- The script keeps the rules of one, where no line breaks the rules on it.
+-- The script keeps the rules of a script, where no line breaks the rules on it.
 use Rattle.std.proofs.Common.{◌≡◌, ℕ, ◌+◌, ◌^◌, ◌<◌, ◌≤◌, Bool, true, false, List, [], ◌∷◌, length, map, Option, Some, None, refl, sym, subst, ◌∙◌, arith, if◌then◌else◌}
 use Rattle.std.specs.Prelude.{◌==◌, ◌&&◌, nat_le, nat_lt}
 use Rattle.std.specs.List.{AllByRecursion as Each, list_all}
@@ -107,12 +107,12 @@ ascend least (tick ∷ ticks) low small h =
     (ascend (tick + 1) ticks (each_weaker (λ b. tick < b) (λ b. tick + 1 ≤ b) (λ b lt. omega arith) ticks h.0) small.1
     h.1))
 
--- one arrival of a source above another
+-- an arrival of a source that is below another of it has a later tick
 later : (same : Bool) (a b : ℕ) → same && nat_le b a ≡ false → same ≡ true → a < b
 later true a b is yes_ = omega (arith, leb-false b a is)
 later false a b is yes_ = cc
 
--- numbers that are one with another are one
+-- numbers that equal a third one are equal
 both_are : (k a b : ℕ) → (k == a) ≡ true → (k == b) ≡ true → (a == b) ≡ true
 both_are k a b one_ other = eq-eqb a b (sym (eqb-true k a one_) ∙ eqb-true k b other)
 
@@ -120,7 +120,7 @@ turned : (k a : ℕ) → (a == k) ≡ true → (k == a) ≡ true
 turned k a is = eq-eqb k a (sym (eqb-true a k is))
 
 module _ (kind : NameKind) (k : ℕ) where
-  -- what is an item of a number, where it is one of a kind
+  -- what holds of an item of a number, where it is one of this kind
   in_kind : (P : ℕ → Type 0) (own : Bool) (n tick : ℕ) → (own ≡ true → (n == k) ≡ true → P tick)
       → Each P (at_number k (if own then Some (n, tick) else None))
   in_kind P true n tick has = one P (n == k) tick (has refl)

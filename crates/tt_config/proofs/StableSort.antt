@@ -1,4 +1,4 @@
--- A stable sort gives what the insertion of each element into those after it does.
+-- A stable sort gives the same list as inserting each element into those after it.
 use Rattle.std.proofs.Common.{◌≡◌, ℕ, suc, ◌<◌, ◌≤◌, Bool, true, false, cond, not, List, [], ◌∷◌, length, get_or, refl, sym, ap, subst, ◌∙◌, arith}
 use Rattle.std.specs.Prelude.{◌&&◌, filter}
 use Rattle.std.specs.Cmp.{IsStrictWeakOrder}
@@ -29,7 +29,7 @@ tie_right true b both = cc
 tie_right false true both = cc
 tie_right false false both = refl
 
--- two elements in either order in front of a list, of which at most one passes
+-- two elements in either order before a list, where at most one of them passes
 swapped : {X : Type 0} (p q : Bool) (x y : X) (xs : List X) → (p ≡ true → q ≡ true → ⊥)
     → cond q (y ∷ cond p (x ∷ xs) xs) (cond p (x ∷ xs) xs) ≡ cond p (x ∷ cond q (y ∷ xs) xs) (cond q (y ∷ xs) xs)
 swapped true true x y xs apart = absurd (apart refl refl)
@@ -38,7 +38,7 @@ swapped false true x y xs apart = refl
 swapped false false x y xs apart = refl
 
 module _ {X : Type 0} (lt : X → X → Bool) (o : IsStrictWeakOrder lt) where
-  -- no element comes before one that stands in front of it
+  -- no element comes, by the order, before one that is before it in the list
   abbrev pub Ascends : List X → Type 0
   Ascends = Pairs (InOrder lt)
 
@@ -88,7 +88,7 @@ module _ {X : Type 0} (lt : X → X → Bool) (o : IsStrictWeakOrder lt) where
     at true is later = let same : x ≡ y = cc in subst P same each.0
     at false is later = later is
 
-  -- the first of a list that ascends is not after what stands first in a list with the same elements that tie
+  -- the first of a list that ascends is not after the first of a list with the same elements that tie with that one
   not_after : (x : X) (xs : List X) (y : X) (ys : List X) → Ascends (x ∷ xs)
       → filter (ties lt y) (x ∷ xs) ≡ filter (ties lt y) (y ∷ ys) → lt y x ≡ false
   not_after x xs y ys up same =
@@ -144,7 +144,7 @@ module _ {X : Type 0} (lt : X → X → Bool) (o : IsStrictWeakOrder lt) where
       one_ascending ys (ascending lt xs) (ascends_sorted ys (sorted_far lt o ys sorted)) (ascends_ascending xs)
       (λ z. stable z ∙ sym (filter_ascending z xs))
 
--- tests that answer alike insert alike
+-- tests that agree insert alike
 inserted_alike : {X : Type 0} (lt other : X → X → Bool) → ((x y : X) → lt x y ≡ other x y) → (x : X) (ys : List X)
     → inserted lt x ys ≡ inserted other x ys
 inserted_alike lt other same x [] = refl

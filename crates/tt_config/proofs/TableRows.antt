@@ -64,7 +64,7 @@ less_by true same = refl
 less_by false true = refl
 less_by false false = refl
 
--- one number is less
+-- the first number is less
 pub is_lt-nat_cmp : (a b : ℕ) → is_lt (nat_cmp a b) ≡ nat_lt a b
 is_lt-nat_cmp a b = less_by (nat_lt a b) (a == b)
 
@@ -74,7 +74,7 @@ less_then true same later = refl
 less_then false true later = refl
 less_then false false later = refl
 
--- one number is less, or they are the same and another is
+-- the first number is less, or they are the same and the next one is less
 pub is_lt-ordering_then : (a b c d : ℕ)
     → is_lt (ordering_then (nat_cmp a b) (nat_cmp c d)) ≡ nat_lt a b || ((a == b) && nat_lt c d)
 is_lt-ordering_then a b c d = less_then (nat_lt a b) (a == b) (nat_cmp c d)

@@ -1,4 +1,4 @@
--- The rules that speak of bodies, and what they say of a configuration.
+-- The rules about bodies, and what they say of a configuration.
 use Rattle.std.specs.Prelude.{◌≡◌, ◌^◌, ◌<◌, List, [], All, length}
 use Rattle.task_lang.specs.declared.allowed.OwnerKind.TheVariants as kind
 use Rattle.tt_world.specs.declared.config.ConfigParts.{ConfigParts}
@@ -12,7 +12,7 @@ use Rattle.tt_rules.specs.StructureRules.{lines_2, lines_3}
 use Rattle.tt_config.specs.Document.{elaborated_of}
 use Rattle.tt_config.specs.Parts.{config_of}
 
--- sound rows, fewer than there are numbers of lines, of which no line breaks a rule on bodies
+-- sound rows, fewer than there are line numbers, where no line breaks a rule on bodies
 pub record KeepBodyRules (rows : List NumberedRow) : Type 0 where
   pub sound : AreSound rows
   pub short : length rows < 2 ^ 32

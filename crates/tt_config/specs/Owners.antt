@@ -75,7 +75,7 @@ owners_of demands bodies = record {
 abbrev pub no_owners : Owners
 no_owners = record { tasks = []; isrs = []; oseks = []; oisrs = []; error_hooks = []; shutdown_hooks = [] }
 
--- one owner more
+-- one more owner
 abbrev pub with_owner : List Demand → BodyPart → Owners → Owners
 with_owner demands b owners = record {
   tasks = owners.tasks ++ task_in demands b;
@@ -86,12 +86,12 @@ with_owner demands b owners = record {
   shutdown_hooks = owners.shutdown_hooks ++ shutdown_hook_in b;
 }
 
--- the first of some bodies, the empty one where there is none
+-- the first of some bodies; the empty body where there is none
 abbrev pub first_body : List (List Stmt) → List Stmt
 first_body [] = []
 first_body (body ∷ others) = body
 
--- the numbers of an owner have the widths of those of a configuration
+-- the numbers of an owner fit the widths of those of a configuration
 abbrev pub FitsOwner : List Demand → List Stmt → Owner → Type 0
 FitsOwner demands body (owner.Task stack) = (stack ≤ 65535) × (worst_in demands body ≤ 10 ^ 12)
 FitsOwner demands body (owner.Isr level stack distance) =
@@ -101,7 +101,7 @@ FitsOwner demands body (owner.Oisr priority) = (priority ≤ 255) × (worst_in d
 FitsOwner demands body owner.ErrorHook = Unit {0}
 FitsOwner demands body owner.ShutdownHook = Unit {0}
 
--- a body whose worst case can be told, and an owner whose numbers fit
+-- a body whose worst case can be computed, and an owner whose numbers fit
 pub record IsFit (demands : List Demand) (b : BodyPart) : Type 0 where
   pub tellable : IsTellable demands b.body
   pub owner : FitsOwner demands b.body b.owner

@@ -63,7 +63,7 @@ abbrev pub arrival_by : NameKind → Option Declared → ℕ → Option (ℕ × 
 arrival_by kind None tick = None
 arrival_by kind (Some source) tick = if is_same_kind kind (kind_of source) then Some (number_of source, tick) else None
 
--- the source of an arrival, where it is of a kind, and the tick
+-- the source of an arrival, if it is of this kind, and the tick
 abbrev pub arrival_place : NameKind → Arrival → Option (ℕ × ℕ)
 arrival_place kind arrival = arrival_by kind arrival.source arrival.tick
 

@@ -21,7 +21,7 @@ abbrev pub enable_of : Entry → List Enable
 enable_of (entry.Activates mode a) = []
 enable_of (entry.Enables mode e) = e ∷ []
 
--- the table of a mode that has these entries and no others
+-- the table of a mode that has exactly these entries
 abbrev pub mode_of_entries : List Entry → ModeDef
 mode_of_entries entries = record {
   activations = ascending is_earlier (flat_map activation_of entries);

@@ -23,7 +23,7 @@ use tt_world::{Config, Script};
 /// Why rows were not accepted.
 #[derive(Clone, Copy, Debug, PartialEq, Eq, Error)]
 pub enum AcceptFault {
-    /// Want of memory.
+    /// Out of memory.
     #[error("out of memory")]
     Memory,
     /// The least rule that is broken, and the least line that breaks it.
@@ -68,7 +68,7 @@ fn build_accepted(
     Ok(Accepted { config, script })
 }
 
-/// Accepts rows that are lent.
+/// Accepts borrowed rows.
 fn accept_rows(alloc: Global, rows: &[NumberedRow]) -> Result<Accepted, AcceptFault>
     requires { AreSound rows.now }
     ensures kept { OnOk result (broken_rule rows.now ≡ None) }
@@ -89,9 +89,9 @@ fn accept_rows(alloc: Global, rows: &[NumberedRow]) -> Result<Accepted, AcceptFa
     Ok(build_accepted(alloc, rows, document)?)
 }
 
-/// Accepts the rows of a document: the configuration of the node and the script of the run, where
-/// the rows break none of the 28 rules. Else the fault names the least rule that is broken and the
-/// least of its lines. A refusal gives up the rows. The rules are the bench's own.
+/// Accepts the rows of a document: gives the configuration of the node and the script of the run,
+/// where the rows break none of the 28 rules. Otherwise the fault names the least rule that is
+/// broken, and the least of its lines. A refusal gives up the rows. The rules are the bench's own.
 pub fn accept(alloc: Global, rows: Rows) -> Result<Accepted, AcceptFault>
     requires { AreSound rows }
     ensures kept { OnOk result (broken_rule rows ≡ None) }

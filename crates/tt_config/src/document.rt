@@ -50,7 +50,7 @@ pub(crate) fn first_broken(
     Ok(broken)
 }
 
-/// What rows say, of which no kind has more than 1,024 names.
+/// What rows say. No kind has more than 1,024 names.
 pub(crate) fn elaborate(
     alloc: Global,
     rows: &[NumberedRow],
@@ -73,8 +73,8 @@ pub(crate) fn elaborate(
     })
 }
 
-/// The first of rules 9 to 28 that is broken, of rows whose blocks are well formed and nested at
-/// most 4 deep.
+/// The first of rules 9 to 28 that is broken. The rows have blocks that are well formed and nested
+/// at most 4 deep.
 pub(crate) fn later_broken(
     alloc: Global,
     rows: &[NumberedRow],

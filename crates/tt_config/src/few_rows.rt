@@ -1,12 +1,12 @@
-//! Rows are fewer than the numbers that a line can have.
+//! There are fewer rows than numbers that a line can have.
 
 ghost use Rattle.std.specs.Prelude.{◌<◌, ◌^◌, length};
 ghost use Rattle.tt_rows.specs.Sound.{AreSound};
 
 use tt_rows::NumberedRow;
 
-/// Lines ascend and have numbers of 32 bits, so there are fewer than 2^32 of them. It looks at the
-/// last row alone.
+/// Lines ascend and have numbers of 32 bits, so there are fewer than 2^32 rows. It looks only at
+/// the last row.
 pub(crate) fn rows_are_few(rows: &[NumberedRow])
     requires { AreSound rows.now }
     ensures { length rows.now < 2 ^ 32 }

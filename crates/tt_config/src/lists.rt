@@ -1,4 +1,4 @@
-//! Parts without their lines, and lists by the number of what they belong to.
+//! Parts without their lines, and lists by the number that they belong to.
 
 ghost use Rattle.std.specs.Prelude.{◌≡◌, ℕ, [], ◌∷◌, IfOk, OnOk, Option, map, replicate};
 ghost use Rattle.tt_base.specs.declared.names.NameKind.{NameKind};
@@ -36,7 +36,7 @@ pub(crate) fn count_of(names: &[At<NameEntry>], kind: NameKind) -> usize
     count
 }
 
-/// Lists, each by a number from 0 on.
+/// Lists, numbered from 0.
 #[derive(Debug, Drop)]
 pub(crate) struct Lists<T> {
     lists: Vec<Series<T>>,
@@ -54,7 +54,7 @@ impl<T> Model for Lists<T> {
 }
 
 impl<T: Drop> Lists<T> {
-    /// So many empty lists.
+    /// This many empty lists.
     fn new(alloc: Global, count: usize) -> Result<Lists<T>, Memory>
         ensures { IfOk result (λ lists. lists ≡ replicate count []) }
     {
@@ -67,7 +67,7 @@ impl<T: Drop> Lists<T> {
         Ok(Lists { lists })
     }
 
-    /// Appends an item to the list of a number, where there is one.
+    /// Appends an item to the list of a number, if there is such a list.
     fn push(&mut self, number: u16, item: T) -> Result<(), Memory>
         ensures { OnOk result (self.new ≡ appended number item self.old) }
     {
@@ -77,7 +77,7 @@ impl<T: Drop> Lists<T> {
         }
     }
 
-    /// Appends an item to the list of its number, where there is an item.
+    /// Appends an item to the list of its number, if there is an item.
     fn put(&mut self, place: Option<(u16, T)>) -> Result<(), Memory>
         ensures { OnOk result (self.new ≡ put_at place self.old) }
     {
@@ -95,8 +95,8 @@ impl<T: Drop> Lists<T> {
     }
 }
 
-/// For each number below one, what parts give it, in order. Each part gives one number an item, or
-/// none.
+/// For each number below `count`, what parts give it, in order. Each part gives an item to one
+/// number, or to none.
 pub(crate) fn by_number<T, U: Drop, F: Fn(&T) -> Option<(u16, U)>>(
     alloc: Global,
     count: usize,

@@ -57,7 +57,7 @@ pub(crate) fn owners_of(
     Ok(owners)
 }
 
-/// Puts an owner with its body after those above.
+/// Appends an owner with its body to those above.
 fn put_owner(part: BodyPart, demands: &Demands, owners: &mut Owners) -> Result<(), Memory>
     requires { IsFit demands.now part }
     ensures { OnOk result (owners.new ≡ with_owner demands.now part owners.old) }
@@ -101,7 +101,7 @@ fn budget_of(body: &Body, demands: &Demands) -> u64
     worst(body, demands) as u64
 }
 
-/// The first of some bodies, the empty one where there is none.
+/// The first of some bodies; the empty body where there is none.
 pub(crate) fn first_body(alloc: Global, bodies: Series<Body>) -> Body
     ensures { result ≡ first_body bodies }
 {

@@ -31,7 +31,7 @@ fn value_place(value: &Value) -> Option<(u16, u64)>
     Some((value.demand.0, value.ticks))
 }
 
-/// The source of an arrival, where it is of a kind, and the tick.
+/// The source of an arrival, if it is of this kind, and the tick.
 fn arrival_place(kind: NameKind, arrival: &Arrival) -> Option<(u16, Tick)>
     ensures { result ≡ arrival_place kind arrival.now }
 {

@@ -22,7 +22,7 @@ plain_is_no_lf b plain =
     let low = leb-true 32 b (and_parts (nat_le 32 b) (nat_le b 126) plain).0 in
     ne_eqb b 10 (λ e. omega (arith, low))
 
--- a byte that is no LF stands in front of the first line
+-- a byte that is no LF is the first byte of the first line
 lines_of-other : (b : ℕ) (bytes : List ℕ) → (b == 10) ≡ false → lines_of (b ∷ bytes) ≡ in_front b (lines_of bytes)
 lines_of-other b bytes other =
     cond-false (b == 10) (line_with [] true ∷ lines_of bytes) (in_front b (lines_of bytes)) other
@@ -84,7 +84,7 @@ unplain_line (first ∷ text) b rest plain unplain other =
       unplain = ap (λ t. t && list_all is_plain_byte later.line.text) parts.0 ∙ later.unplain;
     }
 
--- the bytes in front are plain
+-- the leading plain bytes are plain
 front_is_plain : (text : List ℕ) → list_all is_plain_byte (take (plain_len_of text) text) ≡ true
 front_is_plain [] = refl
 front_is_plain (b ∷ bytes) =
@@ -97,7 +97,7 @@ front_is_plain (b ∷ bytes) =
     (not-false (is_plain_byte b) (not-true (not (is_plain_byte b)) plain)) (front_is_plain bytes))
     (λ unplain. refl)
 
--- where plain bytes go on for n bytes, they go on after these
+-- where the first n bytes are plain, the search goes on after them
 pub plain_len_more : (n : ℕ) (text : List ℕ) → n ≤ length text → list_all is_plain_byte (take n text) ≡ true
     → plain_len_of text ≡ n + plain_len_of (drop n text)
 plain_len_more zero text inside plain = omega arith
@@ -107,7 +107,7 @@ plain_len_more (suc n) (b ∷ bytes) inside plain =
     cond-true (not (not (is_plain_byte b))) (1 + plain_len_of bytes) 0 (ap (λ t. not (not t)) parts.0)
     ∙ omega (arith, plain_len_more n bytes (omega arith) parts.1)
 
--- a search that passed n bytes passes a plain chunk more
+-- a search that passed `at` bytes also passes a plain chunk of n bytes
 pub plain_len_further : (text : List ℕ) (at n : ℕ) → at + n ≤ length text
     → list_all is_plain_byte (take (at + n - at) (drop at text)) ≡ true
     → plain_len_of text ≡ at + plain_len_of (drop at text)
@@ -122,7 +122,7 @@ plain_len_further text at n inside plain passed =
     ∙ ap (λ k. at + k) (more ∙ ap (λ rest. n + plain_len_of rest) (drop-drop n at text))
     ∙ sum
 
--- plain bytes in front of a text, and how long they are
+-- the leading plain bytes of a text, and how many they are
 record PlainFront (text : List ℕ) (n : ℕ) : Type 0 where
   plain : list_all is_plain_byte (take n text) ≡ true
   len : length (take n text) ≡ n
@@ -178,7 +178,7 @@ begins_with_long text n ended rest is long first =
           ∙ cond-true (nat_lt 200 (length (take n text))) (Some Long) _ (lt-ltb 200 (length (take n text)) over);
     }
 
--- the fault of a line that ends at a LF, at another byte, and with the document
+-- the fault of a line that ends at a LF, at another byte, or with the document
 pub begins_with_long_line : (text : List ℕ) (n : ℕ) → n ≡ plain_len_of text → (n ≡ length text → ⊥)
     → get_or text n 0 ≡ 10
     → 200 < n → BeginsWithFault (lines_of text) Long

@@ -1,4 +1,4 @@
--- The words of a text, cut at its front.
+-- The words of a text, cut off from its front.
 use Rattle.std.proofs.Common.{◌≡◌, ℕ, ◌+◌, ◌*◌, ◌≤◌, ◌<◌, suc, Bool, true, false, not, ◌==◌, cond, List, [], ◌∷◌, length, take, drop, refl, sym, ap, ◌∙◌, arith, inl, inr}
 use Rattle.std.specs.Prelude.{filter, count_by}
 use Rattle.std.specs.List.{list_all, prefix_len, sum_by}
@@ -11,14 +11,14 @@ use Rattle.tt_doc.proofs.WordLaws.{words_of_are_words, length-joined, length-joi
 abbrev spaces_of : List ℕ → ℕ
 spaces_of text = prefix_len (λ b. b == 32) text
 
--- how many bytes stand before its first space
+-- how many bytes come before its first space
 abbrev word_len_of : List ℕ → ℕ
 word_len_of text = prefix_len (λ b. not (b == 32)) text
 
 one_more : (n : ℕ) → 1 + n ≡ suc n
 one_more n = omega arith
 
--- a space in front is no part of a word
+-- a leading space is no part of a word
 words_of-space : (b : ℕ) (bytes : List ℕ) → (b == 32) ≡ true → words_of (b ∷ bytes) ≡ words_of bytes
 words_of-space b bytes space =
     ap (filter is_some_text) (cond-true (b == 32) ([] ∷ pieces_of bytes) (in_first b (pieces_of bytes)) space)
@@ -43,7 +43,7 @@ abbrev pieces_after : List ℕ → List (List ℕ)
 pieces_after [] = []
 pieces_after (space ∷ bytes) = pieces_of bytes
 
--- nothing, or a space in front
+-- nothing, or a leading space
 abbrev is_cut : List ℕ → Bool
 is_cut [] = true
 is_cut (b ∷ bytes) = b == 32
@@ -71,7 +71,7 @@ words_after : (rest : List ℕ) → is_cut rest ≡ true → filter is_some_text
 words_after [] cut = refl
 words_after (b ∷ bytes) cut = sym (words_of-space b bytes cut)
 
--- where a text begins with a word, its words are that one and those of the rest
+-- where a text begins with a word, its words are that word and those of the rest
 pub words_of-cut : (text : List ℕ) → (length text == 0) ≡ false → begins_with_space text ≡ false
     → words_of text ≡ take (word_len_of text) text ∷ words_of (drop (word_len_of text) text)
 words_of-cut [] some next = absurd (false≢true (sym some))
@@ -85,7 +85,7 @@ words_of-cut (b ∷ bytes) some next =
     (words_after (drop (word_len_of bytes) bytes) (cuts bytes).cut)
     ∙ sym (ap (λ k. take k text ∷ words_of (drop k text)) n)
 
--- each word has a byte, and a space stands between two
+-- each word has a byte
 lengths_of_words : (words : List (List ℕ)) → list_all is_word words ≡ true
     → length words ≤ sum_by (length {A = ℕ}) words
 lengths_of_words [] good = omega arith
@@ -135,7 +135,7 @@ length-pieces_of (b ∷ bytes) =
           )
     ]
 
--- so it has at most one word more
+-- so it has at most that many words
 pub words_by_spaces : (text : List ℕ) → length (words_of text) ≤ count_by (λ b. b == 32) text + 1
 words_by_spaces text =
     omega (

@@ -1,4 +1,4 @@
--- Laws of words: what a text is read as, and what is read of words that were joined.
+-- Laws of words: the words of a text, and the words of joined words.
 use Rattle.std.proofs.Common.{◌≡◌, ℕ, ◌<◌, ◌≤◌, suc, ◌+◌, ◌-◌, Bool, true, false, ◌&&◌, ◌==◌, cond, List, [], ◌∷◌, ◌++◌, length, refl, ap, ◌∙◌, arith}
 use Rattle.std.specs.List.{list_all, sum_by, filter}
 use Rattle.std.proofs.lemmas.Bool.{cond_both, cond-false, and_parts, and_from, false≢true}
@@ -69,7 +69,7 @@ words_of-joined ((b ∷ bytes) ∷ (next ∷ rest)) good =
     ap (filter is_some_text) (pieces_of-piece (b ∷ bytes) (joined (next ∷ rest)) parts.0)
     ∙ ap (λ words. (b ∷ bytes) ∷ words) (words_of-joined (next ∷ rest) parts.1)
 
--- the bytes of the words, and a space between each two of them
+-- joined words have the bytes of the words, and one space between each two of them
 pub length-joined : (words : List (List ℕ)) → length (joined words) ≡ sum_by (length {A = ℕ}) words + (length words - 1)
 length-joined [] = refl
 length-joined (word ∷ []) = omega (arith, sum_by-cons (length {A = ℕ}) word [])

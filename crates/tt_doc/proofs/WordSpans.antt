@@ -17,7 +17,7 @@ use Rattle.tt_doc.proofs.WordLaws.{pieces_of-piece, pieces_of-last, parts_of_no_
 abbrev pub with_word : List Span → ℕ → ℕ → List Span
 with_word words start end = cond (nat_lt start end) (words ++ record { start = start; end = end } ∷ []) words
 
--- `words` are the words before `start`, where a word may begin, and no space stands from there to `at`
+-- `words` are the words before `start`, where a word may begin, and no space is between `start` and `at`
 pub record Passed (bytes : List ℕ) (span : Span) (words : List Span) (start at : ℕ) : Type 0 where
   pub read : map (text_of bytes) words ++ words_of (slice_range bytes start span.end) ≡ words_of (text_of bytes span)
   pub clean : has_no_space (slice_range bytes start at) ≡ true
@@ -78,7 +78,7 @@ read_if f words word rest true =
     sym (ap (λ texts. texts ++ rest) (map-append f words (word ∷ [])) ∙ append_assoc (map f words) (f word ∷ []) rest)
 read_if f words word rest false = refl
 
--- the texts of the words, where a piece that no space is in stands from `start` to `at`
+-- the texts of the words with the piece from `start` to `at`, unless it is empty
 read_piece : (bytes : List ℕ) (words : List Span) (start at : ℕ) (rest : List (List ℕ)) → at ≤ length bytes
     → map (text_of bytes) words ++ filter is_some_text (slice_range bytes start at ∷ rest)
     ≡ map (text_of bytes) (with_word words start at) ++ filter is_some_text rest
@@ -165,7 +165,7 @@ all_passed {bytes} {span} {words} {start} passed inside =
       ascend = ascend_with_word words start span.end passed.ascend (λ k d below. (passed.within k d below).1);
     }
 
--- the same of equal words and an equal place
+-- the same for equal words and an equal place
 pub passed_same : {bytes : List ℕ} {span : Span} {words : List Span} {start at : ℕ} → Passed bytes span words start at
     → (now : List Span) (place : ℕ) → now ≡ words → place ≡ start → Passed bytes span now place at
 passed_same {bytes} {span} {words} {start} {at} passed now place same_words same_start =

@@ -4,17 +4,17 @@ use Rattle.std.specs.List.{list_all}
 use Rattle.tt_doc.specs.declared.lines.LineKind.{LineKind}
 use Rattle.tt_doc.specs.declared.lines.LineKind.TheVariants.{Byte, Long, Cut}
 
--- a line: its bytes, and whether a LF ends it, which is not one of them
+-- a line: its bytes without the LF, and whether a LF ends it
 pub record Line : Type 0 where
   pub text : List ℕ
   pub ended : Bool
 
--- one byte more in front of some lines
+-- one more byte, at the front of the first of some lines
 abbrev pub in_front : ℕ → List Line → List Line
 in_front b [] = record { text = b ∷ []; ended = false } ∷ []
 in_front b (line ∷ lines) = record { text = b ∷ line.text; ended = line.ended } ∷ lines
 
--- the lines of a text: a LF ends one, and bytes after the last LF are a last line that no LF ends
+-- the lines of a text: a LF ends a line, and bytes after the last LF are a last line that no LF ends
 abbrev pub lines_of : List ℕ → List Line
 lines_of [] = []
 lines_of (b ∷ bytes) = if b == 10 then record { text = []; ended = true } ∷ lines_of bytes

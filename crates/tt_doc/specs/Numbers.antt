@@ -3,7 +3,7 @@ use Rattle.std.specs.Prelude.{ℕ, zero, suc, ◌+◌, ◌-◌, ◌*◌, ◌^◌
 use Rattle.std.specs.List.{list_all}
 use Rattle.std.specs.Char.{is_ascii_digit}
 
--- no needless zero in front
+-- no needless leading zero
 abbrev pub has_no_leading_zero : List ℕ → Bool
 has_no_leading_zero [] = false
 has_no_leading_zero (first ∷ []) = true
@@ -17,22 +17,22 @@ is_number text = (list_all is_ascii_digit text && nat_le (length text) 12) && ha
 abbrev pub value_of : List ℕ → ℕ
 value_of digits = fold (λ n d. n * 10 + (d - 48)) 0 digits
 
--- the number that a text is
+-- a text as a number
 abbrev pub number_of : List ℕ → Option ℕ
 number_of text = if is_number text then Some (value_of text) else None
 
--- the integer that a number is, from 0 to 2147483647
+-- the integer of a number, from 0 to 2147483647
 abbrev pub positive_of : Option ℕ → Option ℤ
 positive_of None = None
 positive_of (Some n) = if nat_lt n (2 ^ 31) then Some (pos n) else None
 
--- the integer that a number after a `-` is, from -1 to -2147483648
+-- the integer of a number after a `-`, from -1 to -2147483648
 abbrev pub negative_of : Option ℕ → Option ℤ
 negative_of None = None
 negative_of (Some zero) = None
 negative_of (Some (suc n)) = if nat_lt n (2 ^ 31) then Some (negsuc n) else None
 
--- the integer that a text is: a number, or `-` and a number other than `0`, in the range of 32 signed bits
+-- a text as an integer: a number, or `-` and a number other than `0`, in the range of 32 signed bits
 abbrev pub integer_of : List ℕ → Option ℤ
 integer_of [] = None
 integer_of (first ∷ rest) = if first == 45 then negative_of (number_of rest) else positive_of (number_of (first ∷ rest))

@@ -1,7 +1,7 @@
 -- The words of a line: the longest runs of bytes other than the space.
 use Rattle.std.specs.Prelude.{ℕ, ◌==◌, ◌&&◌, Bool, true, false, List, [], ◌∷◌, ◌++◌, filter, if◌then◌else◌}
 
--- one byte more in front of the first piece
+-- one more byte, at the front of the first piece
 abbrev pub in_first : ℕ → List (List ℕ) → List (List ℕ)
 in_first b [] = (b ∷ []) ∷ []
 in_first b (piece ∷ pieces) = (b ∷ piece) ∷ pieces
@@ -39,7 +39,7 @@ abbrev pub begins_with_space : List ℕ → Bool
 begins_with_space [] = false
 begins_with_space (b ∷ bytes) = b == 32
 
--- the words of a line that is no row: there is none, or the first begins with `#`
+-- the words of a line that is no row: there are none, or the first begins with `#`
 abbrev pub is_comment : List (List ℕ) → Bool
 is_comment [] = true
 is_comment ([] ∷ words) = false

@@ -12,7 +12,7 @@ pub struct Span {
     pub end: usize,
 }
 
-/// What a line has wrong by itself. Where it has several faults, the first of this order counts.
+/// What can be wrong with a line by itself. Of several faults, the first in this order counts.
 #[derive(Clone, Copy, Debug, PartialEq, Eq)]
 pub enum LineKind {
     /// A byte outside 0x20 to 0x7E.
@@ -37,10 +37,10 @@ pub enum LineStep {
 /// The most bytes that a line has, without its LF.
 const MOST_BYTES: usize = 200;
 
-/// How many bytes are looked at together.
+/// How many bytes are tested together.
 const CHUNK: usize = 16;
 
-/// Whether these bytes are plain. It looks at all of them, so that they are looked at together.
+/// Whether these bytes are plain. It tests all of them, so that they are tested together.
 #[inline(always)]
 fn is_plain_chunk(chunk: &[u8]) -> bool
     ensures { result ≡ list_all is_plain_byte chunk.now }
@@ -52,7 +52,7 @@ fn is_plain_chunk(chunk: &[u8]) -> bool
     is_plain
 }
 
-/// How many plain bytes a text begins with, one after another.
+/// How many plain bytes a text begins with, tested one after another.
 #[inline(always)]
 fn short_plain_len(text: &[u8]) -> usize
     ensures value { result ≡ position_or_len (λ b. not (is_plain_byte b)) text.now }
@@ -79,7 +79,7 @@ fn plain_len(text: &[u8]) -> usize
     n + short_plain_len(&text[n..])
 }
 
-/// The line of a document that begins at the place `at`, and what it has wrong by itself.
+/// The line of a document that begins at the place `at`, and what is wrong with it by itself.
 ///
 /// The document ends at its length: `End` is answered exactly there. A line ends with a LF, which
 /// is not among its bytes, and has at most 200 bytes. The bytes after the last LF are a line

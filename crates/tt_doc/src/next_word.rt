@@ -1,4 +1,4 @@
-//! The words of a line, cut one after another where they stand.
+//! The words of a line, cut off one after another in place.
 ghost use Rattle.std.specs.Prelude.{◌≡◌, ◌↔◌, ◌+◌, ◌*◌, ◌≤◌, ◌==◌, [], ◌∷◌, false, not, length, count_by, IsTrue, MatchOption};
 ghost use Rattle.std.specs.List.{prefix_len};
 ghost use Rattle.tt_doc.specs.Words.{begins_with_space, is_comment, words_of};
@@ -19,7 +19,7 @@ fn spaces(text: &[u8]) -> usize
     text.len()
 }
 
-/// How many bytes stand before the first space.
+/// How many bytes come before the first space.
 #[inline(always)]
 fn word_len(text: &[u8]) -> usize
     ensures value { result ≡ prefix_len (λ b. not (b == 32)) text.now }
@@ -40,7 +40,7 @@ fn count_spaces(text: &[u8]) -> usize
     text.iter().filter(|b| **b == b' ').count()
 }
 
-/// What stands after the spaces in front.
+/// What follows the leading spaces.
 #[inline(always)]
 fn after_spaces(text: &[u8]) -> &[u8]
     ensures words { words_of result.now ≡ words_of text.now }
@@ -68,7 +68,7 @@ impl<'a> Model for LineWords<'a> {
 }
 
 impl<'a> LineWords<'a> {
-    /// The words of a line: at most one for two bytes.
+    /// The words of a line: at most one word for two bytes.
     pub fn new(line: &'a [u8]) -> LineWords<'a>
         ensures words { result ≡ words_of line.now }
         ensures few { 2 * length result ≤ length line.now + 1 }
@@ -85,7 +85,7 @@ impl<'a> LineWords<'a> {
         self.rest.is_empty()
     }
 
-    /// How many words are left at most: one more than spaces.
+    /// How many words are left at most: one more than there are spaces.
     #[inline(always)]
     pub fn most(&self) -> usize
         ensures { length self.now ≤ result }

@@ -43,8 +43,8 @@ fn short_number(text: &[u8]) -> Option<u64>
     value(text)
 }
 
-/// The number that a text is: 1 to 12 decimal digits, without a leading zero unless it is `0`.
-/// `None` where it is none.
+/// A text as a number: 1 to 12 decimal digits, without a leading zero unless it is `0`. `None`
+/// where it is no number.
 pub fn number(text: &[u8]) -> Option<u64>
     ensures exact { result ≡ number_of text.now }
     ensures spelled { IfSome result (λ n. text.now ≡ decimal n) }
@@ -69,8 +69,8 @@ fn negative(number: u64) -> Option<i32>
     i32::try_from(-(number as i64)).ok()
 }
 
-/// The integer that a text is: a number, or `-` and a number other than `0`, with a value from
-/// -2147483648 to 2147483647. `None` where it is none.
+/// A text as an integer: a number, or `-` and a number other than `0`, with a value from
+/// -2147483648 to 2147483647. `None` where it is no integer.
 pub fn integer(text: &[u8]) -> Option<i32>
     ensures exact { result ≡ integer_of text.now }
     ensures spelled { IfSome result (λ z. text.now ≡ signed_decimal z) }

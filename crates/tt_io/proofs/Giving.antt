@@ -25,7 +25,7 @@ bytes_of : (piece : List ℕ) → bytes_in (map Some piece) ≡ piece
 bytes_of [] = refl
 bytes_of (b ∷ piece) = ap (λ l. b ∷ l) (bytes_of piece)
 
--- a piece comes to the bytes in a history
+-- a piece is added to the bytes in a history
 pub bytes_after : (before after : List (Option ℕ)) (piece : List ℕ) → Gives before after piece
     → bytes_in after ≡ bytes_in before ++ piece
 bytes_after before after piece given =

@@ -7,7 +7,7 @@ use Rattle.std.proofs.KnownBytes.{Appends-trans}
 use Rattle.tt_io.specs.Known.{AppendsPart}
 use Rattle.tt_io.specs.Passes.{Passes}
 
--- a part of what comes after a front that is done is a part of the whole
+-- once a prefix was appended, a proper prefix of the rest makes a proper prefix of the whole
 pub part_after : (a b c : Option (List ℕ)) (done rest all : List ℕ) → all ≡ done ++ rest → Appends a b done
     → AppendsPart b c rest → AppendsPart a c all
 part_after a b c done rest all split front (n, short, part) =
@@ -18,7 +18,7 @@ part_after a b c done rest all split front (n, short, part) =
       subst (Appends a c) (sym taken) (Appends-trans a b c _ _ front part),
     )
 
--- a part of a front is a part of the whole
+-- a proper prefix of a prefix is one of the whole
 pub part_of_front : (a b : Option (List ℕ)) (front rest all : List ℕ) → all ≡ front ++ rest → AppendsPart a b front
     → AppendsPart a b all
 part_of_front a b front rest all split (n, short, part) =
@@ -34,7 +34,7 @@ passes_all a b c first second all waiting split none p q = record {
   appended = Appends-trans a b c first second p q;
 }
 
--- a piece came to what waited, and was put
+-- a piece was added to what waited, and both went through the buffer
 pub passes_more : {a b : Option (List ℕ)} {so_far waiting : List ℕ} {c : Option (List ℕ)} {now : List ℕ}
     (all piece : List ℕ) → all ≡ so_far ++ piece
     → Passes a b so_far waiting → Passes b c (waiting ++ piece) now → Passes a c all now
@@ -45,7 +45,7 @@ passes_more {a} {b} {so_far} {waiting} {c} {now} all piece split p q = record {
   appended = Appends-trans a b c p.sent q.sent p.appended q.appended;
 }
 
--- a piece came to what waited, and a part of both was appended
+-- a piece was added to what waited, and a proper prefix of both was appended
 pub passes_part : {a b : Option (List ℕ)} {so_far waiting : List ℕ} (c : Option (List ℕ)) (all piece : List ℕ)
     → all ≡ so_far ++ piece
     → Passes a b so_far waiting → AppendsPart b c (waiting ++ piece) → AppendsPart a c all
@@ -53,7 +53,7 @@ passes_part {a} {b} {so_far} {waiting} c all piece split p part =
     part_after a b c p.sent (waiting ++ piece) all
     (split ∙ ap (λ l. l ++ piece) p.split ∙ append_assoc p.sent waiting piece) p.appended part
 
--- a part of what waited was sent, and with it a part of all
+-- a proper prefix of what waited was sent, and with it one of all
 pub passes_end_part : {a b : Option (List ℕ)} {so_far waiting : List ℕ} (c : Option (List ℕ)) (all : List ℕ)
     → all ≡ so_far
     → Passes a b so_far waiting → AppendsPart b c waiting → AppendsPart a c all

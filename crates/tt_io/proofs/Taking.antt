@@ -7,11 +7,11 @@ use Rattle.std.specs.Io.KnownBytes.{Consumes}
 use Rattle.std.proofs.KnownBytes.{Consumes-trans}
 use Rattle.tt_io.specs.Count.{counted}
 
--- a count goes on from where it stands
+-- a count goes on from its value
 pub counted_more : (before n more : ℕ) → counted (counted before n) more ≡ counted before (n + more)
 counted_more before n more = omega arith
 
--- the front of a buffer was filled, and then a part after it
+-- the first part of a buffer was filled, and then a part after it
 pub filled_more : (buf part : List ℕ) (at n : ℕ) → at ≤ length buf → n ≤ length part
     → take (at + n) (put_mid at (length buf - at) buf part) ≡ take at buf ++ take n part
 filled_more buf part at n within fits =
@@ -27,7 +27,7 @@ pub taken_more : (a b c : Option (List ℕ)) (buf part : List ℕ) (at n : ℕ) 
 taken_more a b c buf part at n within fits before next =
     subst (Consumes a c) (sym (filled_more buf part at n within fits)) (Consumes-trans a b c _ _ before next)
 
--- what was copied to the front of a buffer stands before what is left
+-- what was copied to the front of a buffer comes before what is left
 pub given_front : (items seen copied buf : List ℕ) (at n : ℕ) → seen ≡ items → length copied ≡ n
     → copied ≡ take n (take (length seen - at) (drop at seen))
     → drop at items ≡ take n (copied ++ drop n buf) ++ drop (at + n) items

@@ -1,8 +1,8 @@
--- What a source has given: each byte as `Some` of it, and each end that a read answered as `None`. Of a sink it has no
+-- What a source has given: each byte as `Some` of it, and each end that a read answered as `None`. For a sink it has no
 -- ends.
 use Rattle.std.specs.Prelude.{◌≡◌, ℕ, Option, Some, None, List, [], ◌∷◌, ◌++◌, map, length, filter_map}
 
--- the bytes that stand in it
+-- the bytes in it
 abbrev pub bytes_in : List (Option ℕ) → List ℕ
 bytes_in items = filter_map (λ item. item) items
 

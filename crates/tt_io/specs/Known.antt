@@ -1,4 +1,4 @@
--- What became of the bytes of a source or a sink, where it tells them. Where it does not, each says nothing.
+-- What became of the bytes of a source or a sink, where they are known. Where they are not, each of these says nothing.
 use Rattle.std.specs.Prelude.{◌≡◌, ℕ, ◌<◌, Option, Some, List, [], take, length, IfSome}
 use Rattle.std.specs.Io.KnownBytes.{Appends, Consumes}
 

@@ -1,4 +1,4 @@
--- What is seen of bytes that are given from the front on.
+-- What is seen of bytes that are given in their order.
 use Rattle.std.specs.Prelude.{ℕ, List, Option, drop}
 use Rattle.tt_io.specs.declared.mem.Supply.{Supply}
 

@@ -1,4 +1,4 @@
-//! A buffer before a sink.
+//! A buffer in front of a sink.
 
 ghost use Rattle.std.specs.Io.KnownBytes.{Appends};
 ghost use Rattle.std.specs.Prelude.{◌≡◌, ◌<◌, ◌≤◌, ◌+◌, ◌++◌, [], length, OnOk, OnErr, IsOk};
@@ -9,17 +9,17 @@ ghost use Rattle.tt_io.specs.Passes.{Passes};
 use crate::{Sink, WriteFault, put_all};
 use std::marker::Model;
 
-/// How many bytes a buffer holds at most: as many as std's own buffered writer. Eight times as
-/// many write ten million short lines to a file by a third faster, and make each buffer that much
-/// larger on the stack.
+/// How many bytes a buffer holds at most: as many as std's own buffered writer. With eight times as
+/// many, ten million short lines are written to a file a third faster, but each buffer takes eight
+/// times the room on the stack.
 pub const CAPACITY: usize = 8 * 1024;
 
-/// Bytes on their way to a sink, so that many small pieces make one write. It stands beside the
-/// sink, takes no memory, and contracts see it as the list of the bytes that wait.
+/// Bytes on their way to a sink, collected so that many small pieces make one write. A buffer is
+/// apart from its sink and takes no memory. Contracts see it as the list of the bytes that wait.
 #[derive(Drop)]
 pub struct Buffer {
     bytes: [u8; CAPACITY],
-    /// How many bytes wait, from the front of `bytes` on.
+    /// How many bytes wait: these are the first ones of `bytes`.
     len: usize,
 }
 
@@ -52,7 +52,7 @@ impl Buffer {
         }
     }
 
-    /// How many more bytes have room.
+    /// For how many more bytes there is room.
     #[inline(always)]
     fn room(&self) -> usize
         ensures { result + length self.now ≡ CAPACITY }
@@ -60,7 +60,7 @@ impl Buffer {
         CAPACITY - self.len
     }
 
-    /// Appends a piece that has room.
+    /// Appends a piece for which there is room.
     #[inline(always)]
     fn hold(&mut self, piece: &[u8])
         requires { length self.old + length piece.now ≤ CAPACITY }
@@ -71,8 +71,8 @@ impl Buffer {
         self.len = end;
     }
 
-    /// Appends a piece. It waits where it has room, and else what waits is sent first. A piece
-    /// that is larger than the buffer goes to the sink at once. After a fault nothing waits.
+    /// Appends a piece. It waits if there is room for it; otherwise what waits is sent first. A
+    /// piece that is larger than the buffer goes to the sink at once. After a fault nothing waits.
     #[inline(always)]
     pub fn put<O: Sink>(&mut self, sink: &mut O, piece: &[u8]) -> Result<(), WriteFault>
         ensures ok { OnOk result (Passes (O.written sink.old) (O.written sink.new)
@@ -95,7 +95,7 @@ impl Buffer {
         self.put_beyond(sink, piece)
     }
 
-    /// Appends a piece that has no room beside what waits.
+    /// Appends a piece for which there is no room after what waits.
     #[inline(never)]
     fn put_beyond<O: Sink>(&mut self, sink: &mut O, piece: &[u8]) -> Result<(), WriteFault>
         ensures ok { OnOk result (Passes (O.written sink.old) (O.written sink.new)

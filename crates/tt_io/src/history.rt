@@ -1,8 +1,8 @@
 //! What went through a source or a sink, for proofs alone.
 //!
 //! Anyone can make a history, so a clause about one says nothing of who made it. It says what code
-//! did that was handed a source or a sink of any type: such code can change the history by reads
-//! and writes alone.
+//! did with a source or a sink of any type that was handed to it: such code can change the history
+//! only by reads and writes.
 
 ghost use Rattle.std.specs.Borrow.{ftrue};
 ghost use Rattle.std.specs.Coded.{coded_ℕ, coded_list};
@@ -10,7 +10,7 @@ ghost use Rattle.std.specs.Prelude.{◌≡◌, ◌++◌, ◌∷◌, ℕ, List, O
 
 use std::marker::Model;
 
-/// The bytes that went through so far, with each end that was met. It has no size, and its methods
+/// The bytes that went through so far, and each end that was met. It has no size, and its methods
 /// do nothing when the program runs.
 #[derive(Drop)]
 pub struct History {

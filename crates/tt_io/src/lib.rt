@@ -1,5 +1,5 @@
-//! Where bytes come from and where they go: sources and sinks, whole reading and whole writing,
-//! and a buffer before a sink. All of it is the bench's own rule.
+//! Where bytes come from and where they go: sources and sinks, whole reading and whole writing, and
+//! a buffer in front of a sink. All of it is the bench's own rule.
 #![tactic(auto)]
 
 mod buffer;

@@ -11,7 +11,7 @@ use crate::{History, ReadStep, Sink, Source, WriteStep};
 use std::alloc::Global;
 use tt_base::Memory;
 
-/// Bytes that are given from the front on, at most `chunk` at a time.
+/// Bytes that are given in their order, at most `chunk` at a time.
 #[derive(Drop)]
 struct Supply {
     bytes: Vec<u8>,
@@ -76,7 +76,7 @@ impl Supply {
     }
 }
 
-/// Gives its bytes in chunks. The reads whose numbers stand in `failing` fail, and no other.
+/// Gives its bytes in chunks. Exactly the reads whose numbers are in `failing` fail.
 #[derive(Drop)]
 pub struct MemSource {
     supply: Supply,
@@ -120,7 +120,7 @@ impl Source for MemSource {
     fn read(&mut self, buf: &mut [u8]) -> ReadStep
         requires { 0 < length buf.old }
 
-        // As many as are left, as one read gives, and as the buffer has room for.
+        // The least of what is left, what one read gives, and what the buffer has room for.
         ensures size { IfGot result (λ n. (0 < n)
             × (n ≡ min (length (left_of self.old)) (min (chunk_of self.old) (length buf.new)))) }
         ensures got { IfGot result (λ n. left_of self.old ≡ take n buf.new ++ left_of self.new) }
@@ -137,7 +137,7 @@ impl Source for MemSource {
             × (given_by self.new ≡ given_by self.old)) }
         ensures failed_gave { OnFailed result (history_of self.new ≡ history_of self.old) }
 
-        // The reads that are to fail do, and are counted; no other does.
+        // A read fails exactly where its number is in `failing`; each failure is counted.
         ensures fails { (result ≡ ReadStep.Failed)
             ↔ Contains (failing_of self.old) (calls_of self.old) }
         ensures fault { OnFailed result (faults_of self.new ≡ counted (faults_of self.old) 1) }
@@ -197,7 +197,7 @@ impl Source for SureSource {
         requires { 0 < length buf.old }
         ensures sure { result ≢ ReadStep.Failed }
 
-        // As many as are left, as one read gives, and as the buffer has room for.
+        // The least of what is left, what one read gives, and what the buffer has room for.
         ensures size { IfGot result (λ n. (0 < n)
             × (n ≡ min (length (rest_of self.old)) (min (most_of self.old) (length buf.new)))) }
         ensures got { IfGot result (λ n. rest_of self.old ≡ take n buf.new ++ rest_of self.new) }
@@ -216,8 +216,8 @@ impl Source for SureSource {
     }
 }
 
-/// Keeps what is written, in the room that it has. The writes whose numbers stand in `failing`
-/// fail, and those with no room left, and no other.
+/// Keeps what is written, as far as it has room. A write fails exactly where its number is in
+/// `failing` or no room is left.
 #[derive(Drop)]
 pub struct MemSink {
     bytes: Vec<u8>,
@@ -234,8 +234,8 @@ pub struct MemSink {
 impl MemSink {
     ghost use Rattle.tt_io.specs.MemSink.{written_in, room_of, chunk_in, write_calls, refusing, sink_faults};
 
-    /// A sink with room for `room` bytes, which it reserves, that takes at most `chunk` of them at
-    /// a time. Writes are numbered from 0.
+    /// A sink that reserves room for `room` bytes and takes at most `chunk` of them at a time.
+    /// Writes are numbered from 0.
     pub fn new(
         alloc: Global,
         room: usize,
@@ -280,7 +280,7 @@ impl Sink for MemSink {
     fn write(&mut self, piece: &[u8]) -> WriteStep
         requires { 0 < length piece.now }
 
-        // As many as the piece has, as one write takes, and as there is room for.
+        // The least of what the piece has, what one write takes, and what there is room for.
         ensures size { IfTook result (λ n. (0 < n) × (n ≡ min (length piece.now)
             (min (chunk_in self.old) (room_of self.old - length (written_in self.old))))) }
         ensures took { IfTook result (λ n.
@@ -288,8 +288,8 @@ impl Sink for MemSink {
 
         ensures refused { OnRefused result (written_in self.new ≡ written_in self.old) }
 
-        // The writes that are to fail do, and those with no room left, and are counted; no other
-        // does.
+        // A write fails exactly where its number is in `failing` or no room is left; each failure
+        // is counted.
         ensures fails { (result ≡ WriteStep.Failed)
             ↔ (Contains (refusing self.old) (write_calls self.old)
             ⊎ (length (written_in self.old) ≡ room_of self.old)) }
@@ -323,7 +323,7 @@ impl Sink for MemSink {
     }
 }
 
-/// Takes every piece whole, and tells nothing.
+/// Takes every piece whole, and does not say what was written.
 #[derive(Clone, Copy, Debug, Default, PartialEq, Eq)]
 pub struct NullSink;
 

@@ -1,6 +1,6 @@
-//! The standard library's readers and writers as sources and sinks. A reader's source tells what it
-//! gave and not what it has left, and a writer's sink tells what it took; where the reader or the
-//! writer tells its own bytes, these pass through unchanged.
+//! The standard library's readers and writers as sources and sinks. A reader's source records what
+//! it gave, but does not know what is left; a writer's sink records what it took. Where the bytes
+//! of the reader or the writer itself are known, they pass through unchanged.
 
 ghost use Rattle.std.specs.Io.KnownBytes.{Appends, Consumes, IsAtEnd, Keeps};
 ghost use Rattle.std.specs.Prelude.{◌≡◌, ◌≢◌, ◌<◌, ◌≤◌, ◌++◌, if◌then◌else◌, ℕ, None, Some, [], is_ok, length, take};
@@ -14,7 +14,7 @@ use crate::{History, ReadStep, Sink, Source, WriteStep};
 use std::io;
 use std::io::{Read, Write};
 
-/// A reader as a source, which tells what the reader gave and each end that it answered. Each error
+/// A reader as a source. It records what the reader gave and each end that it answered. Each error
 /// of the reader is a fault, also that of an interrupted read.
 #[derive(Drop)]
 pub struct StdSource<R: Read + Drop> {
@@ -96,8 +96,8 @@ impl<R: Read + Drop> Source for StdSource<R> {
     }
 }
 
-/// A writer as a sink, which tells the bytes of the writes that took some. Where the writer tells
-/// its own bytes, these were appended to them.
+/// A writer as a sink. It records the bytes of the writes that took some. Where the bytes of the
+/// writer itself are known, these were appended to them.
 #[derive(Drop)]
 pub struct StdSink<W: Write + Drop> {
     writer: W,
@@ -140,8 +140,8 @@ impl<W: Write + Drop> Sink for StdSink<W> {
         ensures kept { IfTook result (λ n.
             bytes_taken self.new ≡ bytes_taken self.old ++ take n piece.now) }
 
-        // A front of the piece may have gone out all the same, as where the flush after a write
-        // failed.
+        // A prefix of the piece may have gone out all the same, for example where the flush after a
+        // write failed.
         ensures refused { OnRefused result ((n : ℕ) × (n ≤ length piece.now)
             × Appends (W.contents (writer_of self.old)) (W.contents (writer_of self.new))
             (take n piece.now)) }
@@ -166,7 +166,7 @@ impl<W: Write + Drop> Sink for StdSink<W> {
     }
 }
 
-/// What a write comes to of which the writer took this number of bytes, and was then flushed.
+/// The answer to a write of which the writer took this many bytes and was then flushed.
 fn step_of(taken: usize, flushed: io::Result<()>) -> WriteStep
     ensures { result ≡ (if is_ok flushed then WriteStep.Took taken else WriteStep.Failed) }
 {

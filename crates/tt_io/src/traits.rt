@@ -10,7 +10,7 @@ ghost use Rattle.tt_io.specs.WriteStep.{IfTook, OnRefused};
 /// The answer of one read.
 #[derive(Clone, Copy, Debug, PartialEq, Eq)]
 pub enum ReadStep {
-    /// So many bytes stand at the front of the buffer, at least one.
+    /// This many bytes, at least one, are at the front of the buffer.
     Got(usize),
     /// Nothing is left.
     End,
@@ -21,22 +21,22 @@ pub enum ReadStep {
 /// The answer of one write.
 #[derive(Clone, Copy, Debug, PartialEq, Eq)]
 pub enum WriteStep {
-    /// So many bytes of the piece were taken from its front, at least one.
+    /// This many bytes of the piece, at least one, were taken from its front.
     Took(usize),
-    /// The write failed. Where the sink tells its bytes, none was written.
+    /// The write failed. Where the bytes written are known, none was written.
     Failed,
 }
 
 /// Where bytes come from.
 pub trait Source {
-    /// The bytes left, where it tells them.
+    /// The bytes left, where they are known.
     ghost left: { Self → Option (List ℕ) };
 
     /// How many bytes were given. The count stays at its last value, 2^64 - 1.
     ghost given: { Self → ℕ };
 
     /// What was given so far: each byte as `Some` of it, and each end that a read answered as
-    /// `None`. Every source tells it, also one that does not tell the bytes that it has left.
+    /// `None`. Every source has it, also one whose bytes left are not known.
     ghost gave: { Self → List (Option ℕ) };
 
     /// How many faults there were. The count stays at its last value, 2^64 - 1.
@@ -68,7 +68,7 @@ pub trait Source {
 
 /// Where bytes go.
 pub trait Sink {
-    /// The bytes written, where it tells them.
+    /// The bytes written, where they are known.
     ghost written: { Self → Option (List ℕ) };
 
     /// How many faults there were. The count stays at its last value, 2^64 - 1.

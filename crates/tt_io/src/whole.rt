@@ -15,7 +15,7 @@ use thiserror::Error;
 /// Why a source was not read to its end.
 #[derive(Clone, Copy, Debug, PartialEq, Eq, Error)]
 pub enum TakeFault {
-    /// Want of memory. Nothing was read.
+    /// Out of memory. Nothing was read.
     #[error("out of memory")]
     Memory,
     /// A read failed.
@@ -30,9 +30,9 @@ pub enum TakeFault {
 #[derive(Clone, Copy, Debug, PartialEq, Eq)]
 pub struct WriteFault;
 
-/// All the bytes that a source has left, of which there may be at most `limit`, itself at most
-/// 2^24. It reserves its buffer before it reads, and takes at most `limit + 1` bytes: one more
-/// than the limit shows that there are too many.
+/// All the bytes that a source has left. They may be at most `limit`, and `limit` is at most 2^24.
+/// The buffer is reserved before the first read. At most `limit + 1` bytes are taken: the one past
+/// the limit shows that there are too many.
 pub fn take_all<I: Source>(
     alloc: Global,
     source: &mut I,
@@ -88,7 +88,7 @@ pub fn take_all<I: Source>(
 enum Filled {
     /// To its end.
     Whole,
-    /// By this number of bytes, with which the source ended.
+    /// With this number of bytes, after which the source ended.
     Ended(usize),
     /// Up to a fault.
     Broken,

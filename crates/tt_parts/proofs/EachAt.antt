@@ -1,4 +1,4 @@
--- What each row gives, with one row more.
+-- What each row gives, with one more row.
 use Rattle.std.proofs.Common.{◌≡◌, ℕ, ◌+◌, ◌<◌, List, [], ◌∷◌, ◌++◌, length, take, get_or, Option, Some, None, refl, ap, sym, ◌∙◌}
 use Rattle.std.proofs.lemmas.List.{take_more}
 use Rattle.tt_rows.specs.declared.row.Row.{Row}
@@ -26,7 +26,7 @@ module _ {A : Type 0} (part_of : Row → Option A) where
       ap (each_at part_of) (take_more rows k row lt ∙ ap (λ r. take k rows ++ r ∷ []) (sym is))
       ∙ each_at-push (take k rows) row
 
--- a list of what the rows before one give, with what that row gives put after it
+-- a list of what the rows before one give, with what that row gives appended
 pub put-more : {A : Type 0} (rows : List NumberedRow) (k : ℕ) (row : NumberedRow) → k < length rows
     → row ≡ get_or rows k row
     → (part_of : Row → Option A) (xs ys : List (At A)) (part : Option A)

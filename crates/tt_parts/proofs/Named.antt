@@ -1,4 +1,4 @@
--- The names of some entries among those of more.
+-- The names of some entries among those of more entries.
 use Rattle.std.proofs.Common.{◌≡◌, ℕ, ◌+◌, ◌≤◌, ◌<◌, List, ◌∷◌, ◌++◌, length, get_or, drop, arith, ap, sym, ◌∙◌}
 use Rattle.std.proofs.lemmas.Grind.{common_steps}
 use Rattle.std.proofs.lemmas.List.{map-append, append-nil, at_drop_more, drop_all}
@@ -41,6 +41,6 @@ module _ (names : List NameEntry) (entries : List (At NameEntry)) (i : ℕ)
         count_of-first at.part more,
       )
 
-  -- after the last entry they are all
+  -- after the last entry they are all named
   pub all_named : length entries ≤ i → names ≡ parts entries
   all_named le = sym (append-nil names) ∙ ap (λ left. names ++ parts left) (sym (drop_all i entries le)) ∙ split

@@ -1,4 +1,4 @@
--- Rows that are read from the last to the first: what those that are read give.
+-- Rows that are read from the last to the first: what the rows read so far give.
 use Rattle.std.proofs.Common.{◌≡◌, List, [], ◌∷◌, ◌++◌, ap, sym, ◌∙◌}
 use Rattle.std.proofs.lemmas.List.{append-nil, append_assoc}
 use Rattle.tt_base.specs.declared.names.NameEntry.{NameEntry}
@@ -11,7 +11,7 @@ use Rattle.tt_parts.specs.Located.{at_then}
 use Rattle.tt_parts.specs.Structure.{standing_of}
 use Rattle.tt_parts.specs.Bodies.{Branches, owner_in, body_of, row_then, head_of, branches_from, bodies_of}
 
--- of some rows these are left, and those after them are read
+-- of some rows these are left to read; the rows after them are read
 pub record Reads (names : List NameEntry) (rows left : List NumberedRow) (blocks : List Branches)
     (bodies : List (At BodyPart)) : Type 0 where
   pub after : List NumberedRow

@@ -1,4 +1,4 @@
--- Terms in front of expressions.
+-- Terms before expressions.
 use Rattle.std.proofs.Common.{◌≡◌, pos, List, [], ◌∷◌, ◌++◌, Option, Some, None, MatchOption, length, ap, sym, ◌∙◌, refl}
 use Rattle.std.specs.Prelude.{unwrap_or}
 use Rattle.std.proofs.lemmas.List.{nil_from_length}
@@ -8,7 +8,7 @@ use Rattle.tt_base.specs.declared.names.NameEntry.{NameEntry}
 use Rattle.tt_rows.specs.declared.row.Term.{Term}
 use Rattle.tt_parts.specs.Bodies.{term_then, expressions_of, first_or_zero}
 
--- the expressions that terms are in front of these
+-- the expressions of some terms, with these after them
 pub terms_then : List NameEntry → List Term → List Expr → List Expr
 terms_then names [] after = after
 terms_then names (t ∷ terms) after = term_then names t (terms_then names terms after)
@@ -24,19 +24,19 @@ unfolding terms_then
 terms_then-nil names [] = refl
 terms_then-nil names (t ∷ terms) = ap (term_then names t) (terms_then-nil names terms)
 
--- at first nothing is after
+-- at first there is nothing after them
 pub terms_first : (names : List NameEntry) (terms : List Term) (after : List Expr) → after ≡ []
     → terms_then names terms after ≡ expressions_of names terms
 terms_first names terms after is = ap (terms_then names terms) is ∙ terms_then-nil names terms
 
--- the last term goes in front of what is after it
+-- the last term goes before what is after it
 pub terms_more : (names : List NameEntry) (left before : List Term) (t : Term) (after : List Expr) (all : List Expr)
     → left ≡ before ++ t ∷ [] → terms_then names left after ≡ all
     → terms_then names before (term_then names t after) ≡ all
 terms_more names left before t after all is split =
     sym (terms_then-push names before t after) ∙ ap (λ terms. terms_then names terms after) (sym is) ∙ split
 
--- in the end the first expression is the one
+-- in the end the first expression is the result
 pub terms_last : (names : List NameEntry) (left : List Term) (after rest all : List Expr) (first : Option Expr)
     → length left ≡ 0 → terms_then names left after ≡ all
     → MatchOption first ((after ≡ []) × (rest ≡ [])) (λ front. after ≡ front ∷ rest)

@@ -23,7 +23,7 @@ use Rattle.tt_parts.specs.Structure.{Standing, Top, Opener, Plain, OfIf, OfElse,
 
 -- ---- expressions
 
--- an operator in front of the expressions after it, of which it takes two
+-- an operator and the expressions after it; it takes the first two of them
 abbrev pub operator_then : Op → List Expr → List Expr
 operator_then op [] = []
 operator_then op (left ∷ []) = []
@@ -34,7 +34,7 @@ term_then names (term.Int value) rest = expr.Const value ∷ rest
 term_then names (term.Name name) rest = expr.Var (record { 0 = number_named names name }) ∷ rest
 term_then names (term.Op op) rest = operator_then op rest
 
--- the expressions that terms in prefix form are, one after the other
+-- terms in prefix form as expressions, one after another
 abbrev pub expressions_of : List NameEntry → List Term → List Expr
 expressions_of names [] = []
 expressions_of names (t ∷ terms) = term_then names t (expressions_of names terms)
@@ -43,7 +43,7 @@ abbrev pub first_or_zero : List Expr → Expr
 first_or_zero [] = expr.Const (pos 0)
 first_or_zero (first ∷ rest) = first
 
--- the expression that terms are
+-- terms as one expression
 abbrev pub expression_of : List NameEntry → List Term → Expr
 expression_of names terms = first_or_zero (expressions_of names terms)
 
@@ -53,7 +53,7 @@ expression_of names terms = first_or_zero (expressions_of names terms)
 abbrev pub Head : Type 0
 Head = Stmt-F Bool
 
--- the head that a row says
+-- the head that a row gives
 abbrev pub head_of : List NameEntry → Row → Option Head
 head_of names (r.Work ticks) = Some (Stmt-F.Work ticks)
 head_of names (r.Take demand) = Some (Stmt-F.Take (record { 0 = number_named names demand }))
@@ -69,7 +69,7 @@ head_of names (r.Chain task) = Some (Stmt-F.Service (call.Chain (record { 0 = nu
 head_of names r.Terminate = Some (Stmt-F.Service call.Terminate)
 head_of names row = None
 
--- the statement that a head is, with these statements inside it; those after an `else` are the second
+-- a head as a statement, with these statements inside it; those after an `else` are the second
 abbrev pub statement_of : Head → (first second : List Stmt) → Stmt
 statement_of (Stmt-F.Work ticks) first second = s.Work ticks
 statement_of (Stmt-F.Take demand) first second = s.Take demand
@@ -79,8 +79,8 @@ statement_of (Stmt-F.Repeat turns x) first second = s.Repeat turns first
 statement_of (Stmt-F.Out expr) first second = s.Out expr
 statement_of (Stmt-F.Service call) first second = s.Service call
 
--- what stands from a row on up to the end that closes the innermost open thing: the statements from there on, up to
--- an `else` that stands between, and those after that `else`
+-- what there is from a row on up to the end that closes the innermost open thing: the statements from there on, up to
+-- an `else` in between, and the statements after that `else`
 pub record Branches : Type 0 where
   pub first : List Stmt
   pub second : List Stmt
@@ -88,33 +88,33 @@ pub record Branches : Type 0 where
 abbrev pub no_branches : Branches
 no_branches = record { first = []; second = [] }
 
--- a statement in front of what follows in the same body
+-- a statement before what follows in the same body
 abbrev pub statement_then : Stmt → List Branches → List Branches
 statement_then stmt [] = []
 statement_then stmt (inner ∷ outer) = record { first = stmt ∷ inner.first; second = inner.second } ∷ outer
 
--- an `else` in front: what follows is the second branch
+-- with an `else` before them: what follows is the second branch
 abbrev pub else_then : List Branches → List Branches
 else_then [] = []
 else_then (inner ∷ outer) = record { first = []; second = inner.first } ∷ outer
 
--- a statement with nothing inside it in front
+-- with a statement before them that has nothing inside it
 abbrev pub plain_then : Option Head → List Branches → List Branches
 plain_then None rest = rest
 plain_then (Some head) rest = statement_then (statement_of head [] []) rest
 
--- a block in front: the innermost thing is its inside
+-- with a block before them: the innermost thing is its inside
 abbrev pub block_then : Option Head → List Branches → List Branches
 block_then None rest = rest
 block_then (Some head) [] = []
 block_then (Some head) (inner ∷ outer) = statement_then (statement_of head inner.first inner.second) outer
 
--- a row that opens a body in front: its body is closed
+-- with a row before them that opens a body: its body is complete
 abbrev pub body_then : List Branches → List Branches
 body_then [] = []
 body_then (inner ∷ outer) = outer
 
--- a row that stands so in front
+-- with a row of this standing before them
 abbrev pub row_then : Standing → Option Head → List Branches → List Branches
 row_then OfEnd head rest = no_branches ∷ rest
 row_then OfElse head rest = else_then rest
@@ -124,7 +124,7 @@ row_then Plain head rest = plain_then head rest
 row_then OfIf head rest = block_then head rest
 row_then OfRepeat head rest = block_then head rest
 
--- what stands from some rows on, for each thing that is open in front of them, the innermost first
+-- what there is from some rows on, for each thing that is open before them, the innermost first
 abbrev pub branches_from : List NameEntry → List NumberedRow → List Branches
 branches_from names [] = []
 branches_from names (row ∷ rows) = row_then (standing_of row.row) (head_of names row.row) (branches_from names rows)

@@ -1,4 +1,4 @@
--- What rows say beside names and bodies: numbers, initial values, demands, rows of dispatcher tables, and what comes
+-- What rows say besides names and bodies: numbers, initial values, demands, rows of dispatcher tables, and what comes
 -- from outside.
 use Rattle.std.specs.Prelude.{ℕ, ℤ, Bool, true, false, List, Option, Some, None}
 use Rattle.tt_base.specs.declared.names.NameEntry.{NameEntry}

@@ -12,7 +12,7 @@ parts xs = map (λ x. x.part) xs
 abbrev pub lines : {A : Type 0} → List (At A) → List ℕ
 lines xs = map (λ x. x.line) xs
 
--- a part that there may be, with its line, in front of others
+-- a part, if there is one, with its line, before others
 abbrev pub at_then : {A : Type 0} → ℕ → Option A → List (At A) → List (At A)
 at_then line None rest = rest
 at_then line (Some part) rest = record { line = line; part = part } ∷ rest

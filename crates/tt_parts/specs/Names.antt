@@ -1,4 +1,4 @@
--- The names that rows declare, and the numbers that they stand for.
+-- The names that rows declare, and the numbers of these names.
 use Rattle.std.specs.Prelude.{ℕ, List, Option, Some, None, option_map, unwrap_or}
 use Rattle.tt_base.specs.declared.names.NameKind.{NameKind}
 use Rattle.tt_base.specs.declared.names.NameKind.TheVariants as Kind

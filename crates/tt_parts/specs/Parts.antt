@@ -22,7 +22,7 @@ declarations_of rows = record {
   names = each_at declared_in rows;
 }
 
--- what rows say beside that and bodies
+-- what rows say besides that and bodies
 abbrev pub said_in : List NameEntry → List NumberedRow → Said
 said_in names rows = record {
   vars = each_at var_in rows;

@@ -1,4 +1,4 @@
--- How the rows of a document stand in bodies and blocks.
+-- The place of each row of a document among bodies and blocks.
 use Rattle.std.specs.Prelude.{List, [], ◌∷◌, Option, Some, None}
 use Rattle.task_lang.specs.declared.allowed.OwnerKind.TheVariants as owner
 use Rattle.tt_rows.specs.declared.row.Row.{Row}
@@ -8,7 +8,7 @@ pub use Rattle.tt_parts.specs.declared.structure.Standing.TheVariants.{Top, Open
 pub use Rattle.tt_parts.specs.declared.structure.Open.{Open}
 pub use Rattle.tt_parts.specs.declared.structure.Open.TheVariants.{Body, If, Else, Repeat}
 
--- how a row stands: at the top, before a body, or in a body as a statement, an `if`, an `else`, a `repeat` or an `end`
+-- the place of a row: outside of bodies, before a body, or in one as a statement, `if`, `else`, `repeat` or `end`
 abbrev pub standing_of : Row → Standing
 standing_of (r.Task name stack) = Opener owner.Task
 standing_of (r.Isr name level stack) = Opener owner.Isr
@@ -34,15 +34,15 @@ standing_of (r.Chain task) = Plain
 standing_of r.Terminate = Plain
 standing_of row = Top
 
--- an `else` may stand where the innermost open thing is an `if` without one
+-- an `else` is allowed where the innermost open thing is an `if` without one
 abbrev pub after_else : Open → List Open → Option (List Open)
 after_else If outer = Some (Else ∷ outer)
 after_else (Body kind) outer = None
 after_else Else outer = None
 after_else Repeat outer = None
 
--- the stack of what is open after a row, an entry each, the innermost first; None where the row may not stand: a top
--- row stands only where nothing is open, and a row of a body only where something is
+-- the stack of what is open after a row, one entry for each, the innermost first. None where the row is not allowed: a
+-- top row is allowed only where nothing is open, and a row of a body only where something is
 abbrev pub stack_after : List Open → Standing → Option (List Open)
 stack_after [] Top = Some []
 stack_after [] (Opener kind) = Some (Body kind ∷ [])

@@ -24,7 +24,7 @@ pub enum Owner {
     /// A time-triggered task: its stack words.
     Task(u64),
     /// A time-triggered interrupt service routine: its level, its stack words, and the least
-    /// distance of two of its interrupts in ticks, where one is declared.
+    /// distance of two of its interrupts in ticks, if one is declared.
     Isr(u64, u64, Option<u64>),
     /// A task of the OSEK subsystem: its priority, and whether it is ready at tick 0.
     Osek(u64, bool),
@@ -43,8 +43,8 @@ pub struct BodyPart {
     pub body: Body,
 }
 
-/// The statements of a body or a block from some row on, up to an `else` that stands between, and
-/// those after that `else`.
+/// The statements of a body or a block from some row on, up to an `else` in between, and the
+/// statements after that `else`.
 #[derive(Debug, Drop)]
 struct Block {
     first: FrontList<Stmt>,
@@ -67,10 +67,10 @@ impl Model for Block {
     ghost view = { λ b. record { first = b.first; second = b.second } };
 }
 
-/// What stands from some row on in each thing that is open there, the innermost first.
+/// For each thing that is open at some row, the innermost first: its statements from there on.
 type Blocks = FrontList<Block>;
 
-/// The bodies of rows, each with its owner and the line of the row that opens it, in one pass.
+/// The bodies of rows, each with its owner and the line of the row that opens it, read in one pass.
 pub fn bodies_of(
     alloc: Global,
     names: &Names,
@@ -105,7 +105,7 @@ fn owner_in(row: &Row) -> Option<Owner>
     }
 }
 
-/// Puts a row in front of the rows after it.
+/// Reads a row that comes before the rows read so far.
 fn put_numbered(
     alloc: Global,
     names: &Names,
@@ -130,7 +130,7 @@ fn put_numbered(
     }
 }
 
-/// Puts a row in front of the rows after it, of which the body is given up where it opens one.
+/// Reads a row that comes before the rows read so far. Where it opens a body, the body is given up.
 fn put_row(alloc: Global, names: &Names, row: &Row, blocks: &mut Blocks) -> Result<(), Memory>
     ensures { OnOk result
         (blocks.new ≡ row_then (standing_of row.now) (head_of names.now row.now) blocks.old) }
@@ -168,14 +168,14 @@ fn put_row(alloc: Global, names: &Names, row: &Row, blocks: &mut Blocks) -> Resu
     }
 }
 
-/// A call of a service in front.
+/// Reads a call of a service.
 fn put_call(call: Call, blocks: &mut Blocks) -> Result<(), Memory>
     ensures { OnOk result (blocks.new ≡ plain_then (Some (Stmt-F.Service call)) blocks.old) }
 {
     put_statement(Stmt::Service(call), blocks)
 }
 
-/// An `end` in front: a body or a block that nothing follows.
+/// Reads an `end`: a body or a block that nothing follows.
 fn put_end(alloc: Global, blocks: &mut Blocks) -> Result<(), Memory>
     ensures { OnOk result (blocks.new ≡ no_branches ∷ blocks.old) }
 {
@@ -185,7 +185,7 @@ fn put_end(alloc: Global, blocks: &mut Blocks) -> Result<(), Memory>
     })
 }
 
-/// A statement in front of what follows in the innermost body or block.
+/// Reads a statement: it comes before what follows in the innermost body or block.
 fn put_statement(stmt: Stmt, blocks: &mut Blocks) -> Result<(), Memory>
     ensures { OnOk result (blocks.new ≡ statement_then stmt blocks.old) }
 {
@@ -196,7 +196,7 @@ fn put_statement(stmt: Stmt, blocks: &mut Blocks) -> Result<(), Memory>
     blocks.push_front(inner)
 }
 
-/// An `else` in front: what follows is the second branch.
+/// Reads an `else`: what follows is the second branch.
 fn put_else(alloc: Global, blocks: &mut Blocks) -> Result<(), Memory>
     ensures { OnOk result (blocks.new ≡ else_then blocks.old) }
 {
@@ -209,7 +209,7 @@ fn put_else(alloc: Global, blocks: &mut Blocks) -> Result<(), Memory>
     })
 }
 
-/// An `if` in front: the innermost block is its branches.
+/// Reads an `if`: the innermost block has its branches.
 fn put_if(expr: Expr, blocks: &mut Blocks) -> Result<(), Memory>
     ensures { OnOk result (blocks.new ≡ block_then (Some (Stmt-F.If expr [] [])) blocks.old) }
 {
@@ -222,7 +222,7 @@ fn put_if(expr: Expr, blocks: &mut Blocks) -> Result<(), Memory>
     )
 }
 
-/// A `repeat` in front: the innermost block is what it repeats.
+/// Reads a `repeat`: the innermost block is what it repeats.
 fn put_repeat(turns: u64, blocks: &mut Blocks) -> Result<(), Memory>
     ensures { OnOk result (blocks.new ≡ block_then (Some (Stmt-F.Repeat turns [])) blocks.old) }
 {
@@ -232,7 +232,7 @@ fn put_repeat(turns: u64, blocks: &mut Blocks) -> Result<(), Memory>
     put_statement(Stmt::Repeat(turns, statements(first)), blocks)
 }
 
-/// A row that opens a body in front: its body is closed.
+/// Reads a row that opens a body: its body is complete.
 fn take_body(alloc: Global, blocks: &mut Blocks) -> Body
     ensures after { blocks.new ≡ body_then blocks.old }
     ensures body { result ≡ first_branch blocks.old }

@@ -11,8 +11,8 @@ use task_lang::{Expr, Op};
 use tt_base::{Memory, Names, VarNo};
 use tt_rows::Term;
 
-/// The expression that terms are, in time that is linear in the terms times a look-up. Terms are
-/// read from the last to the first, so that an operator finds its two expressions after it.
+/// Terms as an expression, in time that is linear in the terms times a look-up. Terms are read from
+/// the last to the first, so that an operator finds its two expressions after it.
 pub(crate) fn expression_of(alloc: Global, names: &Names, terms: &[Term]) -> Result<Expr, Memory>
     ensures { IfOk result (λ expr. expr ≡ expression_of names.now terms.now) }
 {
@@ -25,7 +25,7 @@ pub(crate) fn expression_of(alloc: Global, names: &Names, terms: &[Term]) -> Res
     Ok(rest.pop_front().unwrap_or(Expr::Const(0)))
 }
 
-/// Puts a term in front of expressions.
+/// Reads a term that comes before some expressions.
 fn put_term(
     alloc: Global,
     names: &Names,
@@ -41,7 +41,7 @@ fn put_term(
     }
 }
 
-/// Puts an operator in front of the two expressions that it takes.
+/// Reads an operator: it takes the first two of the expressions after it.
 fn put_operator(alloc: Global, op: Op, rest: &mut FrontList<Expr>) -> Result<(), Memory>
     ensures { OnOk result (rest.new ≡ operator_then op rest.old) }
 {

@@ -68,7 +68,7 @@ impl<T> FrontList<T> {
 }
 
 impl<T: Drop> FrontList<T> {
-    /// Puts an item in front.
+    /// Puts an item at the front.
     pub fn push_front(&mut self, item: T) -> Result<(), Memory>
         ensures { OnOk result (self.new ≡ item ∷ self.old) }
     {

@@ -1,5 +1,5 @@
 //! The parts that the rows of a document say, each with its line: names, bodies, rows of tables,
-//! and what comes from outside. No rule is asked here but that there are few names of a kind.
+//! and what comes from outside. The only rule asked here is that no kind has too many names.
 #![tactic(auto)]
 
 mod bodies;

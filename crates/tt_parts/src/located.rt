@@ -12,7 +12,7 @@ pub struct At<T> {
     pub part: T,
 }
 
-/// Puts a part that a row may give after those above.
+/// Appends the part that a row gives, if it gives one.
 pub(crate) fn put<T: Drop>(
     parts: &mut Series<At<T>>,
     line: u32,

@@ -1,4 +1,4 @@
-//! What rows say beside the round, names and bodies.
+//! What rows say besides the round, names and bodies.
 
 ghost use Rattle.std.specs.Prelude.{◌≡◌, [], ◌++◌, IfOk, OnOk};
 ghost use Rattle.tt_parts.specs.Entries.{arrival_in, activates, demand_in, entry_in, rounds_in, start_in, time_in, value_in, var_in};
@@ -14,7 +14,7 @@ use tt_base::{DemandNo, IsrNo, Memory, ModeNo, Name, Names, Series, TaskNo};
 use tt_rows::{NumberedRow, Row};
 use tt_world::{Activation, Enable};
 
-/// What rows say beside the round, names and bodies.
+/// What rows say besides the round, names and bodies.
 #[derive(Debug, Drop)]
 pub struct Said {
     /// The initial values of the variables.
@@ -146,7 +146,7 @@ fn time_in(row: &Row) -> Option<u64>
     }
 }
 
-/// What rows say beside the round, names and bodies, in one pass.
+/// What rows say besides the round, names and bodies, in one pass.
 pub fn said_in(alloc: Global, names: &Names, rows: &[NumberedRow]) -> Result<Said, Memory>
     ensures { IfOk result (λ said. said ≡ said_in names.now rows.now) }
 {

@@ -1,4 +1,4 @@
-//! How the rows of a document stand in bodies and blocks.
+//! The place of each row of a document among bodies and blocks.
 
 ghost use Rattle.std.specs.Prelude.{◌≡◌};
 ghost use Rattle.tt_parts.specs.Structure.{standing_of};
@@ -6,10 +6,10 @@ ghost use Rattle.tt_parts.specs.Structure.{standing_of};
 use task_lang::OwnerKind;
 use tt_rows::Row;
 
-/// How a row stands.
+/// The place of a row among bodies and blocks.
 #[derive(Clone, Copy, Debug, PartialEq, Eq)]
 pub enum Standing {
-    /// At the top.
+    /// Outside of bodies.
     Top,
     /// Before a body of an owner of this kind.
     Opener(OwnerKind),
@@ -38,7 +38,7 @@ pub enum Open {
     Repeat,
 }
 
-/// How a row stands.
+/// The place of a row among bodies and blocks.
 pub fn standing_of(row: &Row) -> Standing
     ensures { result ≡ standing_of row.now }
 {

@@ -8,7 +8,7 @@ use Rattle.tt_rows.specs.declared.row.Term.TheVariants as term
 use Rattle.tt_rows.specs.Sound.{are_expressions}
 use Rattle.tt_read.specs.Reading.{term_of, term_in_front, terms_of, expected_after, expression_of}
 
--- of all words these terms were read, n expressions are still to come, and these words are left
+-- from all the words these terms were read; n expressions are still expected, and these words are left
 pub record Parsed (all : List (List ℕ)) (terms : List Term) (expected : ℕ) (left : List (List ℕ)) : Type 0 where
   pub read : terms_of all ≡ option_map (λ later. terms ++ later) (terms_of left)
   pub whole : (later : List Term) → are_expressions 1 (terms ++ later) ≡ are_expressions expected later
@@ -50,7 +50,7 @@ more_terms all terms expected word left t parsed some is = record {
   few = fewer t expected (length left) (length all) some (omega (arith, parsed.few));
 }
 
--- one term more
+-- one more term
 pub parsed_more : {all : List (List ℕ)} {terms : List Term} {expected : ℕ} {words : List (List ℕ)}
     → Parsed all terms expected words → 0 < expected
     → (word : List ℕ) (left : List (List ℕ)) (t : Term) → words ≡ word ∷ left → Some t ≡ term_of word

@@ -26,7 +26,7 @@ pub record Found (front : List Item → List Item) (words : List (List ℕ)) (ro
   pub spelled : flat_map words_of_item items ≡ words
   pub sound : list_all is_sound_item items ≡ true
 
--- what a reader gives has these items in front, and the words that it was given spell the others
+-- what a reader gives begins with these items, and the words that it was given spell the others
 pub record Finds (front : List Item → List Item) (reader : Reader) : Type 0 where
   pub at : (words : List (List ℕ)) (row : Row) → reader words ≡ Some row → Found front words row
 

@@ -9,7 +9,7 @@ use Rattle.tt_doc.specs.Words.{words_of, joined}
 use Rattle.tt_doc.proofs.WordLaws.{length-joined-words_of}
 use Rattle.tt_read.specs.Reading.{row_by_words, row_of}
 
--- the words of a line of at most 200 bytes are a row where they are one by themselves
+-- the words of a line of at most 200 bytes are a row where they are one whatever the length of the line
 pub row_of_line : (bytes : List ℕ) (span : Span) → span.end ≤ span.start + 200 → span.end ≤ length bytes
     → row_of (words_of (text_of bytes span)) ≡ row_by_words (words_of (text_of bytes span))
 unfolding row_of

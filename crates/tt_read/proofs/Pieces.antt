@@ -18,7 +18,7 @@ use Rattle.tt_read.specs.Keywords.{keyword_text}
 use Rattle.tt_read.specs.Parts.{spaced, spaced_term, spaced_item}
 use Rattle.tt_read.specs.Puts.{Puts}
 
--- one piece more was put
+-- one more piece was put
 pub puts_then : {a b : Option (List ℕ)} {so_far mid : List ℕ} → Passes a b so_far mid
     → (r : Result (Unit {0}) WriteFault) (c : Option (List ℕ)) (old new piece text : List ℕ)
     → old ++ text ≡ so_far ++ piece → Puts r b c mid new piece → Puts r a c old new text
@@ -32,7 +32,7 @@ pub puts_from : (r : Result (Unit {0}) WriteFault) (b c : Option (List ℕ)) (mi
 puts_from (Ok u) b c mid new piece ok part = ok
 puts_from (Err e) b c mid new piece ok part = part
 
--- of some things the first n were put, each as its own text
+-- the first n of some things were put, each as its own text
 pub record Put {X : Type 0} (text : X → List ℕ) (xs : List X) (i : ℕ) (a b : Option (List ℕ))
     (old now : List ℕ) : Type 0 where
   pub passes : Passes a b (old ++ flat_map text (take i xs)) now
@@ -44,7 +44,7 @@ text_more text xs i d inside =
     ∙ flat_map-append text (take i xs) (get_or xs i d ∷ [])
     ∙ ap (λ piece. flat_map text (take i xs) ++ piece) (append-nil (text (get_or xs i d)))
 
--- one thing more
+-- one more thing
 pub put_more : {X : Type 0} {text : X → List ℕ} {xs : List X} {i : ℕ} {a b : Option (List ℕ)} {old mid : List ℕ}
     → Put text xs i a b old mid → i < length xs
     → (c : Option (List ℕ)) (now : List ℕ) (x : X) → x ≡ get_or xs i x → Passes b c (mid ++ text x) now
@@ -56,7 +56,7 @@ put_more {X} {text} {xs} {i} {a} {b} {old} {mid} put inside c now x is passes = 
       put.passes passes;
 }
 
--- a part of one thing more
+-- a part of one more thing
 pub put_part : {X : Type 0} {text : X → List ℕ} {xs : List X} {i : ℕ} {a b : Option (List ℕ)} {old mid : List ℕ}
     → Put text xs i a b old mid → i < length xs
     → (c : Option (List ℕ)) (x : X) → x ≡ get_or xs i x → AppendsPart b c (mid ++ text x)
@@ -104,7 +104,7 @@ line_from_items first rest items is =
     ∙ spaced-joined first (flat_map words_of_item rest)
     ∙ ap (λ text. first ++ text) (spaced_items rest)
 
--- what waited and a row's line are the first word after what waited, the fields, and a LF
+-- what waited and then a row's line: the first word after what waited, the fields, and a LF
 pub whole_line : (row : Row) (first : Keyword) (old : List ℕ)
     → items_of row ≡ Key (keyword_text first) ∷ drop 1 (items_of row)
     → old ++ (line_of_row row ++ 10 ∷ [])

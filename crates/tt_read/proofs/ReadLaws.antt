@@ -14,7 +14,7 @@ use Rattle.tt_read.specs.Reading.{row_of}
 use Rattle.tt_read.specs.Spells.{Spells}
 use Rattle.tt_read.proofs.Found.{row_of-spells}
 
--- of a document n lines were read, which have these rows and end at this place
+-- n lines of a document were read; they have these rows and end at this place
 pub record Passed (bytes : List ℕ) (lines at : ℕ) (rows : List NumberedRow) : Type 0 where
   pub read : rows_of 1 (lines_of bytes) ≡ rows ++ rows_of (lines + 1) (lines_of (drop at bytes))
   pub good : first_fault 1 (lines_of bytes) ≡ first_fault (lines + 1) (lines_of (drop at bytes))
@@ -51,7 +51,7 @@ sound_rows line (first ∷ rest) =
     sound_then line (words_of first.text) (row_of_words (words_of first.text)) (rows_of (line + 1) rest) refl
     (sound_rows (line + 1) rest)
 
--- rows that ascend from after a line also do with one of that line in front, or none
+-- rows that ascend from after a line still ascend with a row of that line before them, or with none
 ascend_then : (least line : ℕ) (o : Option Row) (rows : List NumberedRow) → least ≤ line
     → ((low : ℕ) → low ≤ line + 1 → ascend_from low rows ≡ true) → ascend_from least (row_then line o rows) ≡ true
 ascend_then least line None rows low later = later least (omega arith)

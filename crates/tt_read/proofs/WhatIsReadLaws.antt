@@ -1,4 +1,4 @@
--- What is read of a document, said of all its lines at once.
+-- What reading a document gives, for all its lines at once.
 use Rattle.std.proofs.Common.{◌≡◌, ◌↔◌, ℕ, zero, suc, ◌+◌, ◌<◌, ◌≤◌, Bool, true, false, not, cond, List, [], ◌∷◌, length, Option, Some, None, refl, sym, ap, ◌∙◌, subst, arith}
 use Rattle.std.specs.Prelude.{nat_lt, slice_get, is_some, Contains}
 use Rattle.std.specs.List.{list_all}
@@ -41,7 +41,7 @@ fault_from (Some line_kind.Long) words = Some kind.Long
 fault_from (Some line_kind.Cut) words = Some kind.Cut
 fault_from None words = words
 
--- no fault with a smaller number, where those before it are none
+-- no fault has a smaller number than n, where each one with a smaller number is ruled out by itself
 none_before : (line : Line) (n : ℕ) → n ≤ 4 → (1 < n → HasFault line kind.Byte → ⊥)
     → (2 < n → HasFault line kind.Long → ⊥)
     → (3 < n → HasFault line kind.Cut → ⊥) → (other : FormKind) → number_of_kind other < n → HasFault line other → ⊥
@@ -86,7 +86,7 @@ least_found {line} true false true words fault tests found =
           (λ less has. false≢true (sym (tests.by_end.1 has)));
     })
 
--- where the tests find none there is none
+-- where the tests find no fault, the line has none
 good_found : {line : Line} (plain long ended : Bool) (words : Option FormKind) → Decide line plain long ended words
     → fault_from (line_fault plain long ended) words ≡ None → IsGood line
 good_found false long ended words tests found fault has = cc
@@ -158,7 +158,7 @@ all_good_then n line lines None later is none rest zero other there =
     let one : line ≡ other = cc in subst IsGood one (fault_of_line-none line is)
 all_good_then n line lines None later is none rest (suc place) other there = rest none place other there
 
--- where there is no first fault no line has one
+-- where there is no first fault, no line has a fault
 all_good : (n : ℕ) (lines : List Line) → first_fault n lines ≡ None → (place : ℕ) (line : Line)
     → slice_get lines place ≡ Some line → IsGood line
 all_good n [] none place line there = cc
@@ -239,7 +239,7 @@ spelled_then n line lines (Some found) rows row is later (zero, below, same) =
 spelled_then n line lines (Some found) rows row is later (suc k, below, same) =
     spelled_later (later (k, omega arith, same))
 
--- each row of the rows is spelled by its line
+-- each row that is read is spelled by its line
 rows_of-spelled : (n : ℕ) (lines : List Line) (row : NumberedRow) → Contains (rows_of n lines) row
     → IsSpelledIn n lines row
 rows_of-spelled n [] row (k, below, same) = absurd (omega arith)

@@ -1,4 +1,4 @@
--- What the words of a line are to a document.
+-- What the words of a line mean in a document.
 use Rattle.std.specs.Prelude.{ℕ, List, Bool, true, false, Option, Some, None}
 use Rattle.tt_rows.specs.declared.row.Row.{Row}
 use Rattle.tt_read.specs.declared.document.Content.{Content}

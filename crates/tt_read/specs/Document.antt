@@ -11,11 +11,11 @@ use Rattle.tt_read.specs.declared.form.FormKind.TheVariants as kind
 use Rattle.tt_read.specs.FormKind.{kind_of}
 use Rattle.tt_read.specs.Reading.{row_of}
 
--- the row of a line's words, where they are one
+-- a line's words as a row, if they are one
 abbrev pub row_of_words : List (List ℕ) → Option Row
 row_of_words words = if is_comment words then None else row_of words
 
--- a line without a fault of its bytes is faulty where its words are no row and no comment
+-- a line whose bytes have no fault is faulty where its words are neither a row nor a comment
 abbrev pub word_fault : List (List ℕ) → Option FormKind
 word_fault words = if is_comment words then None else (if is_some (row_of words) then None else Some kind.Row)
 
@@ -36,7 +36,7 @@ abbrev pub fault_or : ℕ → Option FormKind → Option Fault → Option Fault
 fault_or n (Some k) later = Some (record { line = n; kind = k })
 fault_or n None later = later
 
--- the first fault of lines that are numbered from this one on
+-- the first fault of lines that are numbered from this number on
 abbrev pub first_fault : ℕ → List Line → Option Fault
 first_fault n [] = None
 first_fault n (line ∷ lines) = fault_or n (fault_of_line line) (first_fault (n + 1) lines)
@@ -45,7 +45,7 @@ abbrev pub row_then : ℕ → Option Row → List NumberedRow → List NumberedR
 row_then n None rows = rows
 row_then n (Some row) rows = record { line = n; row = row } ∷ rows
 
--- the rows of lines that are numbered from this one on
+-- the rows of lines that are numbered from this number on
 abbrev pub rows_of : ℕ → List Line → List NumberedRow
 rows_of n [] = []
 rows_of n (line ∷ lines) = row_then n (row_of_words (words_of line.text)) (rows_of (n + 1) lines)
@@ -59,7 +59,7 @@ abbrev pub document_by : Option Fault → List NumberedRow → Document
 document_by None rows = Rows rows
 document_by (Some fault) rows = Faulty fault
 
--- the document of a text: its first fault, or where no line has one, its rows
+-- the document of a text: its first fault, or its rows where no line has a fault
 abbrev pub document_of : List ℕ → Document
 document_of bytes = document_by (first_fault 1 (lines_of bytes)) (rows_of 1 (lines_of bytes))
 
@@ -67,7 +67,7 @@ document_of bytes = document_by (first_fault 1 (lines_of bytes)) (rows_of 1 (lin
 abbrev pub canonical_text : List NumberedRow → List ℕ
 canonical_text rows = flat_map (λ (row : NumberedRow). line_of_row row.row ++ 10 ∷ []) rows
 
--- the same rows in lines of their own, from this number on
+-- the same rows, in consecutive lines from this number on
 abbrev pub numbered_from : ℕ → List NumberedRow → List NumberedRow
 numbered_from n [] = []
 numbered_from n (row ∷ rows) = record { line = n; row = row.row } ∷ numbered_from (n + 1) rows

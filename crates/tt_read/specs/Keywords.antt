@@ -51,6 +51,6 @@ keywords =
     ∷ k.Arrive ∷ k.Time ∷ k.Work
     ∷ k.Take ∷ k.Set ∷ k.If ∷ k.Else ∷ k.Repeat ∷ k.End ∷ k.Out ∷ k.Switch ∷ k.Sync ∷ k.Chain ∷ k.Terminate ∷ []
 
--- the word of the language that a text is
+-- a text as a word of the language
 unfoldable pub keyword_of : List ℕ → Option Keyword
 keyword_of text = find (λ keyword. bytes_eq text (keyword_text keyword)) keywords

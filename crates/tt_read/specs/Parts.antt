@@ -1,4 +1,4 @@
--- What is put of a row's line, part by part.
+-- A row's line as it is put, part by part.
 use Rattle.std.specs.Prelude.{ℕ, List, ◌∷◌}
 use Rattle.std.specs.List.{flat_map}
 use Rattle.tt_rows.specs.declared.row.Term.{Term}
@@ -7,7 +7,7 @@ use Rattle.tt_read.specs.Keywords.{keyword_text}
 use Rattle.tt_read.specs.declared.showing.Part.{Part}
 use Rattle.tt_read.specs.declared.showing.Part.TheVariants as part
 
--- what a part is
+-- a part as an item
 abbrev pub item_of : Part → Item
 item_of (part.Key keyword) = Key (keyword_text keyword)
 item_of (part.Number n) = Number n

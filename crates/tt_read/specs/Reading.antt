@@ -1,4 +1,4 @@
--- The row that the words of a line are, read from left to right.
+-- The words of a line as a row, read from left to right.
 use Rattle.std.specs.Prelude.{ℕ, ◌+◌, ◌-◌, ℤ, nat_le, List, [], ◌∷◌, length, Option, Some, None, option_map, if◌then◌else◌, find}
 use Rattle.std.specs.Str.{bytes_eq}
 use Rattle.task_lang.specs.declared.syntax.Op.{Op}
@@ -19,7 +19,7 @@ use Rattle.tt_read.specs.Keywords.{keyword_of}
 abbrev pub ops : List Op
 ops = Add ∷ Sub ∷ Mul ∷ Less ∷ AtMost ∷ Same ∷ Differ ∷ []
 
--- the operator that a word is
+-- a word as an operator
 unfoldable pub op_of : List ℕ → Option Op
 op_of text = find (λ op. bytes_eq text (op_word op)) ops
 
@@ -28,7 +28,7 @@ op_or_operand (Some op) integer text = Some (term.Op op)
 op_or_operand None (Some value) text = Some (term.Int value)
 op_or_operand None None text = if is_name text then Some (term.Name text) else None
 
--- the term that a word is: an operator, an integer or a name
+-- a word as a term: an operator, an integer or a name
 unfoldable pub term_of : List ℕ → Option Term
 term_of text = op_or_operand (op_of text) (integer_of text) text
 
@@ -37,12 +37,12 @@ term_in_front (Some term) (Some terms) = Some (term ∷ terms)
 term_in_front (Some term) None = None
 term_in_front None terms = None
 
--- the terms that words are
+-- words as terms
 abbrev pub terms_of : List (List ℕ) → Option (List Term)
 terms_of [] = Some []
 terms_of (word ∷ words) = term_in_front (term_of word) (terms_of words)
 
--- gives the row that words are, if they are one
+-- gives words as a row, if they are one
 abbrev pub Reader : Type 0
 Reader = List (List ℕ) → Option Row
 
@@ -55,7 +55,7 @@ unfoldable pub stop : Row → List (List ℕ) → Option Row
 stop row [] = Some row
 stop row (word ∷ words) = None
 
--- this row, where nothing more follows, and else what the next reader gives
+-- this row where nothing more follows, otherwise what the next reader gives
 unfoldable pub stop_or : Row → Reader → List (List ℕ) → Option Row
 stop_or row next [] = Some row
 stop_or row next (word ∷ words) = next (word ∷ words)
@@ -65,7 +65,7 @@ abbrev pub finish : Option Row → List (List ℕ) → Option Row
 finish None words = None
 finish (Some row) words = stop row words
 
--- what the first word is
+-- what the first word is read as
 abbrev pub first_by : {A : Type 0} → (List ℕ → Option A) → List (List ℕ) → Option A
 first_by read [] = None
 first_by read (word ∷ words) = read word
@@ -83,7 +83,7 @@ with_some next (Some value) words = next value words
 unfoldable pub one : {A : Type 0} → (List ℕ → Option A) → (A → Reader) → List (List ℕ) → Option Row
 one read next words = with_some next (first_by read words) (rest_of words)
 
--- the name that a word is
+-- a word as a name
 abbrev pub name_of : List ℕ → Option (List ℕ)
 name_of word = if is_name word then Some word else None
 
@@ -99,7 +99,7 @@ integer next = one integer_of next
 abbrev pub name : (List ℕ → Reader) → Reader
 name next = one name_of next
 
--- how many expressions are still to come after a term, where n were to come with it
+-- how many expressions are still expected after a term, where n were before it
 abbrev pub expected_after : Term → ℕ → ℕ
 expected_after (term.Int value) expected = expected - 1
 expected_after (term.Name name) expected = expected - 1
@@ -180,10 +180,10 @@ after_first k.If = expression (λ terms. r.If terms)
 after_first k.Out = expression (λ terms. r.Out terms)
 after_first key = plain_after key
 
--- the row that words are, however long its line is
+-- words as a row, whatever the length of its line
 abbrev pub row_by_words : List (List ℕ) → Option Row
 row_by_words words = keyword after_first words
 
--- the row that the words of a line are
+-- words as a row, where a line of at most 200 bytes can have them
 unfoldable pub row_of : List (List ℕ) → Option Row
 row_of words = if nat_le (length (joined words)) 200 then row_by_words words else None

@@ -1,4 +1,4 @@
--- What is read of a document, said of all its lines at once: which lines have a fault, and which rows its lines spell.
+-- What reading a document gives, for all its lines at once: which lines have a fault, and which rows its lines spell.
 use Rattle.std.specs.Prelude.{◌≡◌, ◌↔◌, ℕ, ◌+◌, ◌<◌, true, false, List, Some, length, slice_get, Contains}
 use Rattle.std.specs.List.{list_all}
 use Rattle.tt_doc.specs.Lines.{Line, is_plain_byte}
@@ -35,7 +35,7 @@ pub record HasLeastFault (line : Line) (fault : FormKind) : Type 0 where
   pub has : HasFault line fault
   pub least : (other : FormKind) → number_of_kind other < number_of_kind fault → HasFault line other → ⊥
 
--- a row is spelled by the line that has its number, where the first line has this one
+-- a row is spelled by the line that has its number; the first line has the number `first`
 pub record IsSpelledIn (first : ℕ) (lines : List Line) (row : NumberedRow) : Type 0 where
   pub place : ℕ
   pub line : Line
@@ -49,7 +49,7 @@ pub record AreReadAs (lines : List Line) (rows : List NumberedRow) : Type 0 wher
   pub spelled : (row : NumberedRow) → Contains rows row ↔ IsSpelledIn 1 lines row
   pub in_order : ascend_from 1 rows ≡ true
 
--- the line that has this number has a fault, of which this is the least, and no line before it has one
+-- the line with the fault's number has it as its least fault, and no line before it has a fault
 pub record IsFirstFault (first : ℕ) (lines : List Line) (fault : Fault) : Type 0 where
   pub place : ℕ
   pub line : Line

@@ -16,7 +16,7 @@ use tt_base::Memory;
 use tt_doc::{LineStep, Span, next_line};
 use tt_rows::{NumberedRow, Row, Rows};
 
-/// What the words of a line are to a document.
+/// What the words of a line mean in a document.
 #[derive(Drop)]
 enum Content {
     /// No words, or a comment.
@@ -79,8 +79,8 @@ fn read_line(
 /// How many bytes the line of a row has at least, with its LF.
 const LEAST_BYTES: usize = 4;
 
-/// The empty list, with room for the rows of as many bytes: a list that grows would be copied, and
-/// room that is not used is never touched.
+/// The empty list, with room for the rows that this many bytes can have. A list that grows would be
+/// copied, and room that is not used is never touched.
 fn no_rows(alloc: Global, bytes: usize) -> Result<Rows, Memory>
     ensures { IfOk result (λ rows. rows ≡ []) }
 {
@@ -89,10 +89,10 @@ fn no_rows(alloc: Global, bytes: usize) -> Result<Rows, Memory>
 
 /// The rows of a document, or what is wrong with its form.
 ///
-/// A document is a list of lines, each of which a LF ends. A line has words with spaces around
-/// them. Where it has none, or the first begins with `#`, it is no row, and else its words are a
-/// row. What is wrong is the first line that has a fault, with its least kind. The rows come with
-/// the numbers of their lines, counted from 1.
+/// A document is a list of lines, each ended by a LF. A line has words with spaces around them. A
+/// line without words, or whose first word begins with `#`, is no row; the words of any other line
+/// are a row. A fault names the first line that has one, and its least kind. The rows come with the
+/// numbers of their lines, counted from 1.
 pub fn read(alloc: Global, bytes: &[u8]) -> Result<Rows, FormFault>
     requires { length bytes.now < 2 ^ 32 }
 

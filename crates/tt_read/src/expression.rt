@@ -10,7 +10,7 @@ use tt_base::{Memory, Name};
 use tt_doc::integer;
 use tt_rows::{Term, Terms};
 
-/// The operator that a word is.
+/// A word as an operator.
 #[tactic(auto, unfolding(crate::specs::Reading::op_of))]
 fn operator(word: &[u8]) -> Option<Op>
     ensures { result ≡ op_of word.now }
@@ -27,7 +27,7 @@ fn operator(word: &[u8]) -> Option<Op>
     }
 }
 
-/// The term that a word is: an operator, an integer or a name.
+/// A word as a term: an operator, an integer or a name.
 #[tactic(auto, unfolding(crate::specs::Reading::term_of))]
 pub fn term(word: &[u8]) -> Option<Term>
     ensures { result ≡ term_of word.now }
@@ -41,7 +41,7 @@ pub fn term(word: &[u8]) -> Option<Term>
     Name::new(word).map(Term::Name)
 }
 
-/// How many expressions are still to come after a term, where `expected` were to come with it.
+/// How many expressions are still expected after a term, where `expected` were before it.
 fn expected_after(term: &Term, expected: u8) -> u8
     requires some { 0 < expected }
     requires few { expected ≤ 101 }
@@ -53,7 +53,7 @@ fn expected_after(term: &Term, expected: u8) -> u8
     }
 }
 
-/// All words that are left, where they are one expression.
+/// All words that are left, if they are one expression.
 pub fn expression(alloc: Global, words: &mut Cursor) -> Result<Option<Terms>, Memory>
     requires { length words.old ≤ 100 }
     ensures value { IfOk result (λ terms. terms ≡ expression_of (terms_of words.old)) }

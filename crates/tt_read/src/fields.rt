@@ -11,8 +11,8 @@ use std::alloc::Global;
 use tt_base::{Memory, Name};
 use tt_rows::Row;
 
-/// The row of a first word and the fields after it, where they are one. Words may be left after
-/// the fields.
+/// The row that a first word and the fields after it make, if they make one. Words may be left
+/// after the fields.
 fn plain_row(first: Keyword, words: &mut Cursor) -> Option<Row>
     ensures { finish result words.new ≡ plain_after first words.old }
 {
@@ -130,8 +130,8 @@ fn set(alloc: Global, words: &mut Cursor) -> Result<Option<Row>, Memory>
     Ok(terms.map(|terms| Row::Set(var, terms)))
 }
 
-/// The row of a first word and the fields after it, where they are one. Words may be left after
-/// the fields.
+/// The row that a first word and the fields after it make, if they make one. Words may be left
+/// after the fields.
 fn row(alloc: Global, first: Keyword, words: &mut Cursor) -> Result<Option<Row>, Memory>
     requires { length words.old ≤ 100 }
     ensures { IfOk result (λ row. finish row words.new ≡ after_first first words.old) }
@@ -144,7 +144,7 @@ fn row(alloc: Global, first: Keyword, words: &mut Cursor) -> Result<Option<Row>,
     }
 }
 
-/// The row that words are, where they are one.
+/// Words as a row, if they are one.
 pub fn row_of(alloc: Global, words: &mut Cursor) -> Result<Option<Row>, Memory>
     requires { length words.old ≤ 100 }
     ensures { IfOk result (λ row. row ≡ row_by_words words.old) }

@@ -8,7 +8,7 @@ use thiserror::Error;
 use tt_base::Memory;
 use tt_doc::LineKind;
 
-/// What a line has wrong. Where it has several faults, the first of this order counts.
+/// What can be wrong with a line. Of several faults, the first in this order counts.
 #[derive(Clone, Copy, Debug, PartialEq, Eq)]
 pub enum FormKind {
     /// A byte outside 0x20 to 0x7E.
@@ -24,7 +24,7 @@ pub enum FormKind {
 /// Why a document was not read.
 #[derive(Clone, Copy, Debug, PartialEq, Eq, Error)]
 pub enum FormFault {
-    /// Want of memory.
+    /// Out of memory.
     #[error("out of memory")]
     Memory,
     /// The first line that has a fault, counted from 1, and its least kind.

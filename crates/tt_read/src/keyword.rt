@@ -46,7 +46,7 @@ pub enum Keyword {
 }
 
 impl Keyword {
-    /// The word of the language that a text is.
+    /// A text as a word of the language.
     #[tactic(auto, unfolding(crate::specs::Keywords::keyword_of))]
     pub fn new(text: &[u8]) -> Option<Keyword>
         ensures { result ≡ keyword_of text.now }

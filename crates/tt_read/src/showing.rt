@@ -281,7 +281,7 @@ fn put_many_fields<O: Sink>(row: &Row, buffer: &mut Buffer, sink: &mut O) -> Res
     }
 }
 
-/// Puts the fields of an activation's line, of which this word of the language is the last.
+/// Puts the fields of an activation's line. This word of the language is the last of them.
 fn put_activation<O: Sink>(
     offset: u64,
     mode: Name,
@@ -338,7 +338,7 @@ fn put_rows<O: Sink>(
     Ok(())
 }
 
-/// Writes the canonical text of the rows: a line for each, of its words with one space between
+/// Writes the canonical text of the rows: one line for each row, its words with one space between
 /// them. It takes no memory. After a fault a proper prefix of the text was written.
 pub fn show<O: Sink>(rows: &Rows, sink: &mut O) -> Result<(), WriteFault>
     ensures ok { OnOk result (Appends (O.written sink.old) (O.written sink.new)

@@ -9,8 +9,8 @@ use Rattle.tt_rows.specs.declared.row.Row.{Row}
 use Rattle.tt_rows.specs.declared.row.NumberedRow.{NumberedRow}
 use Rattle.tt_rows.specs.Spelling.{Item, Key, Number, Named, Integer, Expression, items_of, line_of_row}
 
--- n expressions in prefix form, one after the other: an integer or a name is one, and an operator with the two
--- expressions after it is one
+-- n expressions in prefix form, one after another. An integer or a name is an expression; so is an operator with the
+-- two expressions after it
 abbrev pub are_expressions : ℕ → List Term → Bool
 are_expressions zero [] = true
 are_expressions zero (first ∷ rest) = false
@@ -29,7 +29,7 @@ is_sound_term (term.Int value) = is_integer value
 is_sound_term (term.Name name) = is_name name
 is_sound_term (term.Op op) = true
 
--- numbers are below 10^12, names are names, integers have 32 signed bits, and an expression is just one
+-- numbers are below 10^12, names are names, integers have 32 signed bits, and terms are exactly one expression
 abbrev pub is_sound_item : Item → Bool
 is_sound_item (Key word) = true
 is_sound_item (Number n) = nat_lt n (10 ^ 12)
@@ -37,16 +37,16 @@ is_sound_item (Named name) = is_name name
 is_sound_item (Integer value) = is_integer value
 is_sound_item (Expression terms) = list_all is_sound_term terms && are_expressions 1 terms
 
--- a row that a line of at most 200 bytes can be
+-- a row that can be written in a line of at most 200 bytes
 abbrev pub is_sound_row : Row → Bool
 is_sound_row row = list_all is_sound_item (items_of row) && nat_le (length (line_of_row row)) 200
 
--- lines ascend strictly from this one on
+-- line numbers ascend strictly, from at least this one
 abbrev pub ascend_from : ℕ → List NumberedRow → Bool
 ascend_from least [] = true
 ascend_from least (row ∷ rows) = nat_le least row.line && ascend_from (suc row.line) rows
 
--- rows that a document can have: each is one of a line, and their lines ascend strictly from at least 1
+-- rows that a document can have: each can be a line, and their line numbers ascend strictly, from at least 1
 pub record AreSound (rows : List NumberedRow) : Type 0 where
   pub ascending : ascend_from 1 rows ≡ true
   pub sound : list_all (λ (row : NumberedRow). is_sound_row row.row) rows ≡ true

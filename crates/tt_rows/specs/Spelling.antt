@@ -1,4 +1,4 @@
--- How each row is spelled: one table, from which both reading and showing go.
+-- How each row is spelled: one table, for both reading and showing.
 use Rattle.std.specs.Prelude.{ℕ, ℤ, List, [], ◌∷◌, ◌++◌, map, flat_map, codes, decimal}
 use Rattle.std.specs.Fmt.{signed_decimal}
 use Rattle.task_lang.specs.declared.syntax.Op.{Op}

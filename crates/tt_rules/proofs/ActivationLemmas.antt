@@ -1,4 +1,4 @@
--- A set of the keys of activations has one in a range exactly where an activation comes between.
+-- A set of the keys of activations has one in a range exactly where an activation comes between offset and deadline.
 use Rattle.std.proofs.Common.{◌≡◌, ℕ, ◌+◌, ◌<◌, ◌≤◌, Bool, true, false, cond, not, List, [], ◌∷◌, ◌++◌, length, take, get_or, Option, Some, None, refl, ap, sym, ◌∙◌, arith, ⊎_elim}
 use Rattle.std.specs.Prelude.{◌||◌, ◌&&◌, ◌==◌, nat_lt, filter, is_some, MatchOption}
 use Rattle.std.specs.List.{list_any}
@@ -45,7 +45,7 @@ owners_equal x y =
     is_eq-then (nat_cmp x.0 y.0) (nat_cmp x.1 y.1) ∙ ap (λ b. b && is_eq (nat_cmp x.1 y.1)) (same_numbers x.0 y.0)
     ∙ ap (λ b. (x.0 == y.0) && b) (same_numbers x.1 y.1)
 
--- keys that are equal are one
+-- keys that compare equal are equal
 exact : (x y : Key) → eq_by_cmp key_cmp x y ≡ true → x ≡ y
 exact x y is =
     let owners = ordering_then (nat_cmp x.0 y.0) (nat_cmp x.1 y.1) in
@@ -81,7 +81,7 @@ range-between key deadline other =
     ∙ ap (λ b. same && (b && not (is_le (nat_cmp deadline other.2)))) (above_offset key.2 other.2)
     ∙ ap (λ b. same && (nat_lt key.2 other.2 && b)) (below_deadline deadline other.2)
 
--- a range that begins after an offset and ends at a later one
+-- the range that begins after an offset and ends at a later one
 pub key-upto : (mode task offset deadline : ℕ) → offset < deadline
     → is_gt (key_cmp (mode, task, offset + 1) (mode, task, deadline)) ≡ false
 key-upto mode task offset deadline lt =
@@ -92,7 +92,7 @@ key-upto mode task offset deadline lt =
       numbers : is_gt (nat_cmp (offset + 1) deadline) ≡ false
       numbers = grind (arith, nat_tests)
 
--- an iterator that yields a list in order has a first item where the list has
+-- an iterator over a list in order has a first item where the list has one
 pub first-some : {A B : Type 0} (shown : B → A) (next : Option B) (all rest : List A)
     → MatchOption next ((all ≡ []) × (rest ≡ [])) (λ b. all ≡ shown b ∷ rest) → is_some next ≡ nat_lt 0 (length all)
 first-some shown None all rest steps = ap (λ xs. nat_lt 0 (length xs)) (sym steps.0)
@@ -100,7 +100,7 @@ first-some shown (Some b) all rest steps = some ∙ ap (λ xs. nat_lt 0 (length 
   some : true ≡ nat_lt 0 (length (shown b ∷ rest))
   some = grind (arith, nat_tests)
 
--- the keys that pass a test are some exactly where one passes
+-- where two tests agree, some item passes the one exactly where the other leaves an item
 pub some-filter : {A : Type 0} (p q : A → Bool) (xs : List A) → ((x : A) → p x ≡ q x)
     → list_any q xs ≡ nat_lt 0 (length (filter p xs))
 some-filter p q [] same = refl
@@ -141,7 +141,7 @@ any-push p (y ∷ xs) x = ap (λ b. p y || b) (any-push p xs x) ∙ turned (p y)
   turned true false c = refl
   turned false b c = refl
 
--- one entry more
+-- one more entry
 pub keys-more : (set new : BTreeSet Key) (entries : List (At Entry)) (k : ℕ) (x : At Entry) (key : Option Key)
     → k < length entries
     → key ≡ key_of (get_or entries k x).part → HasKeys set (take k entries)
@@ -180,7 +180,7 @@ passes p key (x ∷ xs) is any = ⊎_elim
     (λ there. or_right (p x) (list_any p xs) (passes p key xs is there))
     (or_cases (eq_by_cmp key_cmp key x) (list_any (eq_by_cmp key_cmp key) xs) any)
 
--- the same of the keys that entries have
+-- the same for the keys that entries have
 abbrev passing : (Key → Bool) → At Entry → Bool
 passing p x = passes_key p (key_of x.part)
 
@@ -217,7 +217,7 @@ alike true b to from = sym (to refl)
 alike false true to from = from refl
 alike false false to from = refl
 
--- a set that has the keys of entries passes a test where they do
+-- in a set that has the keys of entries, some key passes a test where one of the entries' keys does
 has_passing : (set : BTreeSet Key) (xs : List (At Entry)) (p : Key → Bool) → HasKeys set xs
     → list_any p set.keys ≡ list_any (passing p) xs
 has_passing set xs p has = alike (list_any p set.keys) (list_any (passing p) xs)
@@ -247,14 +247,14 @@ none-between : (e : ModeNo) (f : _) (xs : List Entry) → list_any (comes_betwee
 none-between e f [] = refl
 none-between e f (x ∷ xs) = none-between e f xs
 
--- an activation is apart by a set of the keys of entries exactly where it clashes with none of them
+-- by a set of the keys of entries, an activation is apart exactly where it clashes with none of the entries
 pub apart-exactly : (set : BTreeSet Key) (xs : List (At Entry)) → HasKeys set xs → (x : Entry)
     → is_apart set.keys x ≡ is_clear comes_between (parts xs) x
 apart-exactly set xs has (entry.Activates mode a) =
     ap not (has_passing set xs (comes_between_key (mode.0, a.task.0, a.offset) a.deadline) has ∙ any-between mode a xs)
 apart-exactly set xs has (entry.Enables mode e) = sym (ap not (none-between mode e (parts xs)))
 
--- tests that answer alike give the same lines
+-- tests that agree give the same lines
 pub failing-same : {A : Type 0} (test other : A → Bool) (xs : List (At A)) → ((x : A) → test x ≡ other x)
     → failing test xs ≡ failing other xs
 failing-same test other [] same = refl

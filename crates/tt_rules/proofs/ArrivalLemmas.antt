@@ -1,4 +1,4 @@
--- The latest arrival of each source tells whether one is after all above of its source.
+-- The latest arrival of each source decides whether an arrival is after all above of its source.
 use Rattle.std.proofs.Common.{◌≡◌, ℕ, ◌+◌, ◌<◌, ◌≤◌, Bool, true, false, not, List, [], ◌∷◌, ◌++◌, length, drop, get_or, Option, Some, None, refl, ap, sym, ◌∙◌, arith, if◌then◌else◌}
 use Rattle.std.proofs.lemmas.List.{append-nil, at_drop_all, at_drop_more}
 use Rattle.tt_parts.specs.declared.located.At.{At}
@@ -13,7 +13,7 @@ use Rattle.tt_rules.specs.InputRules.{is_not_after, is_same_source, is_same_thin
 use Rattle.tt_rules.specs.Latest.{is_after, is_thing, latest_at, latest_in, latest_then, thing_of}
 use Rattle.tt_rules.specs.Shapes.{is_new, repeating}
 
--- one arrival more, of the thing or of another
+-- one more arrival, of the same thing or of another
 late-step : (it : Bool) (tick other : ℕ) (latest : Option ℕ)
     → ((it && nat_le tick other) || not (is_after tick latest)) ≡ not (is_after tick (latest_then it other latest))
 late-step false tick other latest = refl
@@ -59,7 +59,7 @@ not-not : (b : Bool) → not (not b) ≡ b
 not-not true = refl
 not-not false = refl
 
--- one is after all above of its source exactly where it is after the latest
+-- an arrival is after all above of its source exactly where it is after the latest
 pub after-exactly : (x : Arrival) (above : List Arrival) (found : (ℕ × ℕ) → Option ℕ)
     → ((q : ℕ × ℕ) → found q ≡ latest_in q above)
     → is_after x.tick (latest_at found x.source) ≡ is_new is_not_after above x
@@ -71,7 +71,7 @@ after-exactly x above found has = by x.source where
   by (Some d) = ap (is_after x.tick) (has (thing_of d))
       ∙ sym (ap not (late x.tick d above) ∙ not-not (is_after x.tick (latest_in (thing_of d) above)))
 
--- of some arrivals the first are read: the map has the latest of each source, and the least line so far is this
+-- the first k arrivals are read: the map has the latest of each source, and the least line so far is this one
 pub record AreNoted (found : (ℕ × ℕ) → Option ℕ) (least : Option ℕ) (xs : List (At Arrival)) (k : ℕ) : Type 0 where
   pub above : List Arrival
   pub has : (q : ℕ × ℕ) → found q ≡ latest_in q above

@@ -66,7 +66,7 @@ module _ {A : Type 0} (R : A → A → Type 0) where
   pairs_append [] ys h k across = k
   pairs_append (x ∷ xs) ys h k across = (each_append (R x) xs ys h.0 across.0, pairs_append xs ys h.1 k across.1)
 
-  -- what holds of each two, whichever comes first
+  -- what holds of each two elements, in either order
   pub pairs_of_all : (xs : List A) → Each (λ x. Each (R x) xs) xs → Pairs (λ x y. R x y × R y x) xs
   pairs_of_all [] h = tt
   pairs_of_all (x ∷ xs) h = (
@@ -83,7 +83,7 @@ module _ {X A : Type 0} (f : X → List A) where
   each_flat_map P Q gives (x ∷ xs) h =
       each_append Q (f x) (flat_map f xs) (gives x h.0) (each_flat_map P Q gives xs h.1)
 
-  -- what one of the lists has with each of those that the others give
+  -- what holds between the list of one element and the lists of the others
   across : (R : X → X → Type 0) (S : A → A → Type 0) → ((x y : X) → R x y → Each (λ a. Each (S a) (f y)) (f x))
       → (x : X) (xs : List X) → Each (R x) xs → Each (λ a. Each (S a) (flat_map f xs)) (f x)
   across R S gives x [] h = each_always (λ a. Each (S a) []) (λ a. tt) (f x)
@@ -101,7 +101,7 @@ module _ {X A : Type 0} (f : X → List A) where
       pairs_append S (f x) (flat_map f xs) (inside x) (pairs_flat_map R S gives inside xs h.1)
       (across R S gives x xs h.0)
 
--- what holds of each holds of the one at a place
+-- what holds of each element holds of the one at a place
 pub each_index : {A : Type 0} (P : A → Type 0) (xs : List A) (k : ℕ) (x : A) → k < length xs → Each P xs
     → P (get_or xs k x)
 each_index P [] k x lt h = absurd (omega arith)

@@ -62,7 +62,7 @@ module _ {A : Type 0} where
       ∙ ap (λ b. b && is_none (breaking_one first rules xs)) (kept-exactly first rule xs)
       ∙ ap (λ b. keeps rule (parts xs) && b) (each_kept-exactly first rules xs)
 
-  -- parts keep some rules that no line breaks
+  -- where no line breaks some rules, the parts keep them
   pub kept : (first : ℕ) (rules : List (Shape A)) (xs : List (At A)) → breaking_one first rules xs ≡ []
       → keeps_each rules (parts xs) ≡ true
   kept first rules xs is = sym (each_kept-exactly first rules xs) ∙ ap is_none is
@@ -71,7 +71,7 @@ module _ {A : Type 0} where
       → keeps rule (parts xs) ≡ true
   kept_one first rule xs is = sym (kept-exactly first rule xs) ∙ ap is_none is
 
--- no line of two lists
+-- where two lists together have no line, the first has none
 pub none_left : (lines others : List ℕ) → lines ++ others ≡ [] → lines ≡ []
 none_left [] others is = refl
 none_left (line ∷ lines) others is = cc
@@ -80,7 +80,7 @@ pub none_right : (lines others : List ℕ) → lines ++ others ≡ [] → others
 none_right [] others is = is
 none_right (line ∷ lines) others is = cc
 
--- the parts of those that pass a test
+-- the parts of the entries that pass a test
 pub filter_at-parts : {A : Type 0} (test : A → Bool) (xs : List (At A))
     → parts (filter_at test xs) ≡ filter test (parts xs)
 filter_at-parts test [] = refl

@@ -17,7 +17,7 @@ lesser_of-assoc (Some a) None c = refl
 lesser_of-assoc (Some a) (Some b) None = refl
 lesser_of-assoc (Some a) (Some b) (Some c) = let same : min (min a b) c ≡ min a (min b c) = omega arith in ap Some same
 
--- the least of two lists of lines is the lesser of their leasts
+-- the least of two lists of lines is the lesser of the least of each
 pub least_line-append : (lines others : List ℕ)
     → least_line (lines ++ others) ≡ lesser_of (least_line lines) (least_line others)
 least_line-append [] others = refl
@@ -31,7 +31,7 @@ pub least_line-unless : (test : Bool) (line : ℕ) (lines : List ℕ)
 least_line-unless true line lines = refl
 least_line-unless false line lines = refl
 
--- the least of those after an element, with what was found in front of it
+-- the least of the lines after an element, together with what was found before it
 pub least-step : (test : Bool) (line : ℕ) (found found' : Option ℕ) (lines : List ℕ)
     → found' ≡ lesser_of found (least_line (line_unless test line []))
     → lesser_of found' (least_line lines) ≡ lesser_of found (least_line (line_unless test line lines))
@@ -42,7 +42,7 @@ least-step test line found found' lines is =
 
 -- ---- a loop over a list
 
--- a function of the elements from one on, at that element. Elements that a loop has not passed are `drop k xs`.
+-- a function of the elements from one on, at that element; the elements that a loop has not passed are `drop k xs`
 pub at_element : {A : Type 0} {Y : Type 0} (f : List A → Y) (xs : List A) (k : ℕ) (x : A) → k < length xs
     → x ≡ get_or xs k x → f (drop k xs) ≡ f (x ∷ drop (k + 1) xs)
 at_element f xs k x lt is = at_drop_more f xs k x lt ∙ ap (λ r. f (r ∷ drop (k + 1) xs)) (sym is)
@@ -77,13 +77,13 @@ module _ {A : Type 0} (passes : A → Bool) where
 
     module _ (least all : Option ℕ) (left : ℕ)
         (before : lesser_of least (least_line (drop left (lines (filter_at passes (drop k xs))))) ≡ all) where
-      -- one that does not pass
+      -- a part that does not pass
       pub past-other : passes x.part ≡ false
           → lesser_of least (least_line (drop left (lines (filter_at passes (drop (k + 1) xs))))) ≡ all
       past-other other = sym (ap (λ ys. lesser_of least (least_line (drop left (lines ys)))) (not_passing other))
           ∙ before
 
-      -- one of the first n
+      -- one of the first n that pass
       pub past-first : passes x.part ≡ true → 0 < left
           → lesser_of least (least_line (drop (left - 1) (lines (filter_at passes (drop (k + 1) xs))))) ≡ all
       past-first here more = by left more before where
@@ -95,7 +95,7 @@ module _ {A : Type 0} (passes : A → Bool) where
             ap (λ m. lesser_of least (least_line (drop m (lines (filter_at passes (drop (k + 1) xs)))))) less
             ∙ sym (ap (λ ys. lesser_of least (least_line (drop (suc n) (lines ys)))) (passing here)) ∙ h
 
-      -- one after them
+      -- one that passes, after the first n
       pub past-found : passes x.part ≡ true → left ≡ 0
           → lesser_of (lesser_of least (Some x.line))
           (least_line (drop left (lines (filter_at passes (drop (k + 1) xs))))) ≡ all
@@ -110,7 +110,7 @@ module _ {A : Type 0} (passes : A → Bool) where
 
 -- ---- the lines of each of some things
 
--- one thing more: the last of some, or the first of those that are left
+-- one more thing: the last of some, or the first of those that are left
 pub flat-step : {A : Type 0} (f : A → List ℕ) (xs : List A) (k : ℕ) (x : A) → k < length xs
     → (found more all : Option ℕ)
     → more ≡ lesser_of found (least_line (f (get_or xs k x)))

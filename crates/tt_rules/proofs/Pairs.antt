@@ -1,4 +1,4 @@
--- What rules on a list of parts say of each two of them.
+-- What rules on a list of parts say of each two parts.
 use Rattle.std.proofs.Common.{◌≡◌, Bool, true, false, List, [], ◌∷◌}
 use Rattle.std.specs.List.{AllByRecursion as Each, list_all, list_any}
 use Rattle.std.proofs.lemmas.Bool.{and_parts, not-true}
@@ -20,7 +20,7 @@ module _ {A : Type 0} where
       → Pairs (λ a b. same a b ≡ false) xs
   pairs_differ same xs is = (differ-all same [] xs is).1
 
-  -- no part clashes with another, whichever comes first
+  -- no part clashes with another, in either order
   pub pairs_clear : (clash : A → A → Bool) (xs : List A) → list_all (is_clear clash xs) xs ≡ true
       → Pairs (λ a b. (clash a b ≡ false) × (clash b a ≡ false)) xs
   pairs_clear clash xs is =

@@ -49,7 +49,7 @@ module _ {A : Type 0} (is_before : A → A → Bool) where
 
   -- ---- in order
 
-  -- an element does not come before one in front of it
+  -- by the order, the second is not before the first
   abbrev pub InOrder : A → A → Type 0
   InOrder x y = is_before y x ≡ false
 

@@ -64,7 +64,7 @@ opens_kind r.HookError owner is = ap (λ o. Opener (kind_or o)) is
 opens_kind r.HookShutdown owner is = ap (λ o. Opener (kind_or o)) is
 opens_kind row owner is = cc
 
--- a row stands where it may, and those after it do
+-- a row is allowed where it is, and so are those after it
 pub formed : (stack : List Open) (last : ℕ) (row : NumberedRow) (rows : List NumberedRow)
     → lines_2_from stack last (row ∷ rows) ≡ []
     → (is_misplaced stack (standing_of row.row) ≡ false)
@@ -118,7 +118,7 @@ module _ (test : OwnerKind → Head → Bool) (shallow : (k : OwnerKind) → IsS
       ∙ and_from (test k (Stmt-F.Repeat n _)) (each_in (test k) first)
       ((shallow k).turns n _ ∙ sym ((shallow k).turns n x) ∙ is) one
 
-  -- what stands in each open thing passes
+  -- the statements of each open thing pass
   abbrev Fits : List Open → OwnerKind → List Branches → Type 0
   Fits [] k rest = Unit {0}
   Fits (open_ ∷ stack) k [] = Unit {0}

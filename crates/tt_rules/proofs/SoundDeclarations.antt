@@ -80,7 +80,7 @@ counted d kind =
     ap length (filter_at-parts (is_of_kind kind) d.names)
     ∙ sym (length-map (filter (is_of_kind kind) (parts d.names)) (λ (e : NameEntry). e.name))
 
--- no line of each of some things
+-- no line for any of some things
 each_none : {A : Type 0} (f : A → List ℕ) (xs : List A) → flat_map f xs ≡ [] → Each (λ x. f x ≡ []) xs
 each_none f [] is = tt
 each_none f (x ∷ xs) is = (none_left (f x) (flat_map f xs) is, each_none f xs (none_right (f x) (flat_map f xs) is))

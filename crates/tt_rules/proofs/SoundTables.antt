@@ -30,8 +30,8 @@ pub record AreEntriesApart (a b : Entry) : Type 0 where
   pub forth : comes_between a b ≡ false
   pub back : comes_between b a ≡ false
 
--- two activations of a mode have different offsets, and the earlier has its deadline before the later, where they are
--- of one task
+-- two activations of a mode have different offsets; where they are of one task, the deadline of the earlier is not
+-- after the later
 pub record AreApart (a b : Activation) : Type 0 where
   pub differ : a.offset ≡ b.offset → ⊥
   pub forth : a.offset < b.offset → has_ended_before a b ≡ true
@@ -40,7 +40,7 @@ pub record AreApart (a b : Activation) : Type 0 where
 turned : (a b : Activation) → AreApart a b → AreApart b a
 turned a b h = record { differ = λ e. h.differ (sym e); forth = h.back; back = h.forth }
 
--- what is in one place, where a test says so
+-- a property that an item in a list has, where a test says so
 module _ {A : Type 0} (P : A → Type 0) where
   pub one : (here : Bool) (a : A) → (here ≡ true → P a) → Each P (if here then a ∷ [] else [])
   one true a has = (has refl, tt)
@@ -142,7 +142,7 @@ through : (a b c : Activation) → InOrder is_earlier a b → InOrder is_earlier
 through a b c one other = le-ltb c.offset a.offset
     (omega (arith, ltb-false b.offset a.offset one, ltb-false c.offset b.offset other))
 
--- an activation comes before another, and has its deadline before it where they are of one task
+-- an activation comes before another; where they are of one task, its deadline is not after the other
 abbrev ComesBefore : Activation → Activation → Type 0
 ComesBefore a b = (a.offset < b.offset) × (has_ended_before a b ≡ true)
 
@@ -259,7 +259,7 @@ module _ (c : ConfigParts) (modes : ℕ) (located : List (At Entry))
       and_from (nat_lt e.isr.0 (length c.isrs)) (nat_lt e.offset limit)
       (and_parts (nat_lt m.0 modes) (nat_lt e.isr.0 (length c.isrs)) fit.known).1 fit.early)
 
-  -- 14, 18 to 24. The table of each mode keeps the rules.
+  -- 14, 19 to 24. The table of each mode keeps the rules.
   mode_fits : (mode : ℕ) → length (filter (is_of mode) xs) ≤ 4096 → IsMode c (mode_with xs mode)
   mode_fits mode few =
       let acts = flat_map (activation_in mode) xs in
@@ -288,7 +288,7 @@ module _ (c : ConfigParts) (modes : ℕ) (located : List (At Entry))
         );
       }
 
-  -- no line of a number below one
+  -- no line for a number below this one
   none_below : (f : ℕ → List ℕ) (n mode : ℕ) → mode < n → flat_map f (below n) ≡ [] → f mode ≡ []
   none_below f zero mode lt is = absurd (omega arith)
   none_below f (suc n) mode lt is = by (mode == n) refl (none_below f n mode) where

@@ -11,7 +11,7 @@ AreLeast [] (rule ∷ rules) d = ⊥
 AreLeast (line ∷ lines) [] d = ⊥
 AreLeast (line ∷ lines) (rule ∷ rules) d = (line ≡ least_line (rule d)) × AreLeast lines rules d
 
--- then the first line that there is tells the first rule that is broken
+-- then the first line that is there decides the first rule that is broken
 pub first-least : (number : ℕ) (lines : List (Option ℕ)) (rules : List Rule) (d : Document) → AreLeast lines rules d
     → first_some number lines ≡ first_broken number rules d
 first-least number [] [] d least = refl

@@ -97,7 +97,7 @@ is_row_allowed kind (r.Chain task) = column kind false false true false false
 is_row_allowed kind r.Terminate = column kind false false true false false
 is_row_allowed kind row = true
 
--- the kind of the owner whose body stands after a row
+-- the kind of the owner whose body comes after a row
 abbrev pub owner_after : OwnerKind → Standing → OwnerKind
 owner_after kind (Opener other) = other
 owner_after kind standing = kind
@@ -122,18 +122,18 @@ is_hook other = false
 abbrev pub has_statement : BodyPart → Bool
 has_statement b = is_hook b.owner || nat_le 1 (length b.body)
 
--- 16. Each body of a task, an isr, an osek or an oisr has a statement: the row that opens it.
+-- 16. Each body of a task, an isr, an osek or an oisr has a statement; otherwise the row that opens it breaks the rule.
 abbrev pub lines_16 : List (At BodyPart) → List ℕ
 lines_16 bodies = breaking 1 (Every has_statement) bodies
 
 abbrev pub is_light : List Demand → BodyPart → Bool
 is_light demands b = is_hook b.owner || nat_le (worst_in demands b.body) (10 ^ 12)
 
--- 17. Its worst case is at most 10^12 ticks: the row that opens it.
+-- 17. Its worst case is at most 10^12 ticks; otherwise the row that opens it breaks the rule.
 abbrev pub lines_17 : List Demand → List (At BodyPart) → List ℕ
 lines_17 demands bodies = breaking 1 (Every (is_light demands)) bodies
 
--- a body whose worst case can be told
+-- a body whose worst case can be computed
 pub record IsTellable (demands : List Demand) (body : List Stmt) : Type 0 where
   pub nested : IsNestedInLimit body
   pub counted : IsCountInLimit body

@@ -46,11 +46,11 @@ oisr_priority_of other = None
 abbrev pub same_number : ℕ → ℕ → Bool
 same_number a b = a == b
 
--- the lines of the owners whose number is that of one above
+-- the lines of the owners that have the same number as one above
 abbrev pub lines_same : (Owner → Option ℕ) → List (At BodyPart) → List ℕ
 lines_same number_of bodies = breaking 1 (Differ (same_by same_number (λ (b : BodyPart). number_of b.owner))) bodies
 
--- 10. Levels of interrupt service routines differ: a row with a level above.
+-- 10. Levels of interrupt service routines differ; a row with the level of one above breaks it.
 abbrev pub lines_10 : List (At BodyPart) → List ℕ
 lines_10 bodies = lines_same level_of bodies
 
@@ -70,7 +70,7 @@ abbrev pub is_shutdown_hook : Owner → Bool
 is_shutdown_hook owner.ShutdownHook = true
 is_shutdown_hook other = false
 
--- the lines of the owners that pass a test, but for the first of them
+-- the lines of the owners that pass a test, without the first of them
 abbrev pub lines_more : (Owner → Bool) → List (At BodyPart) → List ℕ
 lines_more test bodies = breaking 1 (AtMost 1) (filter_at (λ (b : BodyPart). test b.owner) bodies)
 

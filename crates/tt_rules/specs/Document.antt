@@ -45,6 +45,6 @@ round_of d = first_or_zero (parts d.rounds)
 abbrev pub adjust_of : Declarations → ℕ
 adjust_of d = first_or_zero (parts d.adjusts)
 
--- the offsets that a table may use: below the round's length less the greatest correction
+-- a table may use the offsets below this limit: the round's length minus the greatest correction
 abbrev pub limit_of : Declarations → ℕ
 limit_of d = round_of d - adjust_of d

@@ -9,19 +9,19 @@ use Rattle.tt_parts.specs.declared.entries.Arrival.{Arrival}
 use Rattle.tt_rules.specs.Shapes.{Shape, Present, AtMost, Every, Differ, breaking_one}
 use Rattle.tt_rules.specs.RoundRules.{is_within}
 
--- 25. There is exactly one start: one after the first, or the header.
+-- 25. There is exactly one start; one after the first breaks it, or the header where there is none.
 abbrev pub rule_25 : List (Shape ModeNo)
 rule_25 = Present ∷ AtMost 1 ∷ []
 
--- 26. There is exactly one number of rounds, from 1 to 100,000: a row with another number, one after the first, or
--- the header.
+-- 26. There is exactly one number of rounds, from 1 to 100,000; a row with another number or one after the first breaks
+-- it, or the header where there is none.
 abbrev pub rule_26 : List (Shape ℕ)
 rule_26 = Present ∷ Every (is_within 1 100000) ∷ AtMost 1 ∷ []
 
 abbrev pub is_same_thing : Declared → Declared → Bool
 is_same_thing a b = is_same_kind (kind_of a) (kind_of b) && (number_of a == number_of b)
 
--- both are declared, as one thing
+-- both are declared, as the same thing
 abbrev pub is_same_source : Option Declared → Option Declared → Bool
 is_same_source (Some a) (Some b) = is_same_thing a b
 is_same_source a b = false
@@ -30,8 +30,8 @@ is_same_source a b = false
 abbrev pub is_not_after : Arrival → Arrival → Bool
 is_not_after above a = is_same_source above.source a.source && nat_le a.tick above.tick
 
--- 27. The arrivals of one source ascend strictly in the order of rows: a row that is not after one above of that
--- source.
+-- 27. The arrivals of one source ascend strictly in the order of rows; a row that is not after one above of that source
+-- breaks it.
 abbrev pub rule_27 : List (Shape Arrival)
 rule_27 = Differ is_not_after ∷ []
 

@@ -1,4 +1,4 @@
--- The latest arrival of each source, as the search for one that is not after it takes them.
+-- The latest arrival of each source, for the search for an arrival that is not after it.
 use Rattle.std.specs.Prelude.{ℕ, nat_lt, ◌&&◌, Bool, true, false, List, [], ◌∷◌, Option, Some, None, if◌then◌else◌}
 use Rattle.tt_base.specs.declared.names.Declared.{Declared}
 use Rattle.tt_base.specs.Names.{index_of, kind_of, number_of}
@@ -26,7 +26,7 @@ abbrev pub latest_in : (ℕ × ℕ) → List Arrival → Option ℕ
 latest_in q [] = None
 latest_in q (a ∷ above) = latest_then (is_thing q a.source) a.tick (latest_in q above)
 
--- what a look-up has for a source
+-- the latest tick of a source according to a look-up
 abbrev pub latest_at : ((ℕ × ℕ) → Option ℕ) → Option Declared → Option ℕ
 latest_at found None = None
 latest_at found (Some d) = found (thing_of d)

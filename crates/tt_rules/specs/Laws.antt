@@ -1,4 +1,4 @@
--- What the rules say of a configuration: where no line breaks them, its parts keep its own rules.
+-- What the rules say of a configuration: where no line breaks them, its parts keep the configuration's own rules.
 use Rattle.std.specs.Prelude.{◌≡◌, ℕ, ◌-◌, ◌*◌, ◌<◌, ◌≤◌, true, List, [], length}
 use Rattle.std.specs.List.{AllByRecursion, list_all}
 use Rattle.tt_base.specs.declared.names.NameKind.{NameKind}
@@ -38,7 +38,7 @@ pub record AreDeclarationsSound (d : Declarations) : Type 0 where
   pub some_mode : 1 ≤ count_of Kind.Mode (parts d.names)
   pub few : (kind : NameKind) → count_of kind (parts d.names) ≤ most_of kind
 
--- Rules 4, 6, 7 and 8 make the round and the names those of a configuration.
+-- Where no line breaks rules 4, 6, 7 and 8, the round and the names are those of a configuration.
 abbrev pub DeclarationsAreSound : Type 0
 DeclarationsAreSound = (d : Declarations) → lines_4 d ≡ [] → lines_6 d ≡ [] → lines_7 d ≡ [] → lines_8 d ≡ []
     → AreDeclarationsSound d
@@ -52,7 +52,7 @@ pub record AreTablesKept (limit modes : ℕ) (xs : List (At Entry)) : Type 0 whe
   pub apart : lines_23 xs ≡ []
   pub few : lines_24 modes xs ≡ []
 
--- Rules 14 and 19 to 24 make the table of each mode one of a configuration.
+-- Where entries name what is declared and no line breaks rules 19 to 24, each mode has a table of a configuration.
 abbrev pub TablesAreSound : Type 0
 TablesAreSound = (c : ConfigParts) (modes : ℕ) (xs : List (At Entry))
     → list_all (is_entry_known modes (length c.tasks) (length c.isrs)) (parts xs) ≡ true
@@ -71,7 +71,7 @@ pub record IsBodySound (b : BodyPart) : Type 0 where
   pub numbers : each_in is_number_in_range b.body ≡ true
   pub allowed : each_in (is_allowed (kind_of b.owner)) b.body ≡ true
 
--- Rules 2, 9 and 15 make it so for each body.
+-- Where no line breaks rules 2, 9 and 15, each body is such a body.
 abbrev pub BodiesAreSound : Type 0
 BodiesAreSound = (names : List NameEntry) (rows : List NumberedRow) → lines_2 rows ≡ [] → lines_9 rows ≡ []
     → lines_15 rows ≡ []

@@ -37,6 +37,6 @@ abbrev pub lines_past : Declarations → NameKind → List ℕ
 lines_past d kind = breaking d.first (AtMost (most_of kind)) (filter_at (is_of_kind kind) d.names)
 
 -- 8. There are 1 to 16 modes, at most 256 variables, 256 demands, 64 tasks, 16 interrupt service routines, 32 OSEK
--- tasks and 16 OSEK interrupt service routines: the rows past a limit, or the header where there is no mode.
+-- tasks and 16 OSEK interrupt service routines; rows past a limit break it, or the header where there is no mode.
 abbrev pub lines_8 : Declarations → List ℕ
 lines_8 d = breaking d.first Present (filter_at (is_of_kind Kind.Mode) d.names) ++ flat_map (lines_past d) kinds

@@ -7,12 +7,12 @@ use Rattle.tt_rules.specs.Document.{round_of}
 abbrev pub is_within : ℕ → ℕ → ℕ → Bool
 is_within least most n = nat_le least n && nat_le n most
 
--- 4. There is exactly one round, of 2 to 10,000,000 ticks: a row with another length, one after the first, or the
--- header.
+-- 4. There is exactly one round, of 2 to 10,000,000 ticks; a row with another length or one after the first breaks it,
+-- or the header where there is none.
 abbrev pub rule_4 : List (Shape ℕ)
 rule_4 = Present ∷ Every (is_within 2 10000000) ∷ AtMost 1 ∷ []
 
--- 5. There is at most one greatest correction: one after the first.
+-- 5. There is at most one greatest correction; one after the first breaks it.
 abbrev pub rule_5 : List (Shape ℕ)
 rule_5 = AtMost 1 ∷ []
 

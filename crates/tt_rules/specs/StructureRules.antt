@@ -28,11 +28,11 @@ abbrev pub stack_or : List Open → Option (List Open) → List Open
 stack_or before None = before
 stack_or before (Some after) = after
 
--- a row may not stand where these are open
+-- a row is not allowed where these are open
 abbrev pub is_misplaced : List Open → Standing → Bool
 is_misplaced stack standing = is_nothing (stack_after stack standing)
 
--- the stack of what is open after a row that may stand; what was open before it, where it may not
+-- the stack of what is open after a row that is allowed; where it is not allowed, the stack before it
 abbrev pub stack_then : List Open → Standing → List Open
 stack_then stack standing = stack_or stack (stack_after stack standing)
 
@@ -41,8 +41,8 @@ abbrev pub last_line_if_open : List Open → ℕ → List ℕ
 last_line_if_open [] last = []
 last_line_if_open (inner ∷ outer) last = last ∷ []
 
--- 2. Blocks are well formed: the first row that stands where it may not; where there is none and something is open
--- after the last row, that row. Here, with what is open before the rows, and the line of the row before them.
+-- 2. Blocks are well formed; the first row that is not allowed breaks it, otherwise the last row where something is
+-- open after it. `stack` is what is open before the rows, and `last` is the line of the row before them.
 abbrev pub lines_2_from : List Open → ℕ → List NumberedRow → List ℕ
 lines_2_from stack last [] = last_line_if_open stack last
 lines_2_from stack last (row ∷ rows) =
@@ -57,11 +57,11 @@ opens_block (r.If terms) = true
 opens_block (r.Repeat turns) = true
 opens_block row = false
 
--- a row opens no block, or one where at most a body and 3 blocks are open
+-- a row opens no block, or it opens one where at most a body and 3 blocks are open
 abbrev pub is_block_high : List Open → Row → Bool
 is_block_high stack row = not (opens_block row && nat_le 5 (length stack))
 
--- 3. At most 4 blocks are open at once inside a body, beside the body itself: the row that opens the fifth.
+-- 3. At most 4 blocks are open at once inside a body, besides the body itself; the row that opens a fifth breaks it.
 abbrev pub lines_3_from : List Open → List NumberedRow → List ℕ
 lines_3_from stack [] = []
 lines_3_from stack (row ∷ rows) =

@@ -22,12 +22,12 @@ abbrev pub broken_or : ℕ → Option ℕ → Option Broken → Option Broken
 broken_or number (Some line) later = Some (record { number = number; line = line })
 broken_or number None later = later
 
--- the first of some rules that has a line; they are numbered from this one on, and each is given by its least line
+-- the first of some rules that has a line; they are numbered from this number on, each given by its least line
 abbrev pub first_some : ℕ → List (Option ℕ) → Option Broken
 first_some number [] = None
 first_some number (line ∷ lines) = broken_or number line (first_some (number + 1) lines)
 
--- the first of some rules that is broken, with its least line; they are numbered from this one on
+-- the first of some rules that is broken, with its least line; they are numbered from this number on
 abbrev pub first_broken : ℕ → List Rule → Document → Option Broken
 first_broken number [] d = None
 first_broken number (rule ∷ rules) d = broken_or number (least_line (rule d)) (first_broken (number + 1) rules d)

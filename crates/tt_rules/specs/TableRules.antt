@@ -32,7 +32,7 @@ place_of (entry.Enables mode e) = None
 abbrev pub same_pair : (ℕ × ℕ) → (ℕ × ℕ) → Bool
 same_pair x y = (x.0 == y.0) && (x.1 == y.1)
 
--- 21. A mode has at most one activation at an offset: a row with mode and offset of one above.
+-- 21. A mode has at most one activation at an offset; a row with the mode and offset of one above breaks it.
 abbrev pub same_place : Entry → Entry → Bool
 same_place = same_by same_pair place_of
 
@@ -79,10 +79,10 @@ lines_22 xs = breaking 1 (Differ same_enable) xs
 abbrev pub lines_23 : List (At Entry) → List ℕ
 lines_23 xs = breaking 1 (Clear comes_between) xs
 
--- the rows of a mode past its limit
+-- the rows of a mode that are past its limit
 abbrev pub lines_of_mode : List (At Entry) → ℕ → List ℕ
 lines_of_mode xs mode = breaking 1 (AtMost 4096) (filter_at (is_of mode) xs)
 
--- 24. A mode has at most 4,096 rows: for each mode the rows past that.
+-- 24. A mode has at most 4,096 rows; for each mode, the rows past that break it.
 abbrev pub lines_24 : ℕ → List (At Entry) → List ℕ
 lines_24 modes xs = flat_map (lines_of_mode xs) (below modes)

@@ -102,7 +102,7 @@ fn is_row_allowed(kind: OwnerKind, row: &Row) -> bool
     }
 }
 
-/// The kind of the owner whose body stands after a row.
+/// The kind of the owner whose body comes after a row.
 fn owner_after(kind: OwnerKind, standing: Standing) -> OwnerKind
     ensures { result ≡ owner_after kind standing }
 {

@@ -53,8 +53,8 @@ fn is_after(tick: u64, latest: Option<u64>) -> bool
     }
 }
 
-/// Notes an arrival as the latest of its source, and answers whether it is after the one before.
-/// One that is not is not noted.
+/// Records an arrival as the latest of its source, and answers whether it is after the one before.
+/// An arrival that is not after it is not recorded.
 fn note(latest: &mut HashMap<(usize, u16), u64>, arrival: &Arrival) -> Result<bool, Memory>
     ensures after { IfOk result (λ after. after
         ≡ is_after arrival.now.tick (latest_at (get same_pair latest.old) arrival.now.source)) }

@@ -25,7 +25,7 @@ pub(crate) fn least(lines: &[Option<u32>]) -> Option<u32>
     least
 }
 
-/// The lesser of a line that may be missing and another, which counts where a test failed.
+/// The lesser of a line that may be missing and another line, which counts where a test failed.
 pub(crate) fn with_line_unless(passed: bool, line: u32, least: Option<u32>) -> Option<u32>
     ensures { result ≡ lesser_of least (least_line (line_unless passed line [])) }
 {

@@ -27,7 +27,7 @@ fn key_of(entry: &Entry) -> Option<Key>
     }
 }
 
-/// Puts a key that there may be into a set.
+/// Puts a key into a set, if there is one.
 fn put_key(keys: &mut BTreeSet<Key>, key: Option<Key>) -> Result<(), Memory>
     ensures { OnOk result ((q : _)
         → contains key_cmp keys.new q ≡ is_key (eq_by_cmp key_cmp) q key
@@ -76,7 +76,7 @@ fn is_apart(keys: &BTreeSet<Key>, entry: &Entry) -> bool
     }
 }
 
-/// Rule 23. No other activation of the mode and the task of one has an offset above its offset and
+/// Rule 23. No other activation of the same mode and task has an offset above the offset of one and
 /// below its deadline.
 pub(crate) fn rule_23(alloc: Global, entries: &[At<Entry>]) -> Result<Option<u32>, Memory>
     ensures { IfOk result (λ line. line ≡ least_line (lines_23 entries.now)) }

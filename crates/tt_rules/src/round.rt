@@ -82,7 +82,7 @@ pub fn adjust_of(declared: &Declarations) -> u64
     first_or_zero(declared.adjusts.as_slice())
 }
 
-/// The offsets that a table may use: below this, the round's length less the greatest correction.
+/// A table may use the offsets below this limit: the round's length minus the greatest correction.
 pub fn limit_of(declared: &Declarations) -> u64
     ensures { result ≡ limit_of declared.now }
 {

@@ -98,7 +98,7 @@ pub(crate) fn missing_of<T, F: Fn(&T) -> bool>(parts: &[At<T>], first: u32, test
     Some(first)
 }
 
-/// Puts a key into a set, and answers whether it is new. A part without a key is.
+/// Puts a key into a set, and answers whether it is new. No key counts as new.
 fn note<K: Eq + Hash + Drop>(seen: &mut HashSet<K>, key: Option<K>) -> Result<bool, Memory>
     ensures new { IfOk result (λ is_new. is_new ≡ not (passes_key (contains K.eq seen.old) key)) }
     ensures seen { OnOk result ((q : _)

@@ -37,7 +37,7 @@ fn rule_1(rows: &[NumberedRow]) -> Option<u32>
     }
 }
 
-/// Whether a row may not stand where this is the innermost open thing.
+/// Whether a row is not allowed where this is the innermost open thing.
 fn is_misplaced(inner: Option<Open>, standing: Standing) -> bool
     ensures { (stack : List Open) → inner ≡ slice_get stack 0
         → result ≡ is_misplaced stack standing }
@@ -51,7 +51,7 @@ fn is_misplaced(inner: Option<Open>, standing: Standing) -> bool
     }
 }
 
-/// Opens or closes what a row does that may stand there.
+/// Opens or closes what a row does, where the row is allowed.
 fn pass(stack: &mut FrontList<Open>, standing: Standing) -> Result<(), Memory>
     requires { is_misplaced stack.old standing ≡ false }
     ensures { OnOk result (stack.new ≡ stack_then stack.old standing) }
@@ -72,7 +72,7 @@ fn pass(stack: &mut FrontList<Open>, standing: Standing) -> Result<(), Memory>
     }
 }
 
-/// Rule 2. Blocks are well formed: the first row that stands where it may not, or the last row
+/// Rule 2. Blocks are well formed; the first row that is not allowed breaks it, or the last row
 /// where something is open after it. The stack of what is open takes memory.
 fn rule_2(alloc: Global, rows: &[NumberedRow]) -> Result<Option<u32>, Memory>
     ensures { IfOk result (λ line. line ≡ least_line (lines_2 rows.now)) }
@@ -114,7 +114,7 @@ fn height_after(height: usize, standing: Standing) -> usize
     }
 }
 
-/// Rule 3. At most 4 blocks are open at once inside a body: the row that opens the fifth.
+/// Rule 3. At most 4 blocks are open at once inside a body; the row that opens a fifth breaks it.
 fn rule_3(rows: &[NumberedRow]) -> Option<u32>
     ensures { result ≡ least_line (lines_3 rows.now) }
 {

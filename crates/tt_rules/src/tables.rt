@@ -16,8 +16,8 @@ use std::alloc::Global;
 use tt_base::Memory;
 use tt_parts::{At, Entry};
 
-/// Where the rows of a table may stand: below this offset, the round's length less the greatest
-/// correction in ticks.
+/// Whether the offset of an activation is below this limit: the round's length minus the greatest
+/// correction, in ticks.
 fn is_activation_early(limit: u64, entry: &Entry) -> bool
     ensures { result ≡ is_activation_early limit entry.now }
 {
@@ -121,8 +121,8 @@ fn past_rows(entries: &[At<Entry>], mode: u16) -> Option<u32>
     past_of(entries, TABLE_ROWS, |entry| is_of(mode, entry))
 }
 
-/// Rule 24. A mode has at most 4,096 rows. The entries are read once for each mode, of which there
-/// are 16 at most.
+/// Rule 24. A mode has at most 4,096 rows. The entries are read once for each mode, and there are
+/// at most 16 modes.
 fn rule_24(modes: u16, entries: &[At<Entry>]) -> Option<u32>
     ensures { result ≡ least_line (lines_24 modes entries.now) }
 {
@@ -133,7 +133,7 @@ fn rule_24(modes: u16, entries: &[At<Entry>]) -> Option<u32>
     found
 }
 
-/// The first of rules 18 to 24 that is broken. The limit is the round's length less the greatest
+/// The first of rules 18 to 24 that is broken. The limit is the round's length minus the greatest
 /// correction, in ticks.
 pub fn tables_broken(
     alloc: Global,

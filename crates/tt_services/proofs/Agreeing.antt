@@ -1,4 +1,4 @@
--- Each service in the parts of a world that it changes.
+-- Each service, restricted to the parts of a world that it changes.
 use Rattle.std.proofs.Common.{◌≡◌, ℕ, zero, suc, ◌+◌, ◌-◌, Bool, true, false, List, [], ◌∷◌, Option, None, Some, refl, sym, ap, subst, ◌∙◌}
 use Rattle.std.specs.Prelude.{not, ◌==◌, slice_get, slice_set, if◌then◌else◌}
 use Rattle.std.proofs.lemmas.List.{map-set}
@@ -84,7 +84,7 @@ readied_oseks c w (runner.Osek caller) owner.ErrorHook left sub task b is runs i
 readied_oseks c w (runner.Osek caller) owner.ShutdownHook left sub task b is runs idle oseks = absurd runs
 readied_oseks c w (runner.Osek caller) owner.Idle left sub task b is runs idle oseks = absurd runs
 
--- by what is found of a task
+-- by whether a task was found ready
 by_ready : (caller : Runner) (found state : Bool) → found ≡ not state → (a d : Answer) (p q : Performed)
     → (state ≡ false → Agrees caller a p) → (state ≡ true → Agrees caller d q)
     → Agrees caller (if found then a else d) (if state then q else p)
@@ -173,7 +173,7 @@ module _ (c : ConfigParts) (s : ScriptParts) (w : World) (caller : Runner) (who 
     oseks = readied_oseks c w caller who left sub task (body task.0) (h.bodies task) h.runs idle h.oseks;
   }
 
-  -- what is performed, by what is found of the task
+  -- what is performed, by whether the task is ready
   abbrev activation : (state : Bool) (task : ℕ) → Performed
   activation state task = record {
     result = result_of state;

@@ -1,4 +1,4 @@
--- The services are those of a run, read in the parts of a world that they change.
+-- The services are those of a run, restricted to the parts of a world that they change.
 use Rattle.std.specs.Prelude.{◌≡◌, ℕ, true, not, List}
 use Rattle.tt_base.specs.declared.event.Call.{Call}
 use Rattle.tt_base.specs.declared.event.Owner.{Owner}
@@ -24,8 +24,8 @@ RunsAs s (runner.Osek task) _ = ⊥
 RunsAs s _ (owner.Osek task) = ⊥
 RunsAs s _ _ = Unit {0}
 
--- The round is the one of a world, and so is the subsystem but for the caller: its tick was taken, of which this is
--- left, and it has not ended yet.
+-- The round and the subsystem are those of a world, except for the caller: its tick was taken, this is left of it, and
+-- it has not ended yet.
 pub record IsCall (c : ConfigParts) (s : ScriptParts) (w : World) (caller : Runner) (who : Owner) (left : List Stmt)
     (body : ℕ → List Stmt)
     (r : Round) (sub : Subsystem) : Type 0 where
@@ -41,7 +41,7 @@ pub record IsCall (c : ConfigParts) (s : ScriptParts) (w : World) (caller : Runn
   pub ready : (task : OsekNo) → is_suspended w task ≡ not (is_ready sub.tasks task.0)
   pub oseks : (leaving w caller left).oseks ≡ lefts sub.tasks
 
--- After the service they are still those of the world, from which the caller then takes what is left of it.
+-- After the service the results agree, and the round and the subsystem are those of the world with the caller's rest.
 pub record Agrees (caller : Runner) (answer : Answer) (p : Performed) : Type 0 where
   pub result : answer.result ≡ p.result
   pub ends : answer.ends ≡ p.ends

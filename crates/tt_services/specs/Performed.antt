@@ -1,5 +1,5 @@
--- What a service makes of the round and of the OSEK subsystem. The table is that of the services of a run, read in
--- the parts that change.
+-- What a service makes of the round and of the OSEK subsystem. The table is that of the services of a run, restricted
+-- to the parts that change.
 use Rattle.std.specs.Prelude.{ℕ, ◌<◌, ◌≤◌, ◌==◌, Bool, true, false, List, length}
 use Rattle.tt_base.specs.declared.event.Call.{Call}
 use Rattle.tt_base.specs.declared.event.Call.TheVariants as call
@@ -51,8 +51,8 @@ performed body now who (call.Chain task) r s = record {
 performed body now who call.Terminate r s =
     record { result = 0; round = r; subsystem = suspended (caller_of who) s; ends = true }
 
--- The owner may make the call at this tick: its mode or task exists, the round has begun, and an OSEK task alone
--- chains or terminates.
+-- The owner may make the call at this tick: its mode or task exists, the round has begun, and only an OSEK task chains
+-- or terminates.
 abbrev pub MayCall : (now : ℕ) → Owner → Call → Round → Setup → Type 0
 MayCall now who (call.Switch mode) r setup = mode.0 < r.modes
 MayCall now who call.Sync r setup = r.start ≤ now

@@ -2,7 +2,7 @@
 
 ghost use Rattle.tt_services.specs.Agreement.{ServicesAgree};
 
-/// The services are those of the definitions of a run, read in the parts of a world that they
+/// The services are those of the definitions of a run, restricted to the parts of a world that they
 /// change.
 pub fn services_agree()
     ensures { ServicesAgree }

@@ -1,4 +1,4 @@
--- What each call makes of what is seen.
+-- How each call changes what contracts see.
 use Rattle.std.proofs.Common.{◌≡◌, ◌≢◌, ◌↔◌, IsTrue, ℕ, zero, suc, ◌+◌, ◌<◌, inr, ⊎_elim, Bool, true, false, List, [], ◌∷◌, ◌++◌, length, refl, sym, ap, ◌∙◌, subst, arith, replicate, eq-eqb, nat_eq}
 use Rattle.std.specs.Prelude.{All, Any, not, ◌&&◌, ◌||◌, ◌==◌, slice_index_or, slice_set, sum_by}
 use Rattle.std.specs.List.{list_any}
@@ -49,7 +49,7 @@ none_equal (x ∷ xs) n zero none within =
 none_equal (x ∷ xs) n (suc i) none within =
     none_equal xs n i (neither (x == n) (list_any (λ (other : ℕ). other == n) xs) none).1 (omega arith)
 
--- levels of two numbers are two
+-- two numbers have different levels
 distinct_levels : (levels : List ℕ) (i j : ℕ) → are_distinct levels ≡ true → i < length levels → j < length levels
     → i ≢ j
     → slice_index_or levels i 0 ≢ slice_index_or levels j 0
@@ -99,7 +99,7 @@ module _ (inside : Inside)
 
   -- ---- how many
 
-  -- as many activations are seen as were reached
+  -- contracts see as many activations as were reached
   pub length_jobs_is : length view.jobs ≡ reached
   length_jobs_is = length-jobs 0 (lefts_of reached given) ∙ length-lefts_of reached given
 
@@ -172,7 +172,7 @@ module _ (inside : Inside)
       in_count = All-push (λ (n : ℕ). n < reached + 1) entries reached more_in_count (omega arith);
     }
 
-    -- the frame of one more activation is seen as that activation, with what is left of it
+    -- contracts see the frame of one more activation as that activation, with what is left of it
     pub task_begun : stacked codes first levels (with_task new_task s) (entries ++ reached ∷ []) (reached + 1)
         ≡ with_job (left_of codes frame) view
     unfolding with_jobs
@@ -283,7 +283,7 @@ module _ (inside : Inside)
           in_count = k.in_count;
         }
 
-        -- the frame of a routine that was finished is seen as that routine, with what is left of it
+        -- contracts see the frame of a routine that was finished as that routine, with what is left of it
         pub isr_begun : stacked codes first levels (with_isr_frame new_isr s) entries reached
             ≡ with_isr isr.0 (left_of codes frame) view
         unfolding with_isrs

@@ -1,4 +1,4 @@
--- The frames on the stack, and what is left as they stand.
+-- The frames on the stack, and what is left of each.
 use Rattle.std.proofs.Common.{◌≡◌, ◌≢◌, ℕ, ◌+◌, ◌<◌, ⊎_elim, Bool, true, false, cond, List, [], ◌∷◌, ◌++◌, length, None, Some, refl, sym, ap, ◌∙◌, subst, arith, replicate}
 use Rattle.std.specs.Prelude.{All, not, slice_index_or, slice_set}
 use Rattle.std.proofs.lemmas.List.{length-map, get_or-set_same, get_or-set_other, length-set, set-set}
@@ -24,7 +24,7 @@ not_done (x ∷ xs) some = refl
 -- ---- activations
 
 module _ (codes : List (List Stmt)) where
-  -- what is left where a frame stands
+  -- what is left of a frame
   abbrev pub left_at : StackFrame → List Stmt
   left_at f = left_of codes f.frame
 
@@ -50,7 +50,7 @@ module _ (codes : List (List Stmt)) where
       ∙ zip-push before e (bodies_left codes front) (left_at f) (same ∙ sym (length-map front left_at)))
       ∙ written-push (replicate reached []) (task_lefts codes before front) (e, left_at f)
 
-  -- the entries before the last are others
+  -- the entries before the last are different from it
   pub entries_apart : (before : List ℕ) (e : ℕ) (front : List StackFrame) → DoAscend (before ++ e ∷ [])
       → IsNotIn e (task_lefts codes before front)
   entries_apart before e front ascend =
@@ -103,7 +103,7 @@ module _ (codes : List (List Stmt)) where
     pub level_is : (f : StackFrame) → IsOfRoutine codes levels f → f.level ≡ level_of (routine_number f.owner)
     level_is f r = r.level ∙ ap level_of (sym (ap routine_number r.owner))
 
-    -- the number of the routine of a frame is that of a routine
+    -- the number of the routine of a frame is that of a routine that exists
     pub number_within : (f : StackFrame) → IsOfRoutine codes levels f → routine_number f.owner < length levels
     number_within f r = subst (λ n. n < length levels) (sym (ap routine_number r.owner)) r.exists
 
@@ -145,7 +145,7 @@ module _ (codes : List (List Stmt)) where
           let b = level_is f last_routine in
           omega (arith, less, a, b))
 
-      -- the routines before the last are others
+      -- the routines before the last are different from it
       pub routines_apart : IsNotIn (routine_number f.owner) (routine_lefts codes front)
       routines_apart = λ k d l same. let less = lower k d l in let alike =
           ap level_of same in omega (arith, less, alike)
@@ -154,7 +154,7 @@ module _ (codes : List (List Stmt)) where
       within = subst (λ n. routine_number f.owner < n)
           (sym (length-lefts_of (length levels) (routine_lefts codes front))) (number_within f last_routine)
 
-      -- what is left of the last routine is what is left where its frame stands
+      -- what is left of the last routine is what is left of its frame
       pub isr_left : at (isrs_of (front ++ f ∷ [])) (routine_number f.owner) ≡ left_at f
       isr_left =
           ap (λ (l : List (List Stmt)). at l (routine_number f.owner)) (isrs_push front f)
@@ -184,7 +184,7 @@ module _ (codes : List (List Stmt)) where
           ∙ top_of levels passes n here others 0 (length now) (omega arith)
           (subst (λ m. n < 0 + m) (sym (length-set lefts n (left_at f))) (omega (arith, within)))
 
-      -- where the last frame goes, nothing is left of its routine, and the others stay
+      -- where the last frame is taken off, nothing is left of its routine, and the others stay
       pub isr_gone : isrs_of front ≡ slice_set (isrs_of (front ++ f ∷ [])) (routine_number f.owner) []
       isr_gone =
           gone (length levels) (routine_lefts codes front) (routine_number f.owner) (left_at f) routines_apart

@@ -40,7 +40,7 @@ job_past from [] place l = refl
 job_past from (x ∷ xs) zero l = absurd (omega arith)
 job_past from (x ∷ xs) (suc place) l = job_past (from + 1) xs place (omega arith)
 
--- a write of what is left of a place is one into the activation there
+-- to write what is left at a place is to write it into the activation there
 pub jobs_set : (from : ℕ) (lefts : List (List Stmt)) (place : ℕ) (left : List Stmt)
     → jobs_from from (slice_set lefts place left) ≡ with_left (jobs_from from lefts) place left
 jobs_set from [] place left = refl

@@ -51,7 +51,7 @@ shape_of (x ∷ xs) [] (n ∷ ns) same =
     (subst (λ entries. Shape (frames_of (front ++ f ∷ []) []) entries) (sym so)
     (Task_on_top front f before e (omega (arith, same, a, b))))
 
--- each stack whose entries are as many as its frames of tasks has one of these shapes
+-- each stack with as many entries as frames of tasks has one of these shapes
 pub shape : (s : Frames) (entries : List ℕ) → length entries ≡ length s.tasks → Shape s entries
 shape s entries same = shape_of s.tasks s.isrs entries same
 
@@ -76,7 +76,7 @@ without_entry before e =
     ap (λ n. take n (before ++ e ∷ [])) same ∙ take-append_seam before (e ∷ [])
 
 module _ (codes : List (List Stmt)) (first : ℕ) (levels : List ℕ) (reached : ℕ) where
-  -- what is seen of the frames and the entries
+  -- what contracts see of the frames and the entries
   abbrev pub view : Frames → List ℕ → Stacked
   view s entries = stacked codes first levels s entries reached
 
@@ -331,7 +331,7 @@ module _ (codes : List (List Stmt)) (first : ℕ) (levels : List ℕ) (reached :
   no_runner None is some = cc
   no_runner (Some r) is some = cc
 
-  -- where one runs, there is a frame on top, which is its frame
+  -- where one runs, its frame is on top
   pub running_now : (s : Frames) (entries : List ℕ) → Shape s entries → Kept s entries
       → IsSome (runner_in (view s entries)) → (top : Top) × Running s entries top
   running_now _ _ Empty k runs = absurd (no_runner _ none_runs runs)

@@ -1,4 +1,4 @@
--- The one that runs, as it is seen.
+-- The one that runs, as contracts see it.
 use Rattle.std.proofs.Common.{◌≡◌, ◌≢◌, IsSome, ℕ, zero, suc, ◌<◌, List, [], ◌∷◌, length, Option, None, Some, refl, sym, ap, ◌∙◌, subst, arith}
 use Rattle.std.specs.Prelude.{option_map, slice_index_or, unwrap_or}
 use Rattle.std.proofs.lemmas.List.{get_or-set_same}
@@ -74,7 +74,7 @@ module _ (inside : Inside)
   abbrev Run : Top → Type 0
   Run top = Running codes first levels reached s entries top
 
-  -- the codes are those that are seen
+  -- the codes are those that contracts see
   pub codes_are : codes ≡ now.codes
   codes_are = ap (λ (v : Stacked). v.codes) is
 
@@ -82,39 +82,39 @@ module _ (inside : Inside)
   pub run_at : (top : Top) → option_map seen (top_of s) ≡ Some top → Run top
   run_at top so = running_at codes first levels reached s entries (shape s entries k.as_many) k top so
 
-  -- where no frame is on top, nobody is seen to run
+  -- where no frame is on top, contracts see nobody run
   pub none_then : option_map seen (top_of s) ≡ None → runner_in now ≡ None
   none_then so = ap runner_in (sym is) ∙ none_at codes first levels reached s entries (shape s entries k.as_many) so
 
-  -- where one is seen to run, there is a frame on top, which is its frame
+  -- where contracts see one run, its frame is on top
   pub run_now : IsSome (runner_in now) → (top : Top) × Run top
   run_now runs =
       running_now codes first levels reached s entries (shape s entries k.as_many) k
       (subst (λ v. IsSome (runner_in v)) (sym is) runs)
 
   module _ (top : Top) (r : Run top) where
-    -- the one of the frame on top is seen to run
+    -- the one that contracts see run is that of the frame on top
     pub runner_is : runner_in now ≡ Some r.who
     runner_is = ap runner_in (sym is) ∙ r.is
 
-    -- where a frame is on top, one is seen to run
+    -- where a frame is on top, contracts see one run
     pub runs : IsSome (runner_in now)
     runs = some_is (runner_in now) r.who runner_is
 
     running_is : running now ≡ r.who
     running_is = ap (λ o. unwrap_or o runner.Nobody) runner_is
 
-    -- what is left where the frame on top stands is seen to be left of the one that runs
+    -- what is left of the frame on top is what contracts see left of the one that runs
     pub left_now : left_of now.codes top.frame ≡ left_in now (running now)
     left_now =
         ap (λ (c : List (List Stmt)). left_of c top.frame) (sym codes_are) ∙ r.left
         ∙ ap (λ (v : Stacked). left_in v r.who) is ∙ ap (left_in now) (sym running_is)
 
-    -- the frame on top is one of the codes that are seen
+    -- the frame on top is one of the codes that contracts see
     pub sound_now : IsSound now.codes top.frame
     sound_now = subst (λ c. IsSound c top.frame) codes_are r.sound
 
-    -- something is left where the frame on top stands
+    -- something is left of the frame on top
     pub some_now : left_of now.codes top.frame ≢ []
     some_now = subst (λ c. left_of c top.frame ≢ []) codes_are r.some
 
@@ -123,14 +123,14 @@ module _ (inside : Inside)
     leaving_now left =
         ap (λ (v : Stacked). leaving_in v r.who left) is ∙ ap (λ (w : Runner). leaving_in now w left) (sym running_is)
 
-    -- where the frame on top moves, what is left of the one that runs is seen to change, and nothing else
+    -- where the frame on top moves, contracts see another rest of the one that runs, and no other change
     pub moved_now : (frame : Frame) → stacked codes first levels (with_top frame s) entries reached
         ≡ leaving_in now (running now) (left_of now.codes frame)
     moved_now frame =
         r.moved frame ∙ leaving_now (left_of codes frame)
         ∙ ap (λ (c : List (List Stmt)). leaving_in now (running now) (left_of c frame)) codes_are
 
-    -- where the frame on top goes, nothing is seen to be left of the one that runs, and nothing else changes
+    -- where the frame on top is taken off, contracts see nothing left of the one that runs, and no other change
     pub ended_now : stacked codes first levels (popped s) (entries_after top.owner entries) reached
         ≡ leaving_in now (running now) []
     ended_now = r.ended ∙ leaving_now []

@@ -40,7 +40,7 @@ written_other lefts (x ∷ xs) n others =
     written_other (slice_set lefts x.0 x.1) xs n (All-tail (λ (one : Left). one.0 ≢ n) x xs others)
     ∙ get_or-set_other lefts x.0 n x.1 [] (λ e. All-head (λ (one : Left). one.0 ≢ n) x xs others (sym e))
 
--- what was written before the others of another number may be written after them
+-- what is written before the others may be written after them, if its number is none of theirs
 pub written_comm : (lefts : List (List Stmt)) (given : List Left) (n : ℕ) (left : List Stmt) → IsNotIn n given
     → written (slice_set lefts n left) given ≡ slice_set (written lefts given) n left
 written_comm lefts [] n left others = refl
@@ -87,7 +87,7 @@ pub length-none : (count : ℕ) → length (replicate {A = List Stmt} count []) 
 length-none zero = refl
 length-none (suc count) = omega (arith, length-none count)
 
--- one number more of which nothing is left stands at the end
+-- one more number of which nothing is left is one more item at the end
 pub none_more : (count : ℕ) → replicate {A = List Stmt} (suc count) [] ≡ replicate count [] ++ [] ∷ []
 none_more zero = refl
 none_more (suc count) = ap (λ (l : List (List Stmt)). [] ∷ l) (none_more count)
@@ -210,7 +210,7 @@ finished_not_in count given n g done = λ k d l e.
 pub nothing_left : (count : ℕ) (given : List Left) (n : ℕ) → IsNotIn n given → at (lefts_of count given) n ≡ []
 nothing_left count given n others = written_other (replicate count []) given n others ∙ at_none count n
 
--- what was begun of one and is gone
+-- a write of a number that is none of them, undone by a second write, changes nothing
 pub gone : (count : ℕ) (given : List Left) (n : ℕ) (left : List Stmt) → IsNotIn n given
     → lefts_of count given ≡ slice_set (slice_set (lefts_of count given) n left) n []
 gone count given n left others =

@@ -20,11 +20,11 @@ use Rattle.tt_stack.specs.Stacked.{Stacked}
 
 -- ---- what is left of each number
 
--- what is left of a number
+-- a number, and what is left of it
 abbrev pub Left : Type 0
 Left = ℕ × List Stmt
 
--- a list into which what is left of these numbers was written, one after another
+-- a list after what is left of each of these numbers was written into it, one after another
 abbrev pub written : List (List Stmt) → List Left → List (List Stmt)
 written lefts [] = lefts
 written lefts (one ∷ rest) = written (slice_set lefts one.0 one.1) rest
@@ -33,7 +33,7 @@ written lefts (one ∷ rest) = written (slice_set lefts one.0 one.1) rest
 abbrev pub lefts_of : ℕ → List Left → List (List Stmt)
 lefts_of count given = written (replicate count []) given
 
--- activations of these entry numbers from one on
+-- the activations of which this is left, with entry numbers from one on
 abbrev pub jobs_from : ℕ → List (List Stmt) → List Job
 jobs_from entry [] = []
 jobs_from entry (left ∷ rest) = record { entry = entry; left = left } ∷ jobs_from (entry + 1) rest
@@ -75,7 +75,7 @@ abbrev pub runner_for : Owner → Option ℕ → Option Runner
 runner_for (By.Isr isr) last = Some (runner.Isr isr)
 runner_for _ last = option_map (λ (place : ℕ). runner.Job place) last
 
--- the entries where a frame of this owner is taken off
+-- the entries after a frame of this owner was taken off
 abbrev pub entries_after : Owner → List ℕ → List ℕ
 entries_after (By.Isr isr) entries = entries
 entries_after _ entries = take (length entries - 1) entries
@@ -112,7 +112,7 @@ abbrev pub DoAscend : List ℕ → Type 0
 DoAscend entries = AllPairs (λ entry later. entry < later) entries
 
 -- The codes of the routines are there, and their levels are distinct. Each frame on the stack has statements left, and
--- each routine its level. The frames of tasks are those of the entries, which ascend.
+-- each frame of a routine has the routine's level. The frames of tasks are those of the entries, which ascend.
 pub record AreKept (codes : List (List Stmt)) (first : ℕ) (levels : List ℕ) (frames : Frames) (entries : List ℕ)
     (reached : ℕ) : Type 0 where
   pub enough : first + length levels ≤ length codes

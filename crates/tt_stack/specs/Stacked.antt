@@ -17,7 +17,7 @@ pub record Stacked : Type 0 where
   pub levels : List ℕ
   -- all activations of the present round, in their order
   pub jobs : List Job
-  -- what is left of each routine, nothing where it is not unfinished
+  -- what is left of each routine; nothing where it is finished
   pub isrs : List (List Stmt)
 
 -- ---- what a call makes of them
@@ -63,7 +63,7 @@ left_in s (Isr isr) = slice_index_or s.isrs isr.0 []
 left_in s (runner.Job place) = (job_at s.jobs place).left
 left_in s _ = []
 
--- this is left of a runner; all others stay
+-- now this is left of a runner; all others stay
 abbrev pub leaving_in : Stacked → Runner → List Stmt → Stacked
 leaving_in s (Isr isr) left = with_isr isr.0 left s
 leaving_in s (runner.Job place) left = record s { jobs = with_left s.jobs place left }

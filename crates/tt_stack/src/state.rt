@@ -80,7 +80,7 @@ fn runner_for(owner: Owner, last: Option<usize>) -> Option<Runner>
     }
 }
 
-/// The last entry goes where a frame of a task does.
+/// Drops the last entry, unless the frame's owner is a routine.
 fn drop_entry(entries: &mut ArrayVec<usize, 64>, owner: Owner)
     ensures { entries.new.items ≡ entries_after owner entries.old.items }
 {
@@ -94,7 +94,7 @@ fn drop_entry(entries: &mut ArrayVec<usize, 64>, owner: Owner)
 
 impl TtStack {
     /// Before the first round: no activation, and no routine is unfinished. The program of a task
-    /// has the number of the task; those of the routines follow from the first one on.
+    /// has the number of the task; those of the routines have the numbers from `first` on.
     pub fn new(codes: Codes, isrs: &[IsrDef], first: u16) -> TtStack
         requires few { length isrs.now ≤ 16 }
         requires distinct { are_distinct (map (λ (isr : IsrDef). isr.level) isrs.now) ≡ true }
@@ -175,8 +175,8 @@ impl TtStack {
         }
     }
 
-    /// Takes k ticks of the one that runs: one, or at most as many as the `work` at its front has
-    /// left. Where nothing is left then, it has ended. It counts one step and takes no memory.
+    /// Takes k ticks of the one that runs: one, or at most the ticks left of the `work` at its
+    /// front. If nothing is left then, it has ended. The call counts one step and takes no memory.
     pub fn advance<L: Ledger>(&mut self, k: u64, env: &mut Env, steps: &mut Steps<L>) -> Progress
         requires runs { IsSome (runner_in self.old) }
         requires some { 1 ≤ k }
@@ -210,23 +210,23 @@ impl TtStack {
         }
     }
 
-    /// Whether nothing is left of the activation at a place of the round. Of one that is not there
-    /// nothing is left.
+    /// Whether nothing is left of the activation at a place of the round. Nothing is left of one
+    /// that does not exist.
     pub fn is_job_done(&self, place: usize) -> bool
         ensures { result ≡ is_done (job_at self.now.jobs place).left }
     {
         !self.entries.as_slice().contains(&place)
     }
 
-    /// Whether a routine is finished. Of one that is not there nothing is left.
+    /// Whether a routine is finished. Nothing is left of one that does not exist.
     pub fn is_isr_done(&self, isr: IsrNo) -> bool
         ensures { result ≡ is_done (slice_index_or self.now.isrs isr.0 []) }
     {
         !self.stack.holds(Owner::Isr(isr))
     }
 
-    /// The entry number of the activation at a place of the round, which is the place. Of one that
-    /// is not there it is 0.
+    /// The entry number of the activation at a place of the round, which is the place itself; 0
+    /// where there is none.
     pub fn entry_at(&self, place: usize) -> usize
         ensures { result ≡ (job_at self.now.jobs place).entry }
     {
@@ -321,7 +321,7 @@ impl TtStack {
         self.reached += 1;
     }
 
-    /// An activation that stands there.
+    /// One more activation, with this frame.
     fn begin_task(&mut self, task: TaskNo, frame: Frame)
         requires room { count_unfinished self.old.jobs < 64 }
         requires in_count { length self.old.jobs < usize.MAX }
@@ -335,7 +335,7 @@ impl TtStack {
         self.reached += 1;
     }
 
-    /// A routine that stands there.
+    /// A routine begins, with this frame.
     fn begin_isr(&mut self, isr: IsrNo, frame: Frame)
         requires exists { isr.0 < length self.old.levels }
         requires finished { is_done (slice_index_or self.old.isrs isr.0 []) ≡ true }
@@ -348,7 +348,7 @@ impl TtStack {
         self.stack.accept_isr(isr, level, frame, 0);
     }
 
-    /// The one that runs stands there now, or has ended.
+    /// The one that runs has this frame now, or has ended.
     fn leave(&mut self, frame: Frame)
         requires runs { IsSome (runner_in self.old) }
         requires sound { IsSoundFrame self.old.codes frame }

@@ -7,7 +7,7 @@ ghost use Rattle.tt_stack.specs.Kept.{entry_words};
 use tt_base::IsrNo;
 use tt_world::{ConfigParts, ModeDef};
 
-/// The words of a routine. One that is not there takes none.
+/// The words of a routine. One that does not exist has none.
 pub(crate) fn isr_words(config: &ConfigParts, isr: IsrNo) -> u32
     ensures { result ≡ isr_words config.now isr.0 }
 {
@@ -17,8 +17,8 @@ pub(crate) fn isr_words(config: &ConfigParts, isr: IsrNo) -> u32
     }
 }
 
-/// The words of the task of a row of a mode. A row that is not there is one of the first task, as
-/// the definition of rows has it, and a task that is not there takes none.
+/// The words of the task of a row of a mode. A row that does not exist is one of the first task, as
+/// in the definition of rows; a task that does not exist has none.
 fn entry_words(config: &ConfigParts, mode: &ModeDef, entry: usize) -> u32
     ensures { result ≡ entry_words config.now mode.now entry }
 {

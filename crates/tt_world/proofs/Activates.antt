@@ -28,7 +28,7 @@ use Rattle.tt_world.proofs.RoundFolds.{ByLast, OfLast, OfRound, each_has, last_s
 use Rattle.tt_world.proofs.RoundRuns.{OfPresent, Ended, IsOfRows, RoundParts, ended_at}
 
 module _ (c : ConfigParts) (s : ScriptParts) (rules : IsConfig c) where
-  -- a round has had the activations of its mode up to a tick
+  -- a round has had the activations of its mode up to this tick
   abbrev Has : RoundStart → ℕ → List Event → Type 0
   Has round end kept = kept ≡ has_acts c round end
 
@@ -55,7 +55,7 @@ module _ (c : ConfigParts) (s : ScriptParts) (rules : IsConfig c) where
       checked_all (λ e. is_activate e ≡ false) w.tick (mode_of c w) is_due w.jobs (λ _ _ _. refl) in
       ap (λ (xs : List Event). kept ++ xs) (none_such is_activate fs none) ∙ append-nil kept ∙ d
 
-  -- none yet at the start of a round
+  -- at the start of a round there is none yet
   none_yet : (T : ℕ) (round : RoundStart) → round.start ≡ T → [] ≡ has_acts c round T
   none_yet T round e =
       let z : T - round.start ≡ 0 = omega arith in

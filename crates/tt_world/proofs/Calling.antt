@@ -1,4 +1,4 @@
--- Which services the one who runs calls: those that its kind of owner may call.
+-- Which services a runner calls: those that its kind of owner may call.
 use Rattle.std.proofs.Common.{ℕ, ◌≡◌, List, [], ◌∷◌, Bool, true, sym, ◌∙◌}
 use Rattle.std.specs.Prelude.{ℤ, ◌&&◌}
 use Rattle.std.proofs.lemmas.Bool.{and_parts}

@@ -32,7 +32,7 @@ use Rattle.tt_world.proofs.Emits.{Of, all_more, event_if_all}
 use Rattle.tt_world.specs.declared.world.RunEnd.TheVariants as ending
 use Rattle.tt_world.specs.Moved.{Outcome}
 
--- it tells nothing of how the run ends
+-- it says nothing about how the run ends
 abbrev pub IsCalm : Event → Type 0
 IsCalm e = (rest : List Event) → status_of (e ∷ rest) ≡ status_of rest
 
@@ -59,7 +59,7 @@ shuts_status c end w = calm_status (outs_of w.tick owner.ShutdownHook w.vars c.s
 
 -- ---- checks
 
--- of checks at a tick: they are calm where none was missed, else they tell of the first that was
+-- the checks at a tick: they are calm where none was missed, otherwise they say which was missed first
 abbrev pub ChecksTell : ℕ → List Event → Option TaskNo → Type 0
 ChecksTell at fs None = Of IsCalm fs
 ChecksTell at fs (Some task) = (rest : List Event) → status_of (fs ++ rest) ≡ Missed task at
@@ -91,7 +91,7 @@ checked_tell at mode is_due (x ∷ xs) =
 
 -- ---- a tick
 
--- it is calm where the run goes on, else it tells of a shutdown
+-- it is calm where the run goes on, otherwise it says that there was a shutdown
 abbrev pub Tells : List Event → Moved → Type 0
 Tells = LeadsTo (λ v fs. Of IsCalm fs) (λ end v fs. (t : ℕ) × (status_of fs ≡ Shut t))
 

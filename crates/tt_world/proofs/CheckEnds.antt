@@ -1,5 +1,4 @@
--- The checks of an instant at the end of its round, and that the ends seen at a tick are those among the events before
--- it.
+-- The checks of an instant at the end of its round; and the ends seen at a tick are those among the events before it.
 use Rattle.std.proofs.Common.{ℕ, suc, ◌≡◌, ◌≤◌, ◌+◌, ◌-◌, List, [], ◌∷◌, ◌++◌, Bool, true, false, refl, ap, sym, ◌∙◌, subst, arith, ⊎_elim}
 use Rattle.std.specs.Prelude.{filter, nat_le, not}
 use Rattle.std.proofs.lemmas.Bool.{cond_both, cases_Bool}
@@ -44,7 +43,7 @@ use Rattle.tt_world.proofs.OwnerLaws.{state_at, later_unseen}
 
 -- ---- at the end of a round
 
--- the checks at the end of a round are those of the rows whose points are no earlier offsets
+-- the checks at the end of a round are those of the rows whose points are not earlier offsets
 checks_at_length : (c : ConfigParts) → IsConfig c → (w : World) (es : List Event) → Placed c 0 w
     → c.round - c.adjust ≤ offset_of w → EndsAreSeen c w es (is_at_end (offset_of w))
     → (checked w.tick (mode_of c w) (is_at_end (offset_of w)) w.jobs).events

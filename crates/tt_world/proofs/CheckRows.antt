@@ -1,4 +1,4 @@
--- The checks of an instant are those of the rows of the mode: the law of checks at one instant.
+-- The checks of an instant are those of the rows of its mode: the law of checks at one instant.
 use Rattle.std.proofs.Common.{ℕ, suc, ◌≡◌, ◌<◌, ◌≤◌, ◌+◌, List, [], ◌∷◌, Bool, true, false, None, refl, ap, sym, ◌∙◌, arith, length, get_or}
 use Rattle.std.proofs.lemmas.Bool.{ne_eqb}
 use Rattle.tt_base.specs.declared.number.TaskNo.{TaskNo}
@@ -57,7 +57,7 @@ module _ (seen : List Event) (at start : ℕ) (mode : ModeDef) (is_due : Point �
   if_events true check others es fs a b = a refl
   if_events false check others es fs a b = b refl
 
-  -- activations of which the first is that of this row, and so on; a row after them is not due
+  -- the activations of the rows from this one on, in their order; no row after those is due
   pub record Same (n : ℕ) (xs : List Job) (rows : List ActivationRow) : Type 0 where
     pub entries : (i : ℕ) → i < length xs → (job_at xs i).entry ≡ n + i
     pub rows_are : (i : ℕ) → i < length rows → get_or rows i no_row ≡ row_of mode (n + i)
@@ -106,8 +106,8 @@ module _ (seen : List Event) (at start : ℕ) (mode : ModeDef) (is_due : Point �
 
 -- ---- at an offset of the round
 
--- of an instant: nothing is left of an activation whose point is due exactly where its task has an end later than its
--- offset
+-- at an instant, for each activation whose point is due: nothing is left of it exactly where its task has an end later
+-- than its offset
 abbrev pub EndsAreSeen : ConfigParts → World → List Event → (Point → Bool) → Type 0
 EndsAreSeen c w es is_due =
     (i : ℕ) → i < length w.jobs → is_due (point_of (mode_of c w) (row_of (mode_of c w) i)) ≡ true

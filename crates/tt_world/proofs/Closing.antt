@@ -30,7 +30,7 @@ use Rattle.tt_world.proofs.Calm.{shuts_status}
 use Rattle.tt_world.proofs.Stamps.{Mute, IsAt, MuteAt, AtTick, EndsAtTick, EndsAs, each_of, status_after, last_more, shuts_last, leaving_tick, run_at, followed_go, followed_over, opening_at_tick, Reads, step_reads}
 use Rattle.tt_world.proofs.Ends.{tick_at, few_ticks, last_is, last_unique, are_bounded}
 
--- events that tell nothing change nothing in front
+-- events before them that say nothing about the end change nothing
 ends_more : (es fs : List Event) (end : Outcome) (at : ℕ) → Of Mute es → EndsAs end at fs → EndsAs end at (es ++ fs)
 ends_more es fs None at p q = tt
 ends_more es fs (Some end) at p q = (status_after es fs p ∙ q.0, last_more es fs (last_event end at) q.1)
@@ -84,8 +84,8 @@ step_ends c s w =
 
 -- ---- an instant
 
--- the events of an instant: none is later than the next tick; where the run goes on none tells of its end, and else
--- they are of this tick and say how it has ended
+-- the events of an instant: none is later than the next tick. Where the run goes on, none says that it ends; otherwise
+-- all are of this tick and say how it has ended
 pub record Tells (T : ℕ) (m : Moved) : Type 0 where
   pub high : Of (λ e. stamp_of e ≤ T + 1) m.events
   pub on : is_over m.end ≡ false → Of Mute m.events
@@ -130,7 +130,7 @@ instant_tells c s w T t =
 
 -- ---- a run
 
--- the events before an instant: none is later, and none tells of the end
+-- the events before an instant: none is later, and none says that the run ends
 pub before_tells : (c : ConfigParts) (s : ScriptParts) (n : ℕ) → GoesOnBefore c s n
     → Of (λ e. (stamp_of e ≤ n) × Mute e) (events_before c s n)
 unfolding events_before instant_at
@@ -174,7 +174,7 @@ stamp_of_end ending.LastRound at = refl
 stamp_of_end (ending.Missed task) at = refl
 stamp_of_end ending.Shutdown at = refl
 
--- what a run that ends by an outcome at an instant has: its status, and the stamp of its last event
+-- what holds of a run that ends with this outcome at an instant: its status, and the stamp of its last event
 pub ended_status : (end : RunEnd) (at : ℕ) (es : List Event) → EndsAs (Some end) at es → status_by end at ≡ status_of es
 ended_status end at es p = sym p.0
 

@@ -1,4 +1,4 @@
--- The run ends, and where.
+-- That the run ends, and where.
 use Rattle.std.proofs.Common.{ℕ, zero, suc, ◌≡◌, ◌<◌, ◌≤◌, ◌+◌, ◌-◌, ◌*◌, List, [], false, Option, None, Some, refl, ap, sym, ◌∙◌, eqb, arith, add-one, ⊎_elim}
 use Rattle.std.proofs.Math.Nat.{mul-le-mul_right}
 use Rattle.std.proofs.lemmas.Bool.{cond_both, cases_order, cases_lt, false≢true, cases_Bool}
@@ -24,7 +24,7 @@ use Rattle.tt_world.proofs.Keeps.{Holds, monitored_holds, enables_hold, arrivals
 use Rattle.tt_world.proofs.Time.{Timed, Stands, opening_timed, timed_at}
 use Rattle.tt_world.proofs.Points.{Ahead, opening_ahead, ahead_at, points_ahead}
 
--- the tick is raised by the tick alone
+-- only the tick of an instant raises the tick
 module _ (c : ConfigParts) (s : ScriptParts) (t : ℕ) where
   At : World → Type 0
   At v = v.tick ≡ t
@@ -112,7 +112,7 @@ tick_at c s zero g = refl
 tick_at c s (suc n) g = tick_next c s n (tick_at c s n (goes_on_less c s n g)) (g n (omega arith)) ∙ add-one n
 
 module _ (c : ConfigParts) (s : ScriptParts) (bounded : IsBounded c s) where
-  -- a run that has not ended before n has taken n ticks, and there are fewer than that
+  -- a run that has not ended before n has taken n ticks: n is at most the most ticks
   before_end : (latched : Option ℕ) (offset : ℕ) → Stands Before c latched offset → offset ≤ c.round + c.adjust
   before_end None offset h = omega arith
   before_end (Some length) offset h = let l = h.0.1 in let m = h.1 in omega arith

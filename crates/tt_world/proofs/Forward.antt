@@ -35,7 +35,7 @@ round_in w = record { start = w.start; mode = w.mode }
 
 -- ---- a part that goes on with the same round
 
--- each unfinished activation stays so, or has its end among these events
+-- each unfinished activation stays unfinished, or has its end among these events
 pub record Forward (c : ConfigParts) (w v : World) (fs : List Event) : Type 0 where
   pub start : v.start ≡ w.start
   pub mode : v.mode ≡ w.mode
@@ -70,7 +70,7 @@ abbrev pub left_acts : Runner → List Job → List Stmt → List Job
 left_acts (runner.Job q) xs after = with_left xs q after
 left_acts r xs after = xs
 
--- of what a tick serves: what is left of the activations, and that a runner of which nothing is left has ended
+-- a tick before it is over: what is left of the activations, and that a runner of which nothing is left has ended
 pub record Mid (w : World) (r : Runner) (v : World) (ended : Bool) : Type 0 where
   pub after : List Stmt
   pub start : v.start ≡ w.start
@@ -222,7 +222,7 @@ module _ (c : ConfigParts) (s : ScriptParts) where
       leaving_tick x (runner.Osek i) after = refl
       leaving_tick x runner.Nobody after = refl
 
-  -- a tick: each unfinished activation stays so or has its end, and a shutdown is the last event
+  -- a tick: each unfinished activation stays unfinished or has its end, and a shutdown is the last event
   pub step_forward : (w : World) → LeadsTo (λ v fs. Forward c w v fs) (λ end v fs. EndsAt w.tick fs) [] (step c s w)
   unfolding step
   step_forward w =

@@ -13,7 +13,7 @@ use Rattle.tt_world.specs.World.{World}
 use Rattle.tt_world.specs.Runners.{no_job, job_at, is_done, with_left}
 use Rattle.tt_world.specs.Step.{state_after}
 
--- a place of a list with one more at its end is an old place, or the new one
+-- a place of a list that got one more item at its end is an old place or the new one
 abbrev pub IsOldPlace : List Job → Job → ℕ → Type 0
 IsOldPlace xs y place = (place < length xs) × (job_at (xs ++ y ∷ []) place ≡ job_at xs place)
 
@@ -29,7 +29,7 @@ place_of_more xs y place l =
     inr (e, ap (job_at (xs ++ y ∷ [])) e ∙ get_or-append_seam xs y [] no_job))
     (cases_lt place (length xs))
 
--- a place of a list in which what is left at one place was changed
+-- changing what is left at one place adds no place
 pub place_of_set : (xs : List Job) (q : ℕ) (left : List Stmt) (place : ℕ) → place < length (with_left xs q left)
     → place < length xs
 place_of_set xs q left place l = omega (arith, length-set xs q (record { entry = (job_at xs q).entry; left = left }))
@@ -59,7 +59,7 @@ unfolding tick
 tick_undone c s w [] e = e
 tick_undone c s w (front ∷ rest) e = refl
 
--- what has statements left where what is left at one place was changed had some before
+-- what has statements left after a change at one place also had some before
 pub undone_before : (xs : List Job) (q place : ℕ) (left : List Stmt)
     → (is_done left ≡ false → is_done (job_at xs q).left ≡ false) → place < length (with_left xs q left)
     → is_done (job_at (with_left xs q left) place).left ≡ false → is_done (job_at xs place).left ≡ false

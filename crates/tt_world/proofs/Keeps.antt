@@ -31,7 +31,7 @@ use Rattle.tt_world.specs.Services.{Answer, answers, synced, ready, service, is_
 use Rattle.tt_world.specs.Step.{effected, state_after, runner_tick, step, run_line}
 use Rattle.tt_world.proofs.Parts.{Alone, Anything, LeadsTo, Leads, followed_leads, chain_each}
 
--- a part of the world alone
+-- what holds of the world alone after a part
 abbrev pub Holds : (World → Type 0) → List Event → Moved → Type 0
 Holds P es m = LeadsTo (Alone P) Anything es m
 
@@ -49,7 +49,7 @@ monitored_holds P c is_due w es p = checked_going P c _ (checked w.tick (mode_of
 
 -- ---- gates
 
--- an invariant that does not read the gates and routines
+-- an invariant that says nothing of the gates and routines
 abbrev pub IgnoresGates : (World → Type 0) → Type 0
 IgnoresGates P = (w : World) (enabled held oheld : List Bool) (isrs oisrs : List (List Stmt)) → P w
     → P (record w { isrs_enabled = enabled; isrs_held = held; isrs = isrs; oisrs_held = oheld; oisrs = oisrs })
@@ -96,8 +96,8 @@ module _ (P : World → Type 0) (ignores : IgnoresGates P) where
 
 -- ---- the tick
 
--- what a service leaves of the world: the wanted mode, the pending correction, the global times and the OSEK tasks may
--- be others
+-- what a service does to the world: it may change the wanted mode, the pending correction, the global times and the
+-- OSEK tasks
 pub record AfterService (c : ConfigParts) (w v : World) : Type 0 where
   pub wanted : ModeNo
   pub pending : ℤ
@@ -158,7 +158,7 @@ synced_answers c r (Some global) left w =
       correction = inr (global, refl);
     })
 
--- only an OSEK task is the caller where the caller is this task
+-- where the caller is this task, it is an OSEK task
 pub caller_is_osek : (r : Runner) (task : OsekNo) → is_caller r task ≡ true → IsOsek r
 caller_is_osek (runner.Osek caller) task e = refl
 caller_is_osek (runner.Isr isr) task e = cc
@@ -197,11 +197,11 @@ service_answers c s r call.Terminate left w = record { world = same_world c w; l
 abbrev pub IsLeftAfter : ConfigParts → ScriptParts → World → Runner → List Stmt → Type 0
 IsLeftAfter c s w r after = IsLeft r (state_after c s w (left_of w r)).left after
 
--- facts on the tick, where P holds before it, R once it has changed what is left of the runner, and S after it
+-- facts about the tick: P holds before it, R after what is left of the runner was changed, and S after the tick
 pub record StepKeeps (c : ConfigParts) (s : ScriptParts) (P R S : World → Type 0) : Type 0 where
   pub left : (w : World) (after : List Stmt) → P w → IsLeftAfter c s w (runner_of c w) after
       → R (leaving w (runner_of c w) after)
-  -- it does not read these
+  -- R does not depend on these
   pub free : (w : World) (vars : List ℤ) (cursors : List ℕ) (wanted : ModeNo) (used : ℕ) (oseks : List (List Stmt))
       → R w
       → R (record w { vars = vars; cursors = cursors; wanted = wanted; times_used = used; oseks = oseks })
@@ -242,7 +242,7 @@ module _ (c : ConfigParts) (s : ScriptParts) (P R S : World → Type 0) (k : Ste
       (k.free _ vars cursors h.wanted h.used h.oseks (k.synced w g.0 p)))
       h.correction)
 
-  -- what is left of the runner may as well be changed first
+  -- what is left of the runner may also be changed first
   left_first : (r : Runner) (w : World) (vars : List ℤ) (cursors : List ℕ) (v : World) (after : List Stmt)
       → AfterService c (record w { vars = vars; cursors = cursors }) v
       → AfterService c (record (leaving w r after) { vars = vars; cursors = cursors }) (leaving v r after)

@@ -1,4 +1,4 @@
--- The length of a round is latched after the offset L - A alone.
+-- The length of a round is latched only after the offset L - A.
 use Rattle.std.proofs.Common.{ℕ, ◌≡◌, ◌<◌, ◌≤◌, ◌+◌, ◌-◌, List, Option, None, Some, eqb, arith}
 use Rattle.std.proofs.lemmas.Bool.{cond_both, eqb-true}
 use Rattle.tt_base.specs.declared.event.Event.{Event}

@@ -1,5 +1,5 @@
--- The present and the wanted mode exist, and what is left of anybody has short expressions, names what is declared,
--- and is allowed to its owner.
+-- The present and the wanted mode exist. What is left of any owner has short expressions, names what is declared, and
+-- is allowed to that owner.
 use Rattle.std.proofs.Common.{ℕ, suc, ◌≡◌, ◌≢◌, ◌<◌, ◌≤◌, ◌+◌, ◌-◌, List, [], ◌∷◌, ◌++◌, Bool, true, false, Option, None, Some, refl, ap, sym, ◌∙◌, subst, eqb, arith, length, ◌⊎◌, ⊎_elim, inl, inr, get_or, set, get_or-set_same, get_or-set_other}
 use Rattle.std.specs.Prelude.{◌==◌, ◌&&◌, map, replicate, if◌then◌else◌}
 use Rattle.std.specs.List.{list_any}
@@ -49,7 +49,7 @@ use Rattle.tt_world.proofs.Parts.{OpeningKeeps, Alone, Anything, Leads, followed
 use Rattle.tt_world.proofs.Keeps.{Holds, caller_is_osek, monitored_holds}
 use Rattle.tt_world.proofs.JobLists.{at_set, at_other, IsOldPlace, IsNewPlace, place_of_more}
 
--- what one runner has left where another's was changed
+-- what is left of one runner, where what is left of another was changed
 set_cases : (xs : List (List Stmt)) (i j : ℕ) (left : List Stmt)
     → (get_or (set xs i left) j [] ≡ left) ⊎ (get_or (set xs i left) j [] ≡ get_or xs j [])
 set_cases xs i j left =
@@ -78,7 +78,7 @@ leaving_cases w (runner.Oisr i) (runner.Oisr j) left = set_cases w.oisrs i.0 j.0
 leaving_cases w (runner.Osek i) (runner.Osek j) left = set_cases w.oseks i.0 j.0 left
 leaving_cases w r q left = inr refl
 
--- each list left passes a test of an owner's kind and its list
+-- each list that is left passes a test of it and of its owner's kind
 abbrev pub EachLeft : (OwnerKind → List Stmt → Type 0) → World → Type 0
 EachLeft Test w = (r : Runner) → Test (kind_of r) (left_of w r)
 
@@ -237,7 +237,7 @@ module _ (c : ConfigParts) (s : ScriptParts) (rules : IsConfig c) where
       tick_named (front ∷ rest) w (out-Stmt front) rest
       (and_parts (test (map-Stmt Stmt Bool (each_of test) (out-Stmt front))) _ here).0
 
-  -- the tests of expressions and names say nothing of work and repeats, so they last
+  -- the tests of expressions and names pass at every work and repeat, so they last
   lasting : (test : Stmt-F Bool → Bool) → ((n : ℕ) → test (Stmt-F.Work n) ≡ true)
       → ((n : ℕ) (body : List Bool) → test (Stmt-F.Repeat n body) ≡ true)
       → LastsThroughTicks (supply_of c.demands s.values) test

@@ -43,7 +43,7 @@ module _ (c : ConfigParts) (t : ℕ) (seen : List Event) (status : Status) (end 
   abbrev Here : Bool → ℕ → Type 0
   Here last stop = ChecksAtEnd c last status (λ is_due. kept ≡ rows_of c t seen round is_due) (stop - round.start)
 
-  -- the last round and each other one alike
+  -- the last round and any other round in the same way
   alike : (last : Bool) (stop : ℕ) → (last ≡ true → stop ≡ end)
       → ByLast last (Finally c t seen end status round kept) (Has c t seen round stop kept)
       → Monitored c t seen round stop (Here last stop) kept
@@ -62,7 +62,7 @@ module _ (c : ConfigParts) (s : ScriptParts) (rules : IsConfig c) (script : IsSc
   last : IsLast c s n
   last = last_is c s (are_bounded c s rules script)
 
-  -- instants before which the run goes on are not after the last
+  -- an instant before which the run always goes on is not after the last one
   not_after : (k : ℕ) → GoesOnBefore c s k → k ≤ n
   not_after k g =
       ⊎_elim (λ (l : n < k). absurd (false≢true (sym (g n l) ∙ last.ends))) (λ (m : k ≤ n). m) (cases_lt n k)

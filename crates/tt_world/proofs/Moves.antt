@@ -9,14 +9,14 @@ use Rattle.std.specs.Prelude.{None, Some}
 use Rattle.tt_world.specs.declared.world.RunEnd.TheVariants as ending
 use Rattle.tt_world.specs.Moved.{Outcome}
 
--- an outcome is no end of the run exactly where the run goes on
+-- where the run is not over, its outcome is that it goes on
 pub going_from : (end : Outcome) → is_over end ≡ false → None ≡ end
 going_from None e = refl
 going_from (Some ending.LastRound) e = cc
 going_from (Some (ending.Missed task)) e = cc
 going_from (Some ending.Shutdown) e = cc
 
--- a chain of two pieces
+-- a chain in two pieces
 both_same : (over : Bool) (m : Moved) (parts more : List (World → Moved)) → is_over m.end ≡ over
     → ((v : World) → chain (parts ++ more) v ≡ followed (chain parts v) (chain more))
     → continued over m (chain (parts ++ more)) ≡ followed (continued over m (chain parts)) (chain more)
@@ -52,7 +52,7 @@ module _ {L : Type 0} {Told : L → List Event → L → Type 0} where
         end_is = g.end_is ∙ sym (ap (λ x. x.end) e);
       }
 
-  -- so too in a chain of parts
+  -- the same in a chain of parts
   pub gives_over : (a b : L) (w : World) (end : Outcome) (part : World → Moved) (parts : List (World → Moved))
       (u : World) → is_over end ≡ true → Gives Told a b w end (part u) → Gives Told a b w end (chain (part ∷ parts) u)
   unfolding chain
@@ -70,7 +70,7 @@ module _ {L : Type 0} {Told : L → List Event → L → Type 0} (telling : IsTe
   pub gives_none : (a : L) (w : World) → Gives Told a a w None (goes_on w [])
   gives_none a w = record { world_is = refl; told = telling.none a; end_is = refl }
 
-  -- where the code of a part goes on and the code of the next part follows, both together are one after the other
+  -- where the code of a part goes on and that of the next part follows, together they do one after the other
   pub gives_next : (a b d : L) (v w : World) (end : Outcome) (m : Moved) (next : World → Moved)
       → Gives Told a b v None m → Gives Told b d w end (next v) → Gives Told a d w end (followed m next)
   unfolding followed
@@ -85,14 +85,14 @@ module _ {L : Type 0} {Told : L → List Event → L → Type 0} (telling : IsTe
         end_is = h.end_is ∙ ap (λ x. x.end) n ∙ sym (ap (λ x. x.end) e);
       }
 
-  -- a chain of parts: the first, and then the others; and for a loop, a part after those that were done
+  -- a chain of parts: the first, and then the others; for a loop: one more part after those that were done
   pub gives_first : (a b d : L) (v w : World) (end : Outcome) (part : World → Moved) (parts : List (World → Moved))
       (u : World) → Gives Told a b v None (part u) → Gives Told b d w end (chain parts v)
       → Gives Told a d w end (chain (part ∷ parts) u)
   unfolding chain
   gives_first a b d v w end part parts u g h = gives_next a b d v w end (part u) (chain parts) g h
 
-  -- for a loop: none of the parts was done yet, and one more is done
+  -- for a loop: no part was done yet; and one more part is done
   pub gives_begin : {X : Type 0} (part : X → World → Moved) (xs : List X) (a : L) (w : World)
       → Gives Told a a w None (chain (map part (take 0 xs)) w)
   unfolding chain

@@ -1,4 +1,4 @@
--- What is unfinished by events: after an event that begins it, after its end, and after any other event.
+-- What is unfinished according to the events: after an event that begins it, after its end, and after any other event.
 use Rattle.std.proofs.Common.{ℕ, ◌≡◌, ◌<◌, ◌≤◌, List, [], ◌∷◌, ◌++◌, Bool, true, false, Option, None, Some, refl, ap, sym, ◌∙◌, append-nil}
 use Rattle.std.specs.Prelude.{◌&&◌, ◌||◌, not, cond, flat_map, filter}
 use Rattle.std.proofs.lemmas.Grind.{flat_map-append}
@@ -19,7 +19,7 @@ use Rattle.tt_world.proofs.Emits.{Of}
 
 -- ---- one kind of things that begin and end
 
--- an event that ends nothing
+-- whether an event ends something
 abbrev pub ends : Event → Bool
 ends (End at who) = true
 ends event = false
@@ -41,7 +41,7 @@ ended_more : (at : ℕ) (who : Owner) (es : List Event) (e : Event)
 ended_more at who es e = list_any-append (is_end_after at who) es (e ∷ [])
     ∙ ap (λ (b : Bool). has_ended at who es || b) (or_false (is_end_after at who e))
 
--- an end after them all
+-- an event whose stamp is not later than the tick is no end after it
 early_end : (at : ℕ) (who : Owner) (e : Event) → stamp_of e ≤ at → is_end_after at who e ≡ false
 early_end at who (End t other) l = ap (λ (b : Bool). same_owner who other && b) (le-ltb at t l)
     ∙ and_false (same_owner who other)
@@ -73,7 +73,7 @@ module _ {X : Type 0} (who : X → Owner) (item : Event → Option X) where
       ap (λ (xs : List X). xs ++ unended more es) (same_if (stamp_of e) seen more (item e) (h (stamp_of e)))
       ∙ ap (λ (xs : List X). open_if who (stamp_of e) seen (item e) ++ xs) (same_unended seen more es h)
 
-  -- an event that ends nothing ends nothing
+  -- an event that ends nothing changes nothing
   pub still_unended : (seen es : List Event) (e : Event) → ends e ≡ false
       → unended (seen ++ e ∷ []) es ≡ unended seen es
   still_unended seen es e n =
@@ -110,7 +110,7 @@ module _ {X : Type 0} (who : X → Owner) (item : Event → Option X) where
   filter_if true other x = refl
   filter_if false other x = refl
 
-  -- an end after all that began ends those of its owner
+  -- an end that comes after all that began ends what its owner began
   end_if : (at t : ℕ) (other : Owner) (seen : List Event) (o : Option X) → at < t
       → open_if who at (seen ++ End t other ∷ []) o ≡ filter (remains other) (open_if who at seen o)
   end_if at t other seen None l = refl
@@ -158,7 +158,7 @@ flat_same : {X : Type 0} (f g : Event → List X) → ((e : Event) → f e ≡ g
 flat_same f g h [] = refl
 flat_same f g h (e ∷ es) = ap (λ xs. xs ++ flat_map f es) (h e) ∙ ap (λ xs. g e ++ xs) (flat_same f g h es)
 
--- the tasks and the routines that are unfinished by these events
+-- the tasks and the routines that are unfinished according to these events
 abbrev pub tasks_of : List Event → List TaskNo
 tasks_of es = unended owner.Task task_item es (present_round es)
 
@@ -197,7 +197,7 @@ unfolding after_round
 round_new kept [] e r n = ap (λ o. after_if o kept []) n
 round_new kept (d ∷ es) e r n = round_new (after_if (round_of d) kept (es ++ e ∷ [])) es e r n
 
--- it holds of the events of the present round what holds of all
+-- what holds of all events holds of those of the present round
 pub of_round : (E : Event → Type 0) (kept es : List Event) → Of E kept → Of E es → Of E (after_round kept es)
 unfolding after_round
 of_round E kept [] p q = p

@@ -1,4 +1,4 @@
--- What is unfinished by events stays what is unfinished in the world over a tick.
+-- Over a tick, what is unfinished according to the events stays what is unfinished in the world.
 use Rattle.std.proofs.Common.{ℕ, zero, suc, ◌≡◌, ◌≢◌, ◌<◌, ◌≤◌, ◌+◌, ◌-◌, List, [], ◌∷◌, ◌++◌, Bool, true, false, Option, None, Some, refl, ap, sym, ◌∙◌, subst, arith, length, get_or, append-nil, ◌⊎◌, ⊎_elim, inl, inr, get_or-set_same, get_or-set_other}
 use Rattle.std.specs.Prelude.{◌==◌, ◌&&◌, ◌||◌, not, cond, filter, slice_set}
 use Rattle.std.proofs.lemmas.List.{length-set, get_or_past}
@@ -111,7 +111,7 @@ module _ (mode : ModeDef) where
   drop_one true u t d e = cc
   drop_one false u t d e = ap (λ (b : Bool). cond (not b) (u ∷ []) []) (eq-eqb u.0 t.0 e)
 
-  -- the end of the one of a task takes it away
+  -- the end of a task's one unfinished activation removes it from the list
   pub close_open : (t : TaskNo) (xs : List Job) (q : ℕ) (y : Job) → q < length xs → is_done y.left ≡ true
       → is_done (job_at xs q).left ≡ false → (task_of (job_at xs q)).0 ≡ t.0
       → ((p : ℕ) → p < length xs → is_done (job_at xs p).left ≡ false → p ≢ q → (task_of (job_at xs p)).0 ≢ t.0)
@@ -172,7 +172,7 @@ abbrev left_isrs : Runner → List (List Stmt) → List Stmt → List (List Stmt
 left_isrs (runner.Isr i) xs after = slice_set xs i.0 after
 left_isrs r xs after = xs
 
--- a runner but an OSEK task ends exactly where nothing is left of it
+-- a runner that is no OSEK task ends exactly where nothing is left of it
 abbrev pub Ended : Runner → Bool → List Stmt → Type 0
 Ended r ended after = IsOsek r ⊎ (ended ≡ is_done after)
 
@@ -252,7 +252,7 @@ leaving_left w runner.Nobody v after ended a b t d h e =
       ends = e;
     }
 
--- a service that ends another than an OSEK task leaves nothing of it
+-- a service that ends its caller leaves nothing of it, unless the caller is an OSEK task
 abbrev Fine : Runner → Answer → Type 0
 Fine r a = IsOsek r ⊎ (a.ends ≡ true → is_done a.left ≡ true)
 

@@ -22,9 +22,9 @@ use Rattle.tt_world.proofs.Moves.{going_from}
 use Rattle.tt_world.proofs.Parts.{by_end}
 use Rattle.tt_world.proofs.Keeps.{Holds, monitored_holds, IgnoresGates, enables_hold, arrivals_hold, acceptances_hold}
 
--- ---- what is due at an instant, by the offset and the mode that it begins with
+-- ---- what is due at an instant, by its offset and mode at the start
 
--- the enables of an offset of a mode
+-- the enables at an offset of a mode
 abbrev pub enables_from : ℕ → ModeDef → World → Moved
 enables_from offset mode = chain (map enable (enables_at offset mode.enables))
 
@@ -54,7 +54,7 @@ continued_same : (over : Bool) (P : World → Type 0) (m : Moved) (f g : World �
 continued_same false P m f g p e = ap (preceded m.events) (e m.world p)
 continued_same true P m f g p e = refl
 
--- two parts that follow are alike where they are alike in each world that can come before them
+-- two next parts are alike where they are alike in each world that they can begin with
 followed_same : (P : World → Type 0) (m : Moved) (f g : World → Moved) → Holds P [] m
     → ((v : World) → P v → f v ≡ g v) → followed m f ≡ followed m g
 unfolding followed
@@ -132,7 +132,7 @@ module _ (c : ConfigParts) (s : ScriptParts) where
         (arrivals c s ∷ acceptances c ∷ activated_in c (mode_of c w)
         (entry_at (offset_of w) (mode_of c w).activations) ∷ []))) (enables_are v p)
 
-    -- what is due is that of the offset and the mode at which the parts begin
+    -- what is due is what is due at the offset and in the mode at which the parts begin
     pub due_same : chain (due c s) w ≡ chain (due_from c s (offset_of w) (mode_of c w)) w
     unfolding chain checks
     due_same =

@@ -103,7 +103,7 @@ module _ (c : ConfigParts) (s : ScriptParts) (T : ℕ) (w : World) (t : w.tick �
       }))
       (cases_Bool (is_over begun.end))
 
-  -- an opening that ends the run is no end by a ttShutdownOS
+  -- an opening that ends the run does not end it by a ttShutdownOS
   shut_on : (u : ℕ) → status_of (instant c s w).events ≡ Shut u → is_over begun.end ≡ false
   unfolding instant
   shut_on u h =
@@ -210,7 +210,7 @@ module _ (c : ConfigParts) (s : ScriptParts) (rules : IsConfig c) (script : IsSc
       (λ (ge : j ≤ u). let same : j ≡ u = omega arith in ap (λ (k : ℕ). seen_at u (events_before c s (suc k))) same)
       (cases_lt u j)
 
-  -- the owner that the events seen tell
+  -- the owner according to the events seen
   abbrev OwnerBy : List Event → Type 0
   OwnerBy seen = IsOwner c (last_owner None seen) (flat_map (task_if seen) (present_round seen))
       (flat_map (isr_if seen) seen)
@@ -319,6 +319,6 @@ module _ (c : ConfigParts) (s : ScriptParts) (rules : IsConfig c) (script : IsSc
   owners_run : OwnersRun c (schedule c s)
   owners_run u t = let h = taken u t in owner_now u h.0 h.1
 
--- each tick has the owner that the events before it tell
+-- each tick has the owner according to the events before it
 pub owners_are_right : OwnersLaw
 owners_are_right c s rules script = owners_run c s rules script

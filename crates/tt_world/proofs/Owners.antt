@@ -75,7 +75,7 @@ checked_silent at mode is_due (x ∷ xs) =
     if_silent (is_due (point_of mode (row_of mode x.entry))) _ _
     (then_silent at _ (is_done x.left) _ (checked_silent at mode is_due xs)) (checked_silent at mode is_due xs)
 
--- an owner that is the same is one
+-- owners that compare equal are equal
 pub owner_same : (a b : Owner) → same_owner a b ≡ true → a ≡ b
 owner_same (owner.Task a) (owner.Task b) e = ap (λ (n : ℕ). owner.Task (record { 0 = n })) (eqb-true a.0 b.0 e)
 owner_same (owner.Isr a) (owner.Isr b) e = ap (λ (n : ℕ). owner.Isr (record { 0 = n })) (eqb-true a.0 b.0 e)
@@ -193,7 +193,7 @@ module _ (c : ConfigParts) (s : ScriptParts) where
       → Ran (Some who) (es ++ (fs ++ gs))
   silent_more who es fs gs q r = subst (Ran (Some who)) (append_assoc es fs gs) (silent_on (Some who) (es ++ fs) gs q r)
 
-  -- after the Run event of a tick its owner is the last that ran
+  -- after the Run event of a tick, its owner is the last that ran
   pub run_now : (w : World) (who : Owner) (es : List Event) → LastRan w es → Ran (Some who) (es ++ run_line w who)
   run_now w who es r =
       ⊎_elim
@@ -206,7 +206,7 @@ module _ (c : ConfigParts) (s : ScriptParts) where
       subst (λ fs. Ran (Some who) (es ++ fs)) (sym now) (ran_here es w.tick who))
       (cases_Bool (ran_before w.last who))
 
-  -- the events of a tick have no other
+  -- the events of a tick have no other Run event
   abbrev RanNow : Owner → OfRun
   RanNow who w es = Ran (Some who) es
 

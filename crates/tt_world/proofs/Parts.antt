@@ -31,7 +31,7 @@ by_end true P Q = Q
 abbrev pub LeadsTo : OfRun → OfEnd → List Event → Moved → Type 0
 LeadsTo P Q es m = by_end (is_over m.end) (P m.world (es ++ m.events)) (Q m.end m.world (es ++ m.events))
 
--- by what is known of the end
+-- one case where the run goes on, and one where it is over
 by_cases : (over : Bool) (A B : Type 0) → (over ≡ false → A) → (over ≡ true → B) → by_end over A B
 by_cases false A B a b = a refl
 by_cases true A B a b = b refl
@@ -126,7 +126,7 @@ pub chain_each : {X : Type 0} (P : OfRun) (Q : OfEnd) (part : X → World → Mo
 chain_each P Q part [] h = chain_none P Q
 chain_each P Q part (x ∷ xs) h = chain_more P P P Q (part x) (map part xs) (h x) (chain_each P Q part xs h)
 
--- parts that all keep P, of which one leads to R, which all keep too
+-- parts that all keep P and all keep R, of which one leads from P to R
 pub chain_at : {X : Type 0} (P R : OfRun) (Q : OfEnd) (part : X → World → Moved) (xs : List X) (k : ℕ) (d : X)
     → k < length xs → ((x : X) → Leads P P Q (part x)) → Leads P R Q (part (get_or xs k d))
     → ((x : X) → Leads R R Q (part x)) → Leads P R Q (chain (map part xs))
@@ -136,7 +136,7 @@ chain_at P R Q part (x ∷ xs) zero d l each one later =
 chain_at P R Q part (x ∷ xs) (suc k) d l each one later =
     chain_more P P R Q (part x) (map part xs) (each x) (chain_at P R Q part xs k d (omega arith) each one later)
 
--- where an instant stands: before its opening, and after each part of it
+-- where an instant is: before its opening, and after each part of it
 pub data Phase : Type 0 where
   Before : Phase
   Latched : Phase
@@ -196,8 +196,8 @@ module _ (c : ConfigParts) (s : ScriptParts) (P : Phase → OfRun) (Q : OfEnd) (
 abbrev pub GoesOnBefore : ConfigParts → ScriptParts → ℕ → Type 0
 GoesOnBefore c s n = (k : ℕ) → k < n → ends_at c s k ≡ false
 
--- what each instant keeps, from instant m on: P of how many instants have passed, of the world and of the events since
--- m
+-- what each instant keeps, from instant m on: P says it of the number of instants passed, the world, and the events
+-- since m
 module _ (c : ConfigParts) (s : ScriptParts) (P : ℕ → OfRun) (Q : OfEnd) (m : ℕ)
     (each : (k : ℕ) → GoesOnBefore c s (m + k) → P k (world_at c s (m + k)) (events_between c s m k)
     → LeadsTo (P (k + 1)) Q (events_between c s m k) (instant c s (world_at c s (m + k)))) where

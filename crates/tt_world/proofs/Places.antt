@@ -1,5 +1,5 @@
--- The activations of a round stand in the order of the rows of its mode: the one at a place is that of the row of this
--- number.
+-- The activations of a round are in the order of the rows of its mode: the activation at a place is that of the row
+-- with this number.
 use Rattle.std.proofs.Common.{ℕ, zero, suc, ◌≡◌, ◌<◌, ◌≤◌, ◌+◌, ◌-◌, List, [], ◌∷◌, false, Option, None, Some, refl, ap, sym, ◌∙◌, subst, eqb, arith, length, get_or, ⊎_elim}
 use Rattle.std.specs.Prelude.{◌==◌}
 use Rattle.std.specs.List.{position_or_len}

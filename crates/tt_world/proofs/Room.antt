@@ -19,7 +19,7 @@ use Rattle.tt_world.proofs.TableRows.{mode_rows, row_found, list_all_get}
 use Rattle.tt_world.proofs.Points.{Ahead, activated_ahead}
 use Rattle.tt_world.proofs.Places.{Placed, activated_placed, single}
 
--- whether statements are left of an activation
+-- whether an activation has statements left
 abbrev pub is_undone : Job → Bool
 is_undone job = not (is_done job.left)
 
@@ -52,7 +52,7 @@ one_found k n true a ys rest first t = by (eqb k a) refl t rest
     by false e u rest = rest u
 
 module _ (f : Job → ℕ) where
-  -- the numbers of those of which statements are left
+  -- the numbers of those that have statements left
   abbrev keys : List Job → List ℕ
   keys [] = []
   keys (x ∷ xs) = cond (is_undone x) (f x ∷ keys xs) (keys xs)
@@ -61,7 +61,7 @@ module _ (f : Job → ℕ) where
   length_keys [] = refl
   length_keys (x ∷ xs) = one_longer (is_undone x) (f x) (keys xs) x (filter is_undone xs) (length_keys xs)
 
-  -- another number than that of each of them
+  -- a number that is not the number of any of them
   apart_from : (k : ℕ) (xs : List Job)
       → ((q : ℕ) → q < length xs → is_undone (job_at xs q) ≡ true → k ≡ f (job_at xs q) → ⊥)
       → AllByRecursion (λ (y : ℕ). eqb k y ≡ false) (keys xs)

@@ -1,4 +1,4 @@
--- The activations of a round up to a tick: one more where a row stands at it, and else the same.
+-- The activations of a round up to a tick: one more where a row is at that tick, otherwise the same.
 use Rattle.std.proofs.Common.{ℕ, ◌≡◌, ◌-◌, ◌<◌, ◌≤◌, ◌+◌, zero, suc, List, [], ◌∷◌, ◌++◌, Bool, true, false, None, Some, refl, ap, sym, ◌∙◌, arith, length, get_or, ⊎_elim}
 use Rattle.std.specs.Prelude.{filter, map, cond, not, ◌==◌, nat_lt, nat_le}
 use Rattle.std.specs.List.{position_or_len}
@@ -44,7 +44,7 @@ from_least least (a ∷ rest) (suc j) h l =
     (both_right (nat_le least a.offset) (offsets_ascend (a.offset + 1) rest) h) (omega arith) in
     omega arith
 
--- one row more where one stands at the offset
+-- one more row, where one is at the offset
 below_row : (least o : ℕ) (rows : List ActivationRow) (i : ℕ) → offsets_ascend least rows ≡ true → i < length rows
     → (get_or rows i no_row).offset ≡ o → below (o + 1) rows ≡ below o rows ++ get_or rows i no_row ∷ []
 below_row least o [] i h l e = absurd (omega arith)
@@ -70,7 +70,7 @@ below_row least o (a ∷ rest) (suc i) h l e =
 some_none : (k : ℕ) → Some k ≡ None → ⊥
 some_none k f = cc
 
--- where no row is found in a list, none is found in what is after its first
+-- where no row is found in a list, none is found after its first
 pub none_after : (b : Bool) (n m : ℕ)
     → cond (nat_lt (cond (not b) (1 + n) 0) (suc m)) (Some (cond (not b) (1 + n) 0)) None ≡ None
     → (b ≡ false) × (cond (nat_lt n m) (Some n) None ≡ None)
@@ -84,7 +84,7 @@ none_after false n m e = (
       (λ (g : m ≤ n). ap (λ (x : Bool). cond x (Some n) None) (le-ltb n m g)) (cases_lt n m),
 )
 
--- none more where none does
+-- no more rows, where none is at the offset
 below_same : (o : ℕ) (rows : List ActivationRow) → entry_at o rows ≡ None → below (o + 1) rows ≡ below o rows
 below_same o [] e = refl
 below_same o (a ∷ rest) e =

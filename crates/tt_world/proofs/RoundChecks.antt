@@ -37,8 +37,8 @@ module _ (c : ConfigParts) (t : ℕ) (seen : List Event) where
   rows_of round is_due =
       let mode = mode_at c round.mode.0 in checked_rows seen t round.start mode is_due mode.activations
 
-  -- the checks at tick t that a round has had up to a tick: before this one those of its points, at it as said, and no
-  -- others
+  -- the checks at tick t that a round has had up to a tick: those of its points where t is before that tick, as `Here`
+  -- says where t is that tick, and no others
   pub record Monitored (round : RoundStart) (end : ℕ) (Here : Type 0) (kept : List Event) : Type 0 where
     pub early : t < round.start → kept ≡ []
     pub at : round.start ≤ t → t < end → kept ≡ rows_of round (is_at (t - round.start))
@@ -68,7 +68,7 @@ module _ (c : ConfigParts) (t : ℕ) (seen : List Event) where
   abbrev end_due : ℕ → RoundStart → Point → Bool
   end_due T round = is_at_end (T - round.start)
 
-  -- events with the stamp T more
+  -- with more events, of stamp T
   more : (round : RoundStart) (T : ℕ) (Here : Type 0) (kept fs : List Event) → round.start ≤ T
       → ((t ≡ T → ⊥) → fs ≡ []) → (t ≡ T → kept ≡ [] → Here) → SoFar T round kept
       → Monitored round T Here (kept ++ fs)
@@ -82,7 +82,7 @@ module _ (c : ConfigParts) (t : ℕ) (seen : List Event) where
         late = λ a. unchanged (λ e. absurd (omega arith)) ∙ p.late a;
       }
 
-  -- so at the next tick
+  -- the same, at the next tick
   next_tick : (T : ℕ) (round : RoundStart) (kept : List Event) → With (offset_due T) T round kept
       → SoFar (T + 1) round kept
   next_tick T round kept p =
@@ -122,7 +122,7 @@ module _ (c : ConfigParts) (t : ℕ) (seen : List Event) where
     of_rows (Check at task met) n = cc
     of_rows e n = refl
 
-    -- where tick t is this one, the checks of the world are read from the events seen
+    -- where t is this tick, the checks of the world are those read from the events seen
     abbrev IsRead : (ℕ → Point → Bool) → ℕ → World → Type 0
     IsRead due T w =
         t ≡ T

@@ -1,5 +1,5 @@
--- The events of a kind that each round has, read event after event: those of the present round so far, and what each
--- round that is over had.
+-- The events of one kind that each round has, read event by event: those of the present round so far, and those of each
+-- round that is over.
 use Rattle.std.proofs.Common.{ℕ, ◌≡◌, List, [], ◌∷◌, ◌++◌, Bool, true, false, Option, None, Some, refl, ap, sym, ◌∙◌, subst, append_assoc, append-nil}
 use Rattle.std.specs.Prelude.{IfSome, filter, cond, not, ◌||◌, is_some}
 use Rattle.std.specs.List.{list_any}
@@ -28,7 +28,7 @@ begun_or (Some round) o = Some (record { round = round; kept = [] })
 abbrev pub NoRound : Event → Type 0
 NoRound e = round_of e ≡ None
 
--- by the last of the rounds, and by those that are over
+-- `Last` for the last round, `Over` for a round that is over
 abbrev pub ByLast : Bool → Type 0 → Type 0 → Type 0
 ByLast true Last Over = Last
 ByLast false Last Over = Over
@@ -51,12 +51,12 @@ module _ (test : Event → Bool) where
   abbrev pub present_by : Option Present → Event → Option Present
   present_by o e = begun_or (round_of e) (with_more o (event_if (test e) e))
 
-  -- the present round after these events, before which it was this one
+  -- the present round after these events; before them it was this one
   abbrev pub present_after : Option Present → List Event → Option Present
   present_after o [] = o
   present_after o (e ∷ es) = present_after (present_by o e) es
 
-  -- after one list and another
+  -- after two lists of events
   pub present_more : (o : Option Present) (es fs : List Event)
       → present_after o (es ++ fs) ≡ present_after (present_after o es) fs
   present_more o [] fs = refl
@@ -96,19 +96,19 @@ module _ (test : Event → Bool) where
       ap (λ (x : Option RoundStart). present_after (begun_or x (with_more o (event_if (test e) e))) es) q.0
       ∙ same_round (with_more o (event_if (test e) e)) es q.1 ∙ with_kept o e es
 
-  -- what a round that is over has: of its start, of the start of the next round, and of its events of the kind
+  -- what holds of a round that is over: of its start, of the start of the next round, and of its events of the kind
   module _ (Has : RoundStart → ℕ → List Event → Type 0) where
-    -- the present round has that, where the next one begins so
+    -- this holds of the present round, where the next one begins in this way
     abbrev pub OverBy : Option Present → Option RoundStart → Type 0
     OverBy None next = Unit {0}
     OverBy (Some p) next = IfSome next (λ (round : RoundStart). Has p.round round.start p.kept)
 
-    -- each round that these events end has that
+    -- this holds of each round that these events end
     abbrev pub RoundsOver : Option Present → List Event → Type 0
     RoundsOver o [] = Unit {0}
     RoundsOver o (e ∷ es) = OverBy o (round_of e) × RoundsOver (present_by o e) es
 
-    -- of one list and another
+    -- for two lists of events
     pub rounds_more : (o : Option Present) (es fs : List Event) → RoundsOver o es → RoundsOver (present_after o es) fs
         → RoundsOver o (es ++ fs)
     rounds_more o [] fs p q = q
@@ -123,20 +123,20 @@ module _ (test : Event → Bool) where
     none_over o [] q = tt
     none_over o (e ∷ es) q = (subst (OverBy o) (sym q.0) (over_none o), none_over (present_by o e) es q.1)
 
-    -- what the last round has: of its start, and of its events of the kind
+    -- what holds of the last round: of its start, and of its events of the kind
     module _ (Last : RoundStart → List Event → Type 0) (end : ℕ) where
-      -- the present round has that, as the last one
+      -- this holds of the present round, as the last one
       abbrev pub OfLast : Option Present → Type 0
       OfLast None = Unit {0}
       OfLast (Some p) = Last p.round p.kept
 
-      -- a round has that, whose events of the kind are these and those up to the next round
+      -- this holds of a round whose events of the kind are these and those up to the next round
       abbrev pub OfRound : RoundStart → List Event → List Event → Type 0
       OfRound round kept rest =
           let all = kept ++ filter test (until_round rest) in
           ByLast (is_last_round rest) (Last round all) (Has round (next_start end rest) all)
 
-      -- one event in front
+      -- one more event at the front
       front : (round : RoundStart) (kept : List Event) (e : Event) (rest : List Event) (o : Option RoundStart)
           → OverBy (Some (record { round = round; kept = kept })) o
           → (o ≡ None → OfRound round (kept ++ event_if (test e) e) rest)
@@ -168,7 +168,7 @@ module _ (test : Event → Bool) where
       if_begun o rest None p l = tt
       if_begun o rest (Some round) p l = until_next round [] rest p l
 
-      -- so each round has that
+      -- so this holds of each round
       pub each_has : (o : Option Present) (es : List Event) → RoundsOver o es → OfLast (present_after o es)
           → EachRound (λ round rest. OfRound round [] rest) es
       each_has o [] p l = tt

@@ -34,7 +34,7 @@ use Rattle.tt_world.proofs.Calm.{IsCalm, calm_status, ChecksTell, checked_tell, 
 use Rattle.tt_world.proofs.RoundFolds.{Present, with_more, NoRound, present_after, present_more, same_round, none_such, OverBy, RoundsOver, rounds_more, none_over}
 use Rattle.tt_world.specs.declared.world.RunEnd.TheVariants as ending
 
--- nothing has told of an end, and a shutdown is told
+-- no event so far says that the run ends; where it ends, the events say that there was a shutdown
 abbrev CalmSoFar : OfRun
 CalmSoFar w es = Of IsCalm es
 
@@ -52,8 +52,8 @@ abbrev pub OfPresent : Type 1
 OfPresent = RoundStart → List Event → Type 0
 
 module _ (c : ConfigParts) (s : ScriptParts) (test : Event → Bool) (Has : RoundStart → ℕ → List Event → Type 0) where
-  -- at tick T: each round that is over had its events, D holds of the present one and of those that it has had so far,
-  -- and nothing has told of an end
+  -- at tick T: each round that is over had its events; D holds of the present round and of its events so far; and no
+  -- event says that the run ends
   pub record Going (T : ℕ) (D : OfPresent) (w : World) (es : List Event) : Type 0 where
     pub tick : w.tick ≡ T
     pub started : w.start ≤ T
@@ -153,8 +153,8 @@ module _ (c : ConfigParts) (s : ScriptParts) (test : Event → Bool) (Has : Roun
 
     -- ---- the parts of the instant at tick T
 
-    -- of the present round D holds before the checks, E after those at its end, C after those at the offset, and A
-    -- after the activation; L where the run ends; and X of the world
+    -- D holds of the present round before the checks, E after those at its end, C after those at the offset, and A
+    -- after the activation; L holds where the run ends, and X of the world
     module _ (T : ℕ) (D E C A : OfPresent) (L : Status → OfPresent) (X : Phase → World → Type 0) where
       -- what holds after each part of the instant
       abbrev pub P : Phase → OfRun
@@ -184,7 +184,7 @@ module _ (c : ConfigParts) (s : ScriptParts) (test : Event → Bool) (Has : Roun
         pub world : X Latched w
         pub length : is_length w.latched (offset_of w) ≡ true
 
-      -- what is to be shown of the parts that begin a round or write events of the kind
+      -- what has to be shown of the parts that begin a round or write events of the kind
       pub record RoundParts : Type 0 where
         -- the latch
         pub latch_is : (w : World) → X Before w → X Latched (latch c w).world
@@ -196,7 +196,7 @@ module _ (c : ConfigParts) (s : ScriptParts) (test : Event → Bool) (Has : Roun
         pub stop : (round : RoundStart) (kept : List Event) → E round kept → L Done round kept
         pub begin : (mode : ModeNo) → D (record { start = T; mode = mode }) []
         pub fresh : (w : World) → w.tick ≡ T → w.start ≡ w.tick → w.jobs ≡ [] → X Begun w
-        -- no end of a round
+        -- where no round ends
         pub still : (w : World) → w.tick ≡ T → is_length w.latched (offset_of w) ≡ false → X Latched w → X Begun w
         -- the checks at the offset, the activation, and a ttShutdownOS
         pub checks : (w : World) → w.tick ≡ T → w.start ≤ T → X Begun w → (kept : List Event) → D (round_in w) kept

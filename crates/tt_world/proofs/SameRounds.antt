@@ -1,4 +1,4 @@
--- The parts of an instant that leave the clock and the round alone, and its tick, which raises the clock.
+-- The parts of an instant that leave the clock and the round as they are, and its tick, which raises the clock.
 use Rattle.std.proofs.Common.{ℕ, ◌≡◌, ◌+◌, ◌-◌, List, Bool, true, false, refl, ap, eqb}
 use Rattle.std.specs.Prelude.{◌==◌}
 use Rattle.std.specs.List.{list_any}

@@ -1,4 +1,4 @@
--- The ends that are seen, at each instant of a run; so the checks at an offset of a round are those of its rows.
+-- The ends that are seen at each instant of a run; so the checks at an offset of a round are those of its rows.
 use Rattle.std.proofs.Common.{ℕ, zero, suc, ◌≡◌, ◌<◌, ◌≤◌, ◌+◌, ◌-◌, List, [], ◌∷◌, ◌++◌, Bool, false, Option, None, Some, refl, ap, sym, ◌∙◌, subst, eqb, arith, length, ⊎_elim}
 use Rattle.std.specs.Prelude.{◌&&◌, nat_lt, not}
 use Rattle.std.proofs.lemmas.Bool.{cond_both, ltb-true, ltb-false, le-ltb, and_cases, and_left, and_right, or_parts, or_from}

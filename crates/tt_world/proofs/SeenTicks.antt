@@ -30,7 +30,7 @@ use Rattle.tt_world.proofs.Forward.{Mid, effected_mid}
 use Rattle.tt_world.proofs.Places.{Placed}
 use Rattle.tt_world.proofs.EndsSeen.{NoEnd, ended_more, ended_same, other_end, own_end, ActTick, act_tick}
 
--- of each activation of a round: nothing is left of it exactly where its task has an end later than its offset
+-- for each activation of a round: nothing is left of it exactly where its task has an end later than its offset
 abbrev pub Seen : ConfigParts → (start number : ℕ) → List Job → List Event → Type 0
 Seen c start number acts es =
     (place : ℕ) → place < length acts
@@ -76,7 +76,7 @@ module _ (c : ConfigParts) (s : ScriptParts) where
   act_of (runner.Osek i) who effects left w v d on = tt
   act_of runner.Nobody who effects left w v d on = tt
 
-  -- another owner's end
+  -- the end of another owner
   other_seen : (w v : World) (es : List Event) (b : Bool) (at : ℕ) (who : Owner)
       → ((task : TaskNo) → same_owner (owner.Task task) who ≡ false) → v.start ≡ w.start → v.mode ≡ w.mode
       → v.jobs ≡ w.jobs

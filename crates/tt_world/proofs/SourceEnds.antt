@@ -29,7 +29,7 @@ use Rattle.tt_world.proofs.SeenRuns.{told_at}
 use Rattle.tt_world.proofs.CheckEnds.{opening_no_end, still_end}
 use Rattle.tt_world.proofs.SourceEvents.{seen_of, source_more, own_owner}
 
--- where no end stands after the last acceptance of a source, none has a later stamp
+-- where no end comes after the last acceptance of a source, none has a later stamp
 abbrev pub UnendedBy : Source → SourceSeen → List Event → Type 0
 UnendedBy x q es = q.accepted ≡ true → q.ended ≡ false → has_ended q.at (source_owner x) es ≡ false
 
@@ -177,7 +177,7 @@ module _ (c : ConfigParts) (s : ScriptParts) (rules : IsConfig c) (script : IsSc
       (instant_unended c s x n (world_at c s n) (events_before c s n) told.tick (told.late (source_owner x))
       (unended_at n h))
 
-  -- the same of the events of a tick that the run takes
+  -- the same for the events of a tick that the run takes
   pub unended_seen : (u : ℕ) → u ≤ last_instant c s → is_over (opening c s (world_at c s u)).end ≡ false
       → Unended x (seen_at u (schedule c s))
   unended_seen u l on =

@@ -1,4 +1,4 @@
--- What events say of a source of interrupts, and what stands of it in the world.
+-- What events say of a source of interrupts, and what the world has of it.
 use Rattle.std.proofs.Common.{ℕ, ◌≡◌, ◌<◌, ◌≤◌, ◌+◌, List, [], ◌∷◌, ◌++◌, Bool, true, false, refl, ap, sym, ◌∙◌, subst, arith, length, get_or, ◌⊎◌, ⊎_elim, inl, inr, get_or-set_same, get_or-set_other}
 use Rattle.std.specs.Prelude.{◌==◌, ◌&&◌, ◌||◌, not, nat_lt, slice_set}
 use Rattle.std.proofs.lemmas.List.{length-set}
@@ -39,7 +39,7 @@ unfolding source_seen
 silent_seen x q [] p = refl
 silent_seen x q (e ∷ es) p = ap (λ r. source_seen (source_owner x) r es) (p.0.0 q) ∙ silent_seen x q es p.1
 
--- events that say nothing of a source leave what was said of it
+-- events that say nothing of a source do not change what was said of it
 pub seen_same : (x : Source) (es fs : List Event) → Of (SaysNothing x) fs → seen_of x (es ++ fs) ≡ seen_of x es
 seen_same x es fs p = source_more (source_owner x) nothing_seen es fs ∙ silent_seen x (seen_of x es) fs p
 
@@ -64,7 +64,7 @@ pub own_owner : (x : Source) → same_owner (source_owner x) (source_owner x) �
 own_owner (IsrSource i) = eq-eqb i.0 i.0 refl
 own_owner (OisrSource i) = eq-eqb i.0 i.0 refl
 
--- the same of each place at which an acceptance stands
+-- the same for each place at which there is an acceptance
 pub admitted_at : (x : Source) (q : SourceSeen) (before after : List Event) (at : ℕ)
     → Admits x q (before ++ Accept at (source_owner x) ∷ after)
     → IsAdmitted x (source_seen (source_owner x) q before)
@@ -80,7 +80,7 @@ source_same (OisrSource i) (OisrSource j) e = ap (λ (n : ℕ). OisrSource (reco
 source_same (IsrSource i) (OisrSource j) e = cc
 source_same (OisrSource i) (IsrSource j) e = cc
 
--- the lists of a world in which its sources and their routines stand
+-- the lists of a world that have its sources and their routines
 pub record SourceLists : Type 0 where
   pub isrs_enabled : List Bool
   pub isrs_held : List Bool
@@ -103,11 +103,11 @@ lists_left (runner.Isr i) l after = record l { isrs = slice_set l.isrs i.0 after
 lists_left (runner.Oisr i) l after = record l { oisrs = slice_set l.oisrs i.0 after }
 lists_left r l after = l
 
--- this value stands at a place of a list
+-- this value is at a place of a list
 abbrev pub StandsAt : {X : Type 0} → List X → ℕ → X → X → Type 0
 StandsAt xs i d v = (i < length xs) × (get_or xs i d ≡ v)
 
--- a body stands at a place of a list, of which nothing is left, or something
+-- at a place of a list there is a body, and this says whether nothing is left of it
 abbrev pub IsDoneAt : List (List Stmt) → ℕ → Bool → Type 0
 IsDoneAt xs i b = (i < length xs) × (is_done (get_or xs i []) ≡ b)
 
@@ -118,7 +118,7 @@ is_open q = not q.accepted || q.enabled
 abbrev pub is_free : SourceSeen → Bool
 is_free q = not q.accepted || q.ended
 
--- of a source there stands in the world what was seen of it
+-- the world has of a source what was seen of it
 abbrev pub Stands : Source → SourceLists → SourceSeen → Type 0
 Stands (IsrSource i) l q =
     StandsAt l.isrs_enabled i.0 false (is_open q) × (StandsAt l.isrs_held i.0 false (nat_lt 0 q.waiting)
@@ -254,12 +254,12 @@ admitted x w q few a p =
     opened (IsrSource i) p e gated was = or_given q.accepted q.enabled (sym p.0.1 ∙ e) was
     opened (OisrSource i) p e gated was = cc
 
--- what is seen of a source of which an interrupt waits: its routine has not ended, or it was not enabled
+-- what is seen of a source that has an interrupt waiting: its routine has not ended, or it was not enabled
 abbrev pub Waits : Source → SourceSeen → Type 0
 Waits x q =
     ((q.accepted ≡ true) × (q.ended ≡ false)) ⊎ ((is_gated x ≡ true) × (q.accepted ≡ true) × (q.enabled ≡ false))
 
--- one that is not accepted and waits waits for an end or for an enable
+-- an interrupt that waits and is not accepted waits for an end or for an enable
 pub refused : (x : Source) (w : World) (q : SourceSeen) → is_accepted w x ≡ false → Stands x (lists_of w) q
     → 1 ≤ q.waiting → Waits x q
 refused x w q a p l =
@@ -282,8 +282,8 @@ refused x w q a p l =
 
 -- ---- the facts of a source
 
--- of a source, where it is known or not that nothing of it can be accepted: each acceptance so far was admitted, and
--- there stands in the world what was seen
+-- for a source, where `tried` says whether it is known that nothing of it can be accepted: each acceptance so far was
+-- admitted, and the world has what was seen
 pub record SourceFacts (x : Source) (tried : Bool) (l : SourceLists) (es : List Event) : Type 0 where
   pub admits : Admits x nothing_seen es
   pub few : (seen_of x es).waiting ≤ 1
@@ -301,7 +301,7 @@ facts_silent x b l k es fs f q keeps =
       waits = subst (λ (r : SourceSeen). b ≡ true → 1 ≤ r.waiting → Waits x r) z f.waits;
     }
 
--- after one event, of which this is seen
+-- after one event, after which this is seen
 pub facts_one : (x : Source) (b d : Bool) (l k : SourceLists) (es : List Event) (e : Event) (q : SourceSeen)
     → SourceFacts x b l es → seen_next (source_owner x) (seen_of x es) e ≡ q
     → (is_accept_of (source_owner x) e ≡ true → IsAdmitted x (seen_of x es)) → q.waiting ≤ 1 → Stands x k q

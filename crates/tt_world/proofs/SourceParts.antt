@@ -38,11 +38,11 @@ is_tried Accepted = true
 is_tried Activated = true
 is_tried _ = false
 
--- what is known of a source, where it is known or not that nothing of it can be accepted
+-- what is known of a source; the flag says whether it is known that nothing of it can be accepted
 abbrev pub Known : Source → Bool → OfRun
 Known x tried w es = SourceFacts x tried (lists_of w) es
 
--- each acceptance of a source was admitted, where a run ends
+-- where a run ends, each acceptance of a source was admitted
 abbrev pub EachAdmitted : Source → OfEnd
 EachAdmitted x end w es = Admits x nothing_seen es
 
@@ -255,7 +255,7 @@ module _ (c : ConfigParts) (s : ScriptParts) (rules : IsConfig c) (x : Source) (
           (activated_all (SaysNothing x) c entry (λ _ _. (λ _. refl, refl)) w) (λ _. activated_same entry w);
     }
 
-    -- an opening keeps what is known of a source, and after it nothing of the source can be accepted
+    -- an opening keeps what is known of a source; after it nothing of the source can be accepted
     pub opening_known : (w : World) (es : List Event) → Known x false w es
         → LeadsTo (Known x true) (EachAdmitted x) es (opening c s w)
     opening_known w es p =

@@ -44,7 +44,7 @@ unfolding runner_of
 oisr_runs c w oisr e = oisr_first _ _ _ _ oisr e
 
 module _ (c : ConfigParts) (s : ScriptParts) (x : Source) where
-  -- nobody but a routine has an end that is one of a source
+  -- only a routine has an end that is one of a source
   not_task : (x : Source) (task : _) → same_owner (owner.Task task) (source_owner x) ≡ false
   not_task (IsrSource i) task = refl
   not_task (OisrSource i) task = refl

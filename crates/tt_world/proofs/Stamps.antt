@@ -65,7 +65,7 @@ pub status_after : (es fs : List Event) → Of Mute es → status_of (es ++ fs) 
 status_after [] fs p = refl
 status_after (e ∷ es) fs p = mute_head e (es ++ fs) p.0 ∙ status_after es fs p.1
 
--- these events are no end by a ttShutdownOS
+-- these events do not end a run by a ttShutdownOS
 abbrev pub NoShut : List Event → Type 0
 NoShut es = (u : ℕ) → status_of es ≡ ShutAt u → ⊥
 
@@ -191,7 +191,7 @@ shuts_still c end w = (
 
 -- ---- the last event
 
--- these events say that the run has ended so at a tick
+-- these events say that the run has ended in this way at a tick
 abbrev pub EndsAs : Outcome → ℕ → List Event → Type 0
 EndsAs None T es = Unit {0}
 EndsAs (Some end) T es = (status_of es ≡ status_by end T) × IsLastEvent (last_event end T) es
@@ -213,7 +213,7 @@ misses_last c task w =
 -- ---- each part
 
 module _ (c : ConfigParts) (s : ScriptParts) (T : ℕ) where
-  -- all events of an instant are at its tick, and none tells how the run ended where it goes on
+  -- all events of an instant are at its tick, and none says how the run ended where it goes on
   abbrev pub AtTick : OfRun
   AtTick w es = (w.tick ≡ T) × Of (MuteAt T) es
 
@@ -341,7 +341,7 @@ leaving_tick x (runner.Oisr i) after = refl
 leaving_tick x (runner.Osek i) after = refl
 leaving_tick x runner.Nobody after = refl
 
--- what a tick serves
+-- what a tick does before it is over
 record Serves (T : ℕ) (m : Moved) : Type 0 where
   pub still : Of (StillAt T) m.events
   pub tick : m.world.tick ≡ T
@@ -460,7 +460,7 @@ step_reads c s w =
     }))
     (cases_Bool (is_over tick.move.end))
 
--- what a tick serves begins, runs and ends nothing
+-- what a tick does before it is over begins, runs and ends nothing
 pub served_still : (c : ConfigParts) (s : ScriptParts) (w : World) (r : Runner) (who : Owner)
     → Of (StillAt w.tick) (runner_tick c s r who w).move.events
 served_still c s w r who =

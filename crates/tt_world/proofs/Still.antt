@@ -128,7 +128,7 @@ module _ (c : ConfigParts) (s : ScriptParts) (w : World) where
 
 -- ---- interrupts that can be accepted
 
--- whether the one who runs has ended with its tick
+-- whether the one who runs ends with this tick
 abbrev pub owner_ends : ConfigParts → ScriptParts → World → Bool
 owner_ends c s w =
     let runner = runner_of c w in is_somebody runner && (runner_tick c s runner (owner_of c w runner) w).ended
@@ -136,7 +136,7 @@ owner_ends c s w =
 abbrev by_left : World → Source → List Stmt → Bool
 by_left w x left = is_held w x && (is_enabled w x && is_done left)
 
--- what is left of somebody is read by the acceptances alone
+-- where what is left of a runner changed, an acceptance depends on it only by what is left of its own routine
 gates_stay : (w : World) (r : Runner) (left : List Stmt) (x : Source)
     → is_accepted (leaving w r left) x ≡ by_left w x (left_of (leaving w r left) (source_runner x))
 gates_stay w (runner.Isr i) left (IsrSource j) = refl
@@ -222,7 +222,7 @@ module _ (c : ConfigParts) (s : ScriptParts) where
   ticked false m who ended (IsrSource i) e on = refl
   ticked false m who ended (OisrSource i) e on = refl
 
-  -- an interrupt that could not be accepted can't be after a tick whose owner has not ended
+  -- an interrupt that could not be accepted can still not be accepted after a tick whose owner has not ended
   pub step_accepts : (w : World) (x : Source) → is_over (step c s w).end ≡ false → owner_ends c s w ≡ false
       → is_accepted w x ≡ false → is_accepted (step c s w).world x ≡ false
   unfolding step followed

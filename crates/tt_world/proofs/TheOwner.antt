@@ -1,4 +1,4 @@
--- Who takes a tick is told by what is unfinished.
+-- What is unfinished decides who takes a tick.
 use Rattle.std.proofs.Common.{ℕ, zero, suc, ◌≡◌, ◌<◌, ◌≤◌, ◌-◌, List, [], ◌∷◌, ◌++◌, Bool, true, false, Option, None, Some, refl, ap, sym, ◌∙◌, subst, arith, length, get_or, append_assoc, ◌⊎◌, ⊎_elim}
 use Rattle.std.specs.Prelude.{◌==◌, ◌&&◌, ◌||◌, not, nat_lt, cond, map, slice_get, option_map}
 use Rattle.std.specs.List.{list_any, range_with_len}
@@ -243,6 +243,6 @@ module _ (c : ConfigParts) (rules : IsConfig c) (T now : ℕ) (w : World) (es : 
       (no_isrs (no_isr_runs c w (runner.Osek i) refl e), no_tasks (none_found w.jobs says))
   owner_is runner.Nobody e says = (no_isrs (no_isr_runs c w runner.Nobody refl e), no_tasks (none_found w.jobs says))
 
-  -- the owner of a tick is the one that the unfinished tasks and routines tell
+  -- the owner of a tick is the one that the unfinished tasks and routines give
   pub is_owner : IsOwner c (Some (owner_of c w (runner_of c w))) (tasks_of es) (isrs_of es)
   is_owner = owner_is (runner_of c w) refl (runner_says c w)

@@ -1,4 +1,4 @@
--- Facts on each event of a list, which know the round that the event stands in.
+-- Facts about each event of a list, given the round that the event is in.
 use Rattle.std.proofs.Common.{◌≡◌, List, [], ◌∷◌, ◌++◌, Option, None, Some, refl, subst}
 use Rattle.std.specs.Prelude.{IfSome}
 use Rattle.tt_base.specs.declared.event.Event.{Event}
@@ -6,12 +6,12 @@ use Rattle.tt_world.specs.Readings.{RoundStart, round_of, before_round, until_ro
 use Rattle.tt_world.specs.EventLaws.{EachRound}
 use Rattle.tt_world.proofs.Emits.{Of}
 
--- the round after an event, where it stands in this one
+-- the round after an event; this round where the event begins none
 abbrev pub or_round : Option RoundStart → RoundStart → RoundStart
 or_round None now = now
 or_round (Some round) now = round
 
--- it holds of each event and the round that it stands in, where the first stands in this one
+-- it holds of each event and the round that it is in, where the first event comes in this round
 abbrev pub Through : (RoundStart → Event → Type 0) → RoundStart → List Event → Type 0
 Through G now [] = Unit {0}
 Through G now (e ∷ es) = G now e × Through G (or_round (round_of e) now) es
@@ -76,7 +76,7 @@ each_more P Q h (e ∷ es) p = (
   each_more P Q h es p.1,
 )
 
--- an element of a list
+-- an event in the middle of a list
 pub of_inner : (E : Event → Type 0) (before after : List Event) (e : Event) → Of E (before ++ e ∷ after) → E e
 of_inner E [] after e p = p.0
 of_inner E (x ∷ before) after e p = of_inner E before after e p.1

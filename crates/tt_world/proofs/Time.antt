@@ -1,4 +1,4 @@
--- Where a round stands at each part of an instant, and how late it can have begun.
+-- Where a round is at each part of an instant, and how late it can have begun.
 use Rattle.std.proofs.Common.{ℕ, ◌≡◌, ◌<◌, ◌≤◌, ◌+◌, ◌-◌, ◌*◌, zero, List, true, false, Option, None, Some, refl, sym, subst, eqb, arith, suc}
 use Rattle.std.specs.Prelude.{ℤ, pos, negsuc, neg_ℤ, nat_le}
 use Rattle.std.proofs.lemmas.Bool.{cond_both, eqb-true, eqb-false}

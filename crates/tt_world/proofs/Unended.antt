@@ -1,4 +1,4 @@
--- What is unfinished by events is unfinished in the world.
+-- What is unfinished according to the events is unfinished in the world.
 use Rattle.std.proofs.Common.{ℕ, ◌≡◌, ◌≢◌, ◌<◌, ◌≤◌, ◌+◌, ◌-◌, List, [], ◌∷◌, ◌++◌, Bool, true, false, Option, None, Some, refl, ap, sym, ◌∙◌, subst, eqb, arith, length, get_or, append_assoc, append-nil, ⊎_elim, get_or-set_same, get_or-set_other}
 use Rattle.std.specs.Prelude.{◌==◌, ◌&&◌, ◌||◌, not, nat_le, nat_lt, cond, flat_map, slice_set}
 use Rattle.std.specs.List.{list_any}
@@ -67,7 +67,7 @@ open_task mode x = cond (is_done x.left) [] ((row_of mode x.entry).task ∷ [])
 abbrev pub open_tasks : ModeDef → List Job → List TaskNo
 open_tasks mode xs = flat_map (open_task mode) xs
 
--- of a tick, and of the activations with offsets before an instant: what the events say of the world
+-- for a tick, and for the activations with offsets before an instant: what the events say of the world
 pub record Facts (c : ConfigParts) (T now start mode : ℕ) (acts : List Job) (isrs : List (List Stmt)) (held : ℕ)
     (es : List Event) : Type 0 where
   pub stamps : Of (λ e. stamp_of e ≤ T) es
@@ -109,7 +109,7 @@ module _ (c : ConfigParts) (T now start mode : ℕ) (acts : List Job) (isrs : Li
   facts_plains es (e ∷ fs) n p = subst (Facts c T now start mode acts isrs held) (append_assoc es (e ∷ []) fs)
       (facts_plains (es ++ e ∷ []) fs n.1 (facts_plain es e n.0 p))
 
--- of a body with a statement something is left
+-- a body with a statement has something left
 pub some_undone : (body : List Stmt) → 1 ≤ length body → is_done body ≡ false
 some_undone [] l = absurd (omega arith)
 some_undone (x ∷ body) l = refl

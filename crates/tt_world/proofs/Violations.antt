@@ -1,4 +1,4 @@
--- A missed check is followed by the hooks and nothing else, and ttErrorHook is called by a missed check alone.
+-- A missed check is followed by the hooks and nothing else, and ttErrorHook is called only after a missed check.
 use Rattle.std.proofs.Common.{ℕ, zero, suc, ◌≡◌, ◌+◌, List, [], ◌∷◌, ◌++◌, Bool, true, false, Option, None, Some, refl, ap, sym, ◌∙◌, subst, arith, append_assoc, ◌⊎◌, ⊎_elim, inl, inr}
 use Rattle.std.specs.Prelude.{ℤ}
 use Rattle.std.proofs.lemmas.Bool.{cond_both, false≢true}
@@ -136,7 +136,7 @@ module _ (c : ConfigParts) (s : ScriptParts) where
 
 -- ---- checks
 
--- of checks at a tick: they are plain where none was missed, else the last of them is the missed one
+-- the checks at a tick: they are plain where none was missed, otherwise the last of them is the missed one
 abbrev pub CheckForm : ℕ → List Event → Option TaskNo → Type 0
 CheckForm at fs None = Of IsPlain fs
 CheckForm at fs (Some task) = (before : List Event) × (fs ≡ before ++ Check at task false ∷ []) × Of IsPlain before

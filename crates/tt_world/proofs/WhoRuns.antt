@@ -132,7 +132,7 @@ pub none_found : (xs : List Job) → last_unfinished 0 xs ≡ None → (p : ℕ)
 unfolding Found NoneUnfinished
 none_found xs e = subst (Found 0 xs) e (last_found 0 xs)
 
--- what the runner says of the activations: another runs only where none is unfinished
+-- what the runner says of the activations: any other runner runs only where none is unfinished
 abbrev pub Says : List Job → Runner → Type 0
 Says xs (runner.Isr isr) = Unit {0}
 Says xs (runner.Job q) = last_unfinished 0 xs ≡ Some q

@@ -27,7 +27,7 @@ abbrev pub is_reserved : List ℕ → Bool
 is_reserved name = bytes_eq name (codes "idle")
     || (bytes_eq name (codes "ttErrorHook") || bytes_eq name (codes "ttShutdownHook"))
 
--- no name is one of those after it, and none is reserved
+-- no name occurs again after it, and none is reserved
 abbrev pub are_names_free : List NameEntry → Bool
 are_names_free [] = true
 are_names_free (entry ∷ rest) =
@@ -58,7 +58,7 @@ pub record AreFew (c : ConfigParts) : Type 0 where
 -- ---- bodies
 
 -- a body whose owner is of this kind: nested at most 4 deep, with fewer than 2^32 statements and short expressions, its
--- numbers in range, each thing that it names declared, and each statement allowed
+-- numbers in range, everything that it names declared, and each statement allowed
 pub record IsBody (c : ConfigParts) (kind : OwnerKind) (body : List Stmt) : Type 0 where
   pub nested : IsNestedInLimit body
   pub counted : IsCountInLimit body
@@ -69,8 +69,8 @@ pub record IsBody (c : ConfigParts) (kind : OwnerKind) (body : List Stmt) : Type
   pub callees : HasCallees (length c.modes) (length c.oseks) body
   pub allowed : IsTrue (each_in (is_allowed kind) body)
 
--- what a run keeps of each list of statements that is left of an owner of this kind: short expressions, variables,
--- demands, modes and OSEK tasks that are declared, and each statement allowed
+-- what holds during a run of each list of statements that is left of an owner of this kind: expressions are short;
+-- variables, demands, modes and OSEK tasks are declared; and each statement is allowed
 pub record IsRunnable (c : ConfigParts) (kind : OwnerKind) (left : List Stmt) : Type 0 where
   pub expressions : AreExpressionsShort left
   pub variables : HasVariables (length c.vars) left
@@ -108,7 +108,7 @@ pub record IsOisr (c : ConfigParts) (oisr : OisrDef) : Type 0 where
   pub routine : IsRoutine c owner.Oisr oisr.body oisr.budget
   pub priority : 1 ≤ oisr.priority
 
--- no two numbers are one
+-- no number occurs twice
 abbrev pub are_distinct : List ℕ → Bool
 are_distinct [] = true
 are_distinct (n ∷ rest) = not (list_any (λ other. other == n) rest) && are_distinct rest

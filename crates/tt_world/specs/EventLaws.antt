@@ -26,7 +26,7 @@ IsTaken events u = (u < last_stamp events) ⊎ (status_of events ≡ Shut u)
 
 -- ---- rounds
 
--- when the next round begins, this where none does
+-- when the next round begins; `end` where none does
 abbrev pub start_or : ℕ → Option RoundStart → ℕ
 start_or end None = end
 start_or end (Some round) = round.start
@@ -35,7 +35,7 @@ unfoldable pub next_start : (end : ℕ) → List Event → ℕ
 next_start end [] = end
 next_start end (event ∷ rest) = start_or (next_start end rest) (round_of event)
 
--- whether no other round begins
+-- whether no further round begins
 abbrev pub is_last_round : List Event → Bool
 is_last_round rest = not (list_any (λ (event : Event). is_some (round_of event)) rest)
 
@@ -50,13 +50,13 @@ abbrev pub is_activate : Event → Bool
 is_activate (Activate at task) = true
 is_activate event = false
 
--- the activations of a mode with offsets below one, in a round that begins then
+-- the activations of a mode with offsets below this one, in a round that begins at `start`
 abbrev pub activates_below : List ActivationRow → (start offset : ℕ) → List Event
 activates_below rows start offset =
     map (λ (row : ActivationRow). Activate (start + row.offset) row.task)
     (filter (λ (row : ActivationRow). nat_lt row.offset offset) rows)
 
--- after the end of the last round: a ttShutdownOS ends a run after the activation of its tick
+-- one past the last tick with activations: a ttShutdownOS ends a run after the activation of its tick
 abbrev pub after_end : Status → ℕ → ℕ
 after_end (Shut tick) stamp = stamp + 1
 after_end status stamp = stamp
@@ -81,15 +81,15 @@ IsOwner c (Some (owner.Isr isr)) tasks isrs =
     highest (isr_levels c) (map (λ (other : IsrNo). other.0) isrs) ≡ Some isr.0
 IsOwner c (Some who) tasks isrs = (isrs ≡ []) × (tasks ≡ [])
 
--- a task runs where no time-triggered routine is unfinished and it was activated last; a time-triggered routine where
--- it is the one of the highest level; and anybody else where no task and no time-triggered routine is unfinished
+-- a task runs where no time-triggered routine is unfinished and it is the last activated unfinished task; such a
+-- routine where it is the unfinished one of the highest level; anybody else where no task and no such routine is
 abbrev pub OwnersRun : ConfigParts → List Event → Type 0
 OwnersRun c events = (u : ℕ) → IsTaken events u → IsOwner c (owner_at u events) (tasks_at u events) (isrs_at u events)
 
 -- ---- checks
 
--- the checks of the rows of a round that begins at `start` whose point is due at a tick, up to the first that is
--- missed: one is met where the activation has ended
+-- the checks of the rows whose point is due at a tick, in a round that begins at `start`, up to the first that is
+-- missed; a check is met where the activation has ended
 unfoldable pub checked_rows : (seen : List Event) → (at start : ℕ) → ModeDef → (Point → Bool) → List ActivationRow
     → List Event
 checked_rows seen at start mode is_due [] = []
@@ -106,7 +106,7 @@ abbrev pub is_check_at : ℕ → Event → Bool
 is_check_at t (Check at task met) = at == t
 is_check_at t event = false
 
--- at a tick a round that begins at `start` has the checks of the points that are due
+-- at a tick, a round that begins at `start` has the checks of the points that are due
 abbrev pub HasChecks : ConfigParts → (events : List Event) → RoundStart → (rest : List Event) → ℕ → (Point → Bool)
     → Type 0
 HasChecks c events round rest t is_due =
@@ -118,8 +118,8 @@ HasChecks c events round rest t is_due =
 abbrev pub IsRoundLength : ConfigParts → ℕ → Type 0
 IsRoundLength c length = (c.round - c.adjust ≤ length) × (length ≤ c.round + c.adjust)
 
--- at the last tick of a round: the points that are not offsets of the round, where it ends by its length; and where a
--- missed deadline or ttShutdownOS ends the run at an offset of the round, the points at this offset
+-- at the last tick of a round: the points that are not offsets of the round, where it ends by its length; or the points
+-- at its last offset, where a missed deadline or ttShutdownOS ends the run there
 abbrev pub ChecksAtEnd : ConfigParts → (last : Bool) → Status → ((Point → Bool) → Type 0) → ℕ → Type 0
 ChecksAtEnd c false status Has length = Has (is_at_end length)
 ChecksAtEnd c true Done Has length = Has (is_at_end length)
@@ -140,7 +140,7 @@ pub record IsViolation (at : ℕ) (task : TaskNo) (after : List Event) : Type 0 
   pub is : after ≡ ErrorHook at task ∷ (errors ++ ShutdownHook at ∷ (outs ++ Shutdown at ∷ []))
 
 -- each round has the checks of the points that it reaches, up to the first that is missed, and no others; a missed
--- check is followed by the hooks, and ttErrorHook is called right after a missed check alone
+-- check is followed by the hooks, and ttErrorHook is called only right after a missed check
 pub record ChecksMonitor (c : ConfigParts) (events : List Event) : Type 0 where
   pub checks : EachRound
       (λ round rest.
@@ -177,11 +177,11 @@ is_gated (OisrSource oisr) = false
 pub record SourceSeen : Type 0 where
   -- how many interrupts arrived after the last Accept event
   pub waiting : ℕ
-  -- whether there was an Accept event, and whether an End event and an Enable event stand after the last one
+  -- whether there was an Accept event, and whether an End event and an Enable event came after the last one
   pub accepted : Bool
   pub ended : Bool
   pub enabled : Bool
-  -- the stamp of the last one
+  -- the stamp of the last Accept event
   pub at : ℕ
 
 abbrev pub nothing_seen : SourceSeen
@@ -200,15 +200,15 @@ unfoldable pub source_seen : Owner → SourceSeen → List Event → SourceSeen
 source_seen who seen [] = seen
 source_seen who seen (event ∷ rest) = source_seen who (seen_next who seen event) rest
 
--- between two acceptances, and before the first, there is exactly one arrival; between two there is an end, and an
--- enable too where the source is time-triggered
+-- between two acceptances, and before the first, there is exactly one arrival; between two there is also an end, and an
+-- enable where the source is time-triggered
 pub record IsAdmitted (source : Source) (seen : SourceSeen) : Type 0 where
   pub one : seen.waiting ≡ 1
   pub ended : seen.accepted ≡ true → seen.ended ≡ true
   pub enabled : seen.accepted ≡ true → is_gated source ≡ true → seen.enabled ≡ true
 
--- an interrupt that waits at a tick waits for the end of its routine, or for an enable: no End event stands after the
--- last Accept event of the source or has a later stamp, or no Enable event stands after it
+-- an interrupt that waits at a tick waits for the end of its routine or for an enable: after the last Accept event of
+-- the source there is no End event, nor one with a later stamp; or there is no Enable event after it
 abbrev pub WaitsFor : Source → (events : List Event) → Type 0
 WaitsFor source events =
     let who = source_owner source in

@@ -1,4 +1,4 @@
--- The bodies of ttErrorHook and ttShutdownHook. A hook is played whole at one instant: it takes no time.
+-- The bodies of ttErrorHook and ttShutdownHook. A hook runs as a whole at one instant: it takes no time.
 use Rattle.std.specs.Prelude.{ℕ, ℤ, List, [], ◌∷◌, ◌++◌, slice_set}
 use Rattle.tt_base.specs.declared.number.TaskNo.{TaskNo}
 use Rattle.tt_base.specs.declared.event.Event.{Event}
@@ -40,7 +40,7 @@ outs_of at hook vars (stmt ∷ rest) =
 
 -- ---- the calls of the hooks
 
--- ttShutdownHook is called, and the run ends so by a shutdown
+-- ttShutdownHook is called, and the run ends by a shutdown with this outcome
 abbrev pub shuts_down : ConfigParts → Outcome → World → Moved
 shuts_down c end w =
     moved end (record w { vars = vars_after w.vars c.shutdown_hook })

@@ -1,4 +1,4 @@
--- What a run comes to, in numbers: its last round, its activations, and how deep its preemption stack was.
+-- The numbers of a run: its last round, its activations, and how deep its preemption stack was.
 use Rattle.std.specs.Prelude.{ℕ, zero, suc, ◌+◌, max, not, Bool, true, false, List, [], ◌∷◌, length, filter, if◌then◌else◌, slice_index_or}
 use Rattle.std.specs.List.{count_by, sum_by}
 use Rattle.task_lang.specs.declared.syntax.Stmt.{Stmt}
@@ -25,7 +25,7 @@ is_activation event = false
 abbrev pub activations_in : List Event → ℕ
 activations_in events = length (filter is_activation events)
 
--- the number of the last round that begins in some events, this one where none does
+-- the number of the last round that begins in some events; this one where none does
 abbrev pub round_after : ℕ → List Event → ℕ
 round_after number [] = number
 round_after number (Round at next mode ∷ rest) = round_after next rest
@@ -58,7 +58,7 @@ job_words c mode job =
 abbrev pub isr_words : ConfigParts → ℕ → ℕ
 isr_words c isr = (slice_index_or c.isrs isr no_isr).stack
 
--- the words of the activations and the routines of which this is left
+-- the words of some activations and of the routines that have these statements left
 abbrev pub words_in : ConfigParts → ModeDef → List Job → List (List Stmt) → ℕ
 words_in c mode jobs isrs = sum_by (job_words c mode) jobs + sum_by (isr_words c) (unfinished isrs)
 
@@ -72,7 +72,7 @@ words_of c w = words_in c (mode_of c w) w.jobs w.isrs
 abbrev pub in_tick : (World → ℕ) → Moved → ℕ
 in_tick number opened = if is_over opened.end then 0 else number opened.world
 
--- the greatest that a number of the world comes to after the openings of the instants before n that take a tick
+-- the greatest value of a number of the world, after those openings of the instants before n whose instant takes a tick
 unfoldable pub most_before : (World → ℕ) → ConfigParts → ScriptParts → ℕ → ℕ
 most_before number c s zero = 0
 most_before number c s (suc n) = max (most_before number c s n) (in_tick number (opening c s (world_at c s n)))

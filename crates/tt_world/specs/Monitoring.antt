@@ -19,7 +19,7 @@ abbrev pub is_at : ℕ → Point → Bool
 is_at offset (point.At place) = place == offset
 is_at offset point.RoundEnd = false
 
--- whether a point is not an offset below this one, at which the round ends
+-- whether a point is no offset below this one, at which the round ends
 abbrev pub is_at_end : ℕ → Point → Bool
 is_at_end length (point.At place) = nat_le length place
 is_at_end length point.RoundEnd = true
@@ -29,7 +29,7 @@ pub record Checked : Type 0 where
   pub events : List Event
   pub missed : Option TaskNo
 
--- a check, and then the others where it is met
+-- a check; the others follow it where it is met
 abbrev pub check_then : ℕ → TaskNo → Bool → Checked → Checked
 check_then at task true others = record { events = Check at task true ∷ others.events; missed = others.missed }
 check_then at task false others = record { events = Check at task false ∷ []; missed = Some task }
@@ -38,7 +38,7 @@ abbrev pub check_if : Bool → Checked → Checked → Checked
 check_if true check others = check
 check_if false check others = others
 
--- the checks of those activations whose point is due, in their order, up to the first that is missed: one is met
+-- the checks of those activations whose point is due, in their order, up to the first that is missed; a check is met
 -- where nothing is left of the activation
 unfoldable pub checked : ℕ → ModeDef → (Point → Bool) → List Job → Checked
 checked at mode is_due [] = record { events = []; missed = None }
@@ -51,7 +51,7 @@ abbrev pub after_checks : ConfigParts → List Event → Option TaskNo → World
 after_checks c events None w = goes_on w events
 after_checks c events (Some task) w = preceded events (misses c task w)
 
--- the checks of those activations of the round whose point is due, and what follows from them
+-- the checks of those activations of the round whose point is due, and what follows from these checks
 abbrev pub monitored : ConfigParts → (Point → Bool) → World → Moved
 monitored c is_due w =
     let all = checked w.tick (mode_of c w) is_due w.jobs in after_checks c all.events all.missed w

@@ -4,7 +4,7 @@ use Rattle.tt_base.specs.declared.event.Event.{Event}
 use Rattle.tt_world.specs.World.{World}
 use Rattle.tt_world.specs.declared.world.RunEnd.{RunEnd}
 
--- how a part of an instant ends: the run goes on, or has ended so
+-- how a part of an instant ends: the run goes on, or it has ended in this way
 abbrev pub Outcome : Type 0
 Outcome = Option RunEnd
 
@@ -33,7 +33,7 @@ abbrev pub continued : Bool → Moved → (World → Moved) → Moved
 continued false m next = preceded m.events (next m.world)
 continued true m next = m
 
--- the next part follows where the run goes on
+-- the next part follows, if the run goes on
 unfoldable pub followed : Moved → (World → Moved) → Moved
 followed m next = continued (is_over m.end) m next
 
@@ -47,12 +47,12 @@ abbrev pub event_if : Bool → Event → List Event
 event_if true event = event ∷ []
 event_if false event = []
 
--- events are told to something one after the other: none of them changes nothing, and some and then others are both
+-- events are recorded one after another: no events change nothing, and two lists one after the other are one list
 pub record IsTelling {L : Type 0} (Told : L → List Event → L → Type 0) : Type 0 where
   pub none : (a : L) → Told a [] a
   pub both : (a b d : L) (some others : List Event) → Told a some b → Told b others d → Told a (some ++ others) d
 
--- what a part of the code did is what its definition gives; it told the events of the part
+-- what a part of the code did is what its definition gives; it recorded the events of the part
 pub record Gives {L : Type 0} (Told : L → List Event → L → Type 0) (before after : L) (world : World) (end : Outcome)
     (m : Moved) : Type 0 where
   pub world_is : world ≡ m.world

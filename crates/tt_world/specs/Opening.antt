@@ -26,7 +26,7 @@ activated c (Some entry) w =
 unfoldable pub activation : ConfigParts → World → Moved
 activation c w = activated c (entry_at (offset_of w) (mode_of c w).activations) w
 
--- what is due at this offset and at this tick
+-- what is due at this offset and tick
 abbrev pub due : ConfigParts → ScriptParts → List (World → Moved)
 due c s = checks c ∷ enables c ∷ arrivals c s ∷ acceptances c ∷ activation c ∷ []
 

@@ -38,8 +38,8 @@ abbrev pub point_by : Bool → ModeDef → ℕ → Point
 point_by true mode deadline = point.At deadline
 point_by false mode deadline = at_or_end (least_from deadline (offsets_in mode))
 
--- the monitoring point of an activation of a mode: where it is monitored stringently, its deadline; else the least
--- offset at or after the deadline at which the mode has an activation, an enable or a stringent deadline, and the
--- round's end where there is none
+-- the monitoring point of an activation of a mode: its deadline, where it is monitored stringently; else the least
+-- offset at or after the deadline at which the mode has an activation, an enable or a stringent deadline; and the
+-- round's end where there is no such offset
 abbrev pub point_of : ModeDef → Activation → Point
 point_of mode row = point_by row.stringent mode row.deadline

@@ -53,7 +53,7 @@ abbrev pub after_if : Option RoundStart → (kept rest : List Event) → List Ev
 after_if None kept rest = kept
 after_if (Some round) kept rest = rest
 
--- the events of the round of the last Round event, these where there is none
+-- the events after the last Round event; `kept` where there is no Round event
 unfoldable pub after_round : List Event → List Event → List Event
 after_round kept [] = kept
 after_round kept (event ∷ rest) = after_round (after_if (round_of event) kept rest) rest
@@ -72,12 +72,12 @@ is_end_after from who event = false
 abbrev pub has_ended : (from : ℕ) → Owner → List Event → Bool
 has_ended from who events = list_any (is_end_after from who) events
 
--- the task of an Activate event that is unfinished, where these events were seen
+-- the task of an Activate event, if these events leave it unfinished
 abbrev pub task_if : List Event → Event → List TaskNo
 task_if seen (Activate at task) = if has_ended at (owner.Task task) seen then [] else task ∷ []
 task_if seen event = []
 
--- the routine of an Accept event that is unfinished
+-- the routine of an Accept event, if these events leave it unfinished
 abbrev pub isr_if : List Event → Event → List IsrNo
 isr_if seen (Accept at (owner.Isr isr)) = if has_ended at (owner.Isr isr) seen then [] else isr ∷ []
 isr_if seen event = []

@@ -22,7 +22,7 @@ latch c w =
     (event_if (not (is_no_change w.pending)) (Correct w.tick w.pending))
     else goes_on w []
 
--- after its last round the run stops, else the next round begins at this tick in the wanted mode, with no activation
+-- after its last round the run stops; otherwise the next round begins now, in the wanted mode, with no activation
 unfoldable pub next_round : ScriptParts → World → Moved
 next_round s w =
     if w.number == s.rounds

@@ -51,13 +51,13 @@ InterruptsLaw = OfSchedules InterruptsWait
 
 -- ---- the world after the openings
 
--- what holds of the world after the opening of each instant of a run at which the run goes on
+-- what holds of the world after each opening of a run at which the run goes on
 abbrev pub AfterOpenings : (ConfigParts → World → Type 0) → Type 0
 AfterOpenings Fact =
     (c : ConfigParts) (s : ScriptParts) → IsConfig c → IsScript c s → (n : ℕ) → n ≤ last_instant c s
     → (opening c s (world_at c s n)).end ≡ None → Fact c (opening c s (world_at c s n)).world
 
--- a place of the list has an activation with statements left
+-- at this place of the list is an activation with statements left
 pub record IsUnfinished (w : World) (place : ℕ) : Type 0 where
   pub within : place < length w.jobs
   pub undone : is_done (job_at w.jobs place).left ≡ false
@@ -82,7 +82,7 @@ ArePointsAhead c w =
 abbrev pub PointsAreAhead : Type 0
 PointsAreAhead = AfterOpenings ArePointsAhead
 
--- two activations of one task that have statements left are one
+-- two activations of one task that both have statements left are the same
 abbrev pub AreTasksSingle : ConfigParts → World → Type 0
 AreTasksSingle c w =
     (p q : ℕ) → IsUnfinished w p → IsUnfinished w q

@@ -30,7 +30,7 @@ no_job = record { entry = 0; left = [] }
 abbrev pub job_at : List Job → ℕ → Job
 job_at activations place = slice_index_or activations place no_job
 
--- the list with this left of the activation at a place
+-- the list, with this left of the activation at a place
 abbrev pub with_left : List Job → ℕ → List Stmt → List Job
 with_left activations place left =
     slice_set activations place (record { entry = (job_at activations place).entry; left = left })
@@ -53,7 +53,7 @@ leaving w Nobody left = w
 
 -- ---- who runs
 
--- the kind of owner that a runner is; nobody has no statement, so that any kind serves
+-- the kind of owner of a runner; nobody has no statement, so any kind will do
 abbrev pub kind_of : Runner → OwnerKind
 kind_of (Isr isr) = kind.Isr
 kind_of (runner.Job place) = kind.Task
@@ -66,7 +66,7 @@ abbrev pub unfinished : List (List Stmt) → List ℕ
 unfinished lefts = filter (λ (number : ℕ). not (is_done (slice_index_or lefts number [])))
     (range_with_len 0 (length lefts))
 
--- of two numbers the one of the higher level
+-- the one of two numbers that has the higher level
 abbrev pub higher : List ℕ → ℕ → Option ℕ → ℕ
 higher levels number None = number
 higher levels number (Some other) =
@@ -115,7 +115,7 @@ abbrev pub osek_runner : ConfigParts → World → Option Runner
 osek_runner c w = option_map (λ (number : ℕ). Osek (record { 0 = number }))
     (highest (osek_priorities c) (unfinished w.oseks))
 
--- the first that exists, else nobody
+-- the first that exists, otherwise nobody
 abbrev pub first_runner : List (Option Runner) → Runner
 first_runner [] = Nobody
 first_runner (None ∷ rest) = first_runner rest
@@ -133,7 +133,7 @@ owner_of c w (Oisr oisr) = owner.Oisr oisr
 owner_of c w (Osek task) = owner.Osek task
 owner_of c w Nobody = owner.Idle
 
--- whether two owners are one
+-- whether two owners are the same
 abbrev pub same_owner : Owner → Owner → Bool
 same_owner (owner.Task a) (owner.Task b) = a.0 == b.0
 same_owner (owner.Isr a) (owner.Isr b) = a.0 == b.0

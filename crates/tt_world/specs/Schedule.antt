@@ -22,9 +22,9 @@ pub record IsBounded (c : ConfigParts) (s : ScriptParts) : Type 0 where
   pub some_round : 1 ≤ s.rounds
   pub few_rounds : s.rounds ≤ 100000
 
--- before tick 0: round 1 of the start mode, which is wanted too; no correction; the variables with their initial
--- values, and no script value or global time used; all sources enabled, and nothing held; and the tasks with the auto
--- mark ready
+-- before tick 0: round 1 of the start mode, which is also the wanted mode; no correction; the variables with their
+-- initial values; no script value or global time used; all sources enabled, and nothing held; and the tasks with the
+-- auto mark ready
 abbrev pub first_world : ConfigParts → ScriptParts → World
 first_world c s = record {
   tick = 0;
@@ -77,7 +77,7 @@ runner_if false runner = runner
 unfoldable pub runner_at : ConfigParts → ScriptParts → ℕ → Runner
 runner_at c s n = let m = opening c s (world_at c s n) in runner_if (is_over m.end) (runner_of c m.world)
 
--- how many of the next k instants from instant m on such a runner takes
+-- how many of the next k instants from instant m on are taken by a runner of this kind
 unfoldable pub ticks_of : (Runner → Bool) → ConfigParts → ScriptParts → (m k : ℕ) → ℕ
 ticks_of test c s m zero = 0
 ticks_of test c s m (suc k) = ticks_of test c s m k + (if test (runner_at c s (m + k)) then 1 else 0)
@@ -91,12 +91,12 @@ pub record IsLast (c : ConfigParts) (s : ScriptParts) (n : ℕ) : Type 0 where
   pub ends : ends_at c s n ≡ true
   pub first : (k : ℕ) → k < n → ends_at c s k ≡ false
 
--- the least of the next `more` instants from `from` that ends the run, else the one after them
+-- the first of the next `more` instants from `from` on that ends the run, otherwise the one after them
 unfoldable pub last_from : ConfigParts → ScriptParts → (more from : ℕ) → ℕ
 last_from c s zero from = from
 last_from c s (suc more) from = if ends_at c s from then from else last_from c s more (from + 1)
 
--- no run takes more ticks: all rounds, each of which the greatest correction makes longer
+-- the most ticks that a run takes: all rounds, each made longer by the greatest correction
 abbrev pub most_ticks : ConfigParts → ScriptParts → ℕ
 most_ticks c s = s.rounds * (c.round + c.adjust)
 

@@ -1,5 +1,5 @@
--- The rules that the parts of a script meet: those that need no configuration, and those for a configuration. Each
--- field is one rule.
+-- The rules that the parts of a script meet: those that need no configuration, and those that need one. Each field is
+-- one rule.
 use Rattle.std.specs.Prelude.{◌≡◌, ℕ, ◌+◌, ◌^◌, ◌<◌, ◌≤◌, ◌&&◌, nat_le, nat_lt, Bool, true, List, [], ◌∷◌, length}
 use Rattle.std.specs.List.{list_all}
 use Rattle.tt_world.specs.declared.config.ConfigParts.{ConfigParts}

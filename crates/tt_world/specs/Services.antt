@@ -30,7 +30,7 @@ ends_with w left = record { result = 0; world = w; left = left; ends = true }
 
 -- ---- ttSyncTimes
 
--- with the next global time, if there is one
+-- ttSyncTimes with the next global time, if there is one
 abbrev pub synced : ConfigParts → Option ℕ → World → List Stmt → Answer
 synced c None w left = answers 1 w left
 synced c (Some global) w left =
@@ -53,7 +53,7 @@ is_caller _ task = false
 
 -- ---- each service
 
--- what a service gives to a caller of which this is left after the call
+-- what a service gives to a caller; this is left of the caller after the call
 unfoldable pub service : ConfigParts → ScriptParts → Runner → Call → List Stmt → World → Answer
 service c s caller (call.Switch mode) left w = answers 0 (record w { wanted = mode }) left
 service c s caller call.Sync left w = synced c (slice_get s.times w.times_used) w left

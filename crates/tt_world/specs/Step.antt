@@ -24,7 +24,7 @@ pub record RunnerTick : Type 0 where
   pub move : Moved
   pub ended : Bool
 
--- the runner goes on with what is left of it, or has ended where that is nothing
+-- the runner goes on with what is left of it, or has ended where nothing is left
 abbrev pub works : Runner → List Stmt → List Event → World → RunnerTick
 works runner left events w = record { move = goes_on (leaving w runner left) events; ended = is_done left }
 
@@ -42,7 +42,7 @@ called c runner who call answer =
 abbrev pub state_after : ConfigParts → ScriptParts → World → List Stmt → State
 state_after c s w left = tick (supply_of c.demands s.values) (state_of left w.vars w.cursors [])
 
--- what follows from the effect of a tick, after which this is left; a tick has at most one
+-- what follows from the effects of a tick, when this is left; a tick has at most one effect
 abbrev pub effected : ConfigParts → ScriptParts → Runner → Owner → List Effect → List Stmt → World → RunnerTick
 effected c s runner who [] left w = works runner left [] w
 effected c s runner who (effect.Out value ∷ rest) left w = works runner left (Out w.tick who value ∷ []) w
@@ -59,11 +59,11 @@ abbrev pub is_somebody : Runner → Bool
 is_somebody Nobody = false
 is_somebody runner = true
 
--- a line stands before the tick where its owner is another than the one of the tick before
+-- a Run event comes before the tick where its owner is not the owner of the tick before
 abbrev pub run_line : World → Owner → List Event
 run_line w who = event_if (not (ran_before w.last who)) (Run w.tick who)
 
--- the tick is over: the end of an owner that has ended has a line, and the tick is raised
+-- the tick is over: an owner that has ended gets an End event, and the tick is raised
 abbrev pub tick_over : Owner → Bool → World → Moved
 tick_over who ended w = goes_on (record w { tick = w.tick + 1; last = Some who })
     (event_if ended (End (w.tick + 1) who))
@@ -74,6 +74,6 @@ runner_step c s runner w =
     let tick = runner_tick c s runner who w in
     followed (preceded (run_line w who) tick.move) (tick_over who (is_somebody runner && tick.ended))
 
--- the one who runs takes the tick of the instant; nobody's tick does nothing
+-- the one who runs takes the tick of the instant; an idle tick does no work
 unfoldable pub step : ConfigParts → ScriptParts → World → Moved
 step c s w = runner_step c s (runner_of c w) w

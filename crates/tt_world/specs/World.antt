@@ -37,12 +37,12 @@ pub record World : Type 0 where
   pub cursors : List ℕ
   -- all activations of the present round, in their order
   pub jobs : List Job
-  -- of each time-triggered routine: whether its source is enabled, whether an interrupt is held, and what is left of
-  -- it, nothing where it is not unfinished
+  -- for each time-triggered routine: whether its source is enabled, whether an interrupt is held, and what is left of
+  -- the routine, nothing where it is not unfinished
   pub isrs_enabled : List Bool
   pub isrs_held : List Bool
   pub isrs : List (List Stmt)
-  -- the same of each routine of the OSEK subsystem, whose source is always enabled
+  -- the same for each routine of the OSEK subsystem; its source is always enabled
   pub oisrs_held : List Bool
   pub oisrs : List (List Stmt)
   -- what is left of each OSEK task, nothing where it is suspended

@@ -57,7 +57,7 @@ pub struct Activation {
     pub offset: u64,
     pub task: TaskNo,
     pub deadline: u64,
-    /// Whether deadline monitoring looks at the deadline itself, or at a later point.
+    /// Whether deadline monitoring looks at the deadline itself or at a later point.
     pub stringent: bool,
 }
 
@@ -94,9 +94,9 @@ pub struct ConfigParts {
     pub isrs: Series<IsrDef>,
     pub oseks: Series<OsekDef>,
     pub oisrs: Series<OisrDef>,
-    /// The body of ttErrorHook, empty where none is declared.
+    /// The body of ttErrorHook, empty where it is not declared.
     pub error_hook: Body,
-    /// The body of ttShutdownHook, empty where none is declared.
+    /// The body of ttShutdownHook, empty where it is not declared.
     pub shutdown_hook: Body,
     pub modes: Series<ModeDef>,
 }

@@ -1,4 +1,4 @@
-//! What a run is read from, the world of a run, and the definitions of a run: the parts of an
+//! What is fixed before a run, the world of a run, and the definitions of a run: the parts of an
 //! instant in their order, and the schedule instant by instant.
 #![tactic(auto)]
 

@@ -27,8 +27,8 @@ pub struct ScriptParts {
     pub times: Series<u64>,
 }
 
-/// A script that meets the rules of one by itself. Contracts see it as its parts; whether it is one
-/// for a configuration is said where both are used.
+/// A script that by itself meets the rules of a script. Contracts see it as its parts. Whether it
+/// fits a configuration is said where both are used.
 #[derive(Debug, Drop)]
 pub struct Script {
     parts: ScriptParts,

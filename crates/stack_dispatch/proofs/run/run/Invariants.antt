@@ -8,7 +8,7 @@ use Rattle.stack_dispatch.specs.Told.{Tells}
 use Rattle.stack_dispatch.proofs.Running.{AtTick}
 use Rattle.stack_dispatch.proofs.run.run.Given as goal
 
--- the world is that of the schedule at the present tick, the events before it were told, the arrivals to come are
+-- the world is that of the schedule at the present tick, the events before it were reported, the arrivals to come are
 -- those from it on, and it is known until when nothing is due
 abbrev pub invariant-instants : goal.invariant-instants
 invariant-instants g l = record {

@@ -1,4 +1,4 @@
--- The plain bytes in front tell the first line, and what it has wrong.
+-- The leading plain bytes give the first line and what is wrong with it.
 use Rattle.std.proofs.Common.{arith, List, ℕ, ap, subst, length, length-drop}
 use Rattle.std.proofs.lemmas.List.{take_rest}
 use Rattle.tt_doc.specs.LineStep.{BeginsWithFault}

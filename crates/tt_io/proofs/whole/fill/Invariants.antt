@@ -1,4 +1,4 @@
--- The front of the buffer is what was taken so far, and it was counted.
+-- The first part of the buffer is what was taken so far, and it was counted.
 use Rattle.std.proofs.Common.{◌≡◌, ◌≤◌, ◌-◌, length, take}
 use Rattle.std.specs.Io.KnownBytes.{Consumes}
 use Rattle.tt_io.specs.Count.{counted}

@@ -1,4 +1,4 @@
--- What is gone from the rest of the piece was appended, and nothing was written of an empty piece.
+-- What is gone from the rest of the piece was appended; an empty piece changes nothing in the sink.
 use Rattle.std.proofs.Common.{◌≡◌, ◌≤◌, List, ℕ, [], ◌++◌, length}
 use Rattle.std.specs.Io.KnownBytes.{Appends}
 use Rattle.tt_io.proofs.whole.put_all.Given as goal

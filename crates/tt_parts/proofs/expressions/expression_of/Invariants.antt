@@ -3,7 +3,7 @@ use Rattle.tt_parts.specs.Bodies.{expressions_of}
 use Rattle.tt_parts.proofs.Terms.{terms_then}
 use Rattle.tt_parts.proofs.expressions.expression_of.Given as goal
 
--- the terms that are left, in front of the expressions so far, are the expressions
+-- the terms that are left and then the expressions so far are the expressions
 abbrev pub invariant-loop-term : goal.invariant-loop-term
 invariant-loop-term l = terms_then l.names l.left l.rest ≡ expressions_of l.names l.terms
 

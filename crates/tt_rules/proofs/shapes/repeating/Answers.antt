@@ -31,7 +31,7 @@ module _ {A K : Type 0} (same : K → K → Bool) (key : A → Option K) where
       ap (λ b. b || list_any (λ other. is_key same k (key other)) above) (same-one (key x) k)
       ∙ ap (λ b. same_keys same (key x) (Some k) || b) (any-one k above)
 
-  -- a set that has the keys of the parts above tells whether a key is one of theirs
+  -- a set that has the keys of the parts above says whether a key is one of theirs
   known : (has : K → Bool) (above : List A) → ((q : K) → has q ≡ list_any (λ other. is_key same q (key other)) above)
       → (k : Option K)
       → passes_key has k ≡ list_any (λ other. same_keys same (key other) k) above

@@ -7,7 +7,7 @@ use Rattle.tt_rules.specs.Shapes.{Every, breaking}
 use Rattle.tt_rules.specs.StructureRules.{is_header, lines_1}
 use Rattle.tt_rules.proofs.structure.rule_1.Goals as goal
 
--- after the header no row is one
+-- where the first row is the header, rule 1 is that no later row is one
 headed : (rows rest : List NumberedRow) (first : NumberedRow) → rows ≡ first ∷ rest → is_header first.row ≡ true
     → lines_1 rows ≡ breaking 1 (Every (λ other. not (is_header other))) (rows_at rest)
 headed rows rest first is header =

@@ -1,4 +1,4 @@
--- The text of a name is the front of its sixteen bytes.
+-- The text of a name is a prefix of its sixteen bytes.
 use Rattle.std.proofs.Common.{◌++◌, ◌∷◌, [], ap, sym, ◌∙◌, append_assoc, take}
 use Rattle.std.specs.Prelude.{unwrap_or}
 use Rattle.trace_text.proofs.NameTexts.{found}
