@@ -1,8 +1,8 @@
 -- The answer to the bytes that a source gave.
-use Rattle.std.proofs.Common.{◌≡◌, ℕ, ◌^◌, ◌+◌, ◌≤◌, List, [], ◌∷◌, ◌++◌, Option, Some, None, false, nat_lt, cond, length, map, refl, ap, sym, ◌∙◌, subst, arith}
+use Rattle.std.proofs.Common.{◌≡◌, ℕ, ◌^◌, ◌≤◌, List, [], ◌∷◌, ◌++◌, Option, Some, None, false, nat_lt, cond, length, map, refl, ap, sym, ◌∙◌, subst, arith}
 use Rattle.std.proofs.lemmas.Bool.Decides.{nat_tests}
 use Rattle.std.specs.Io.KnownBytes.{Appends}
-use Rattle.tt_io.specs.Gave.{Gives, GivesAll}
+use Rattle.tt_io.specs.Gave.{GivesAll}
 use Rattle.tt_io.specs.Known.{AppendsPart}
 use Rattle.tt_read.specs.Document.{document_of}
 use Rattle.osektime_core.specs.declared.words.Command.{Command}
