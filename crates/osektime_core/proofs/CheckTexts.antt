@@ -97,7 +97,7 @@ responses_more c number now after so_far put =
     put ∙ ap (λ t. t ++ responses_text c (record { 0 = number })) so_far
     ∙ sym (texts_more (λ n. responses_text c (record { 0 = n })) number)
 
--- two tests of one fact are one
+-- two tests of one fact are the same
 pub same_test : (P : Type 0) (a b : Bool) → (IsTrue a ↔ P) → (IsTrue b ↔ P) → a ≡ b
 same_test P true b e f = sym (f.1 (e.0 refl))
 same_test P false true e f = e.1 (f.0 refl)

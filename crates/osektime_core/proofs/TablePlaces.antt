@@ -34,7 +34,7 @@ text_more text_of before now after xs from place x le at so_far one =
 
 -- ---- the checks of a table
 
--- after the checks of all offsets stand those of the round's end
+-- after the checks of all offsets come those of the round's end
 pub checks_at_end : (table : TableRows) (past from to : ℕ) → past ≡ table.limit + 1
     → from ≡ length (checks_below table.mode past) → to ≡ length (checks_of table)
     → slice_range (checks_of table) from to ≡ entries_due is_round_end table.mode

@@ -66,14 +66,14 @@ lines_alike names mode offset entries isrs entry checks enables activation =
     ∙ ap (λ (is : List IsrNo). lines_with names mode offset entries is (entry_at offset mode.activations)) enables
     ∙ ap (lines_with names mode offset entries isrs) activation
 
--- an offset at which nothing stands has no line
+-- an offset at which nothing is due has no line
 free_lines : (names : List NameEntry) (mode : ModeDef) (offset : ℕ) → IsFree offset mode
     → lines_at names mode offset ≡ []
 unfolding lines_with
 free_lines names mode offset free =
     lines_alike names mode offset [] [] None free.checks (ap isrs_of free.enables) free.activation
 
--- the lines of an offset, and then of those up to the next at which something stands
+-- the lines of an offset, and then of those up to the next at which something is due
 lines_up_to : (names : List NameEntry) (mode : ModeDef) (limit offset : ℕ) (next : Option ℕ) → offset ≤ limit
     → IfSome next (λ other. (offset < other) × (other ≤ limit))
     → ((between : ℕ) → offset < between → IfSome next (λ n. between < n) → IsFree between mode)

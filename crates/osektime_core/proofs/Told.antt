@@ -1,4 +1,4 @@
--- The answer to the bytes of the document of some words, where they are told.
+-- The answer to the bytes of the document of some words, where they are known.
 use Rattle.std.proofs.Common.{◌≡◌, ◌≢◌, ℕ, ◌^◌, ◌≤◌, List, Option, Some, None, [], false, nat_lt, cond, length, refl, ap, sym, ◌∙◌, subst, arith}
 use Rattle.std.specs.Prelude.{IfSome}
 use Rattle.std.proofs.lemmas.Bool.Decides.{nat_tests}
@@ -79,7 +79,7 @@ pub answer_is : (words : List (List ℕ)) (command : Command) (bytes : List ℕ)
 answer_is words command bytes is reads fits =
     ap (λ c. words_answer c bytes) is ∙ reading_answer command bytes reads ∙ few_bytes command bytes fits
 
--- ---- facts of the bytes that are told
+-- ---- facts of the bytes that are known
 
 -- a fact of the bytes that a command has read
 pub told_bytes : (Q : List ℕ → Type 0) (words : List (List ℕ)) (command : Command) (left after : Option (List ℕ))

@@ -45,7 +45,7 @@ module _ {O : Type 0} (written : O → Option (List ℕ)) (s t : SinkRecorder O)
       (Appends-trans (written (sink_of s).now) (written (sink_of t).now) after all.sent
       (waiting_in t) all.appended sent))
 
-  -- a text was put, and of what waited a part was sent
+  -- a text was put, and a part of what waited was sent
   pub sent_some : waiting_in s ≡ [] → written (sink_of s).now ≡ before → Puts written s text t
       → AppendsPart (written (sink_of t).now) after (waiting_in t) → AppendsPart before after text
   sent_some none begun put sent =

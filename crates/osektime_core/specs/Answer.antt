@@ -93,8 +93,8 @@ abbrev pub check_answer : Option Broken → List NumberedRow → Answer
 check_answer (Some broken) rows = rule_answer broken.number broken.line
 check_answer None rows = checked_answer (config_of rows) (script_of rows)
 
--- what the run of a configuration and a script comes to, with the bounds of the configuration; the counts of events and
--- of activations stay at their last value, 2^64 - 1
+-- the summary of the run of a configuration and a script, with the bounds of the configuration; the counts of events
+-- and of activations stay at their greatest value, 2^64 - 1
 abbrev pub summary_of : ConfigParts → ScriptParts → Summary
 summary_of c s = record {
   ticks = ending.last_stamp (schedule c s);
@@ -158,7 +158,7 @@ IsReading None = ⊥
 IsReading (Some (Bulk number)) = ⊥
 IsReading (Some command) = ⊤
 
--- the bytes of the document of some words, where they are told: those of `bulk`, or those that the source has left
+-- the bytes of the document of some words, where they are known: those of `bulk`, or those that the source has left
 abbrev pub document_by : Option Command → Option (List ℕ) → Option (List ℕ)
 document_by (Some (Bulk number)) left = Some (bulk_text number)
 document_by command left = left
@@ -180,13 +180,13 @@ OnAnswered (CheckNo mode entry) P = P
 OnAnswered (Missed task tick) P = P
 OnAnswered (Shut tick) P = P
 
--- the status and the whole text of the answer to the words, where the bytes of their document are told
+-- the status and the whole text of the answer to the words, where the bytes of their document are known
 abbrev pub IsAnswered : List (List ℕ) → Option (List ℕ) → Status → Option (List ℕ) → Option (List ℕ) → Type 0
 IsAnswered words left status before after =
     IfSome (document_for words left)
     (λ bytes. (status ≡ (answer_of words bytes).status) × Appends before after (answer_of words bytes).text)
 
--- what came of an answer: it was given, with its whole text written; or memory ran out, and the sink was left alone;
+-- the outcome of an answer: it was given, with its whole text written; or memory ran out, and the sink was left alone;
 -- or a write failed after a proper part of the text
 pub record Responds (answer : Answer) (status : Status) (LeftAlone : Type 0) (before after : Option (List ℕ))
     (faults now : ℕ)

@@ -1,5 +1,5 @@
--- What a command that reads was given by its source, and what it answered: of every source, also of one that does not
--- tell the bytes that it has left, as standard input.
+-- What a source gave to a command that reads, and what the command answered: for every source, also for one that does
+-- not say what it has left, as standard input.
 use Rattle.std.specs.Prelude.{◌≡◌, ◌≤◌, ℕ, List, [], ◌∷◌, ◌++◌, ◌+◌, ◌^◌, Option, Some, None, length, map, nat_lt, if◌then◌else◌}
 use Rattle.tt_io.specs.Gave.{GivesAll}
 use Rattle.tt_io.specs.Known.{AppendsPart}
@@ -21,7 +21,7 @@ pub record Heard (words : List (List ℕ)) (status : Status) (gave now : List (O
   pub answered : IsAnswered words (Some bytes) status before after
   pub no_miss : IsSchedulable bytes → NoneIsMissed status
 
--- these bytes were given to their end, and of the text of the answer to them a part was written, and not all
+-- these bytes were given to their end, and a proper prefix of the text of the answer to them was written
 pub record HeardPart (words : List (List ℕ)) (gave now : List (Option ℕ)) (before after : Option (List ℕ)) : Type 0 where
   pub bytes : List ℕ
   pub given : GivesAll gave now bytes

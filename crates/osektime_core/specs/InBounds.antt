@@ -7,7 +7,7 @@ use Rattle.osektime_core.specs.declared.words.Command.TheVariants.{Bulk, Load}
 use Rattle.osektime_core.specs.declared.status.Status.{Status}
 use Rattle.osektime_core.specs.declared.status.Status.TheVariants.{Done, Missed, Shut}
 
--- a command that writes what a run comes to
+-- a command that writes the summary of a run
 abbrev pub IsLoading : Option Command → Type 0
 IsLoading (Some Load) = ⊤
 IsLoading (Some (Bulk number)) = ⊤

@@ -1,4 +1,4 @@
--- The summary of a run: what it came to, in numbers.
+-- The summary of a run, in numbers.
 use Rattle.std.specs.Prelude.{◌≡◌, ℕ, List, [], ◌∷◌, ◌++◌, codes, decimal, slice_index_or}
 use Rattle.tt_base.specs.declared.names.NameKind.TheVariants as Named
 use Rattle.tt_base.specs.Names.{names_of}
@@ -9,7 +9,7 @@ use Rattle.schedule_check.specs.Windows.{depth_bound, words_bound}
 use Rattle.stack_dispatch.specs.declared.report.Report.{Report}
 use Rattle.osektime_core.specs.declared.load.Outline.{Outline}
 
--- what a run came to
+-- the numbers of a run
 pub record Summary : Type 0 where
   -- the tick of the last event
   pub ticks : ℕ
@@ -52,7 +52,7 @@ load_text tasks summary =
     ++ (bounded_line (codes "words") summary.words summary.words_bound
     ++ end_line tasks summary.end)))))
 
--- what a report tells, and the bounds of its application
+-- the numbers of a report, and the bounds of its application
 abbrev pub summary_by : Report → (depth_bound words_bound : ℕ) → Summary
 summary_by report depth_bound words_bound = record {
   ticks = report.ticks;

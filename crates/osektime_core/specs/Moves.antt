@@ -49,8 +49,8 @@ IsRunning (Some Load) = ⊤
 IsRunning (Some (Bulk number)) = ⊤
 IsRunning command = ⊥
 
--- the moves of a run: at most its statements, the instants at which something is due, and one; and where it has ended, at
--- least its changes of the owner
+-- the moves of a run: at most the statements that are begun, plus the instants at which something is due, plus one; and
+-- where it has ended, at least the changes of the owner
 abbrev pub CountsRun : Benched → Status → (before after : ℕ) → Type 0
 CountsRun b status before after =
     (after ≤ before + most_moves b.config b.script)

@@ -10,7 +10,7 @@ use Rattle.stack_dispatch.specs.Reports.{Reports}
 use Rattle.stack_dispatch.specs.declared.report.Run.{Run}
 use Rattle.stack_dispatch.specs.declared.report.Run.TheVariants.{Ended, Failed}
 
--- by its answer: the text of the schedule was put, and this is the report of the run, or the text was cut
+-- by its answer: the text of the schedule was put, and this is the report of the run; or the text was cut
 abbrev pub PutsRun : {O : Type 0} → (O → Option (List ℕ)) → ConfigParts → ScriptParts → SinkRecorder O → SinkRecorder O
     → Run → Type 0
 PutsRun written c s before after (Ended report) =

@@ -45,7 +45,7 @@ activation_line names row =
     line (decimal row.offset ∷ codes "activate" ∷ name_of names
     (Which.Task row.task) ∷ decimal row.deadline ∷ monitoring_word row.stringent ∷ [])
 
--- ---- what stands at one place
+-- ---- what is due at one offset
 
 -- the lines of the checks of entry numbers, at their monitoring point
 abbrev pub check_lines : List NameEntry → ModeDef → Point → List ℕ → List ℕ
@@ -58,7 +58,7 @@ abbrev pub activation_lines : List NameEntry → ModeDef → Option ℕ → List
 activation_lines names mode None = []
 activation_lines names mode (Some entry) = activation_line names (row_of mode entry)
 
--- what stands at an offset: the checks whose monitoring point it is, then the enables, then the activation
+-- what is due at an offset: the checks whose monitoring point it is, then the enables, then the activation
 unfoldable pub lines_at : List NameEntry → ModeDef → ℕ → List ℕ
 lines_at names mode offset =
     check_lines names mode (point.At offset) (entries_due (is_at offset) mode)
@@ -72,8 +72,8 @@ unfoldable pub texts_below : (ℕ → List ℕ) → ℕ → List ℕ
 texts_below text zero = []
 texts_below text (suc n) = texts_below text n ++ text n
 
--- the table of a mode: its name, then what stands at each offset from 0 up to L - A, and last the checks at the round's
--- end
+-- the table of a mode: its name, then what is due at each offset from 0 up to L - A, and last the checks at the
+-- round's end
 unfoldable pub mode_text : ConfigParts → ModeNo → List ℕ
 mode_text c number =
     let mode = mode_at c number.0 in

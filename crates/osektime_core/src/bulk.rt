@@ -86,7 +86,7 @@ fn put_arrivals(text: &mut Vec<u8>, round: u32) -> Result<(), Memory>
 
 /// The bulk document of a number. It has `n = 2 + number % 31` tasks, of which each preempts the
 /// one before it, and a routine that an arrival in each of 10,000 rounds of `20 n` ticks begins;
-/// so there are 31 such documents. Out of memory is its one refusal.
+/// so there are 31 such documents. Its only error is out of memory.
 pub fn bulk_document(alloc: Global, number: u32) -> Result<Vec<u8>, Memory>
     ensures document { IfOk result (λ text. text.items ≡ bulk_text number) }
     ensures short { IfOk result (λ text. length text.items ≤ 2 ^ 20) }

@@ -26,8 +26,8 @@ pub const MOST_BYTES: usize = 1 << 20;
 /// all but `show` the least rule that is broken. Out of memory may stand in place of any answer
 /// before the first byte is written, and a failed write in place of the answer whose text was being
 /// written. A run that has ended with a missed deadline is no refusal: its whole text is written.
-/// The steps are the moves of the run: the ticks of the one who runs that are taken at once.
-/// Commands and statuses are the bench's own.
+/// A step is counted for each move of the run, that is, for the ticks that the one who runs takes
+/// at once. Commands and statuses are the bench's own.
 pub fn serve<I: Source, O: Sink, L: Ledger>(
     alloc: Global,
     words: &Words,
@@ -35,8 +35,8 @@ pub fn serve<I: Source, O: Sink, L: Ledger>(
     output: &mut O,
     steps: &mut Steps<L>,
 ) -> Status
-    // Where no count of faults rose, it is the answer to the bytes that were left, or those of the
-    // bulk document, or want of memory.
+    // Where no count of faults rose, it is the answer to the bytes that were left or to those of
+    // the bulk document, or it is out of memory.
     ensures complete { ¬ Rose (I.faults input.old) (I.faults input.new)
         → ¬ Rose (O.faults output.old) (O.faults output.new)
         → result ≢ Status.Memory
@@ -52,7 +52,7 @@ pub fn serve<I: Source, O: Sink, L: Ledger>(
         (IfSome (I.left input.old) (λ _. I.left input.new ≡ Some [])) }
     ensures not_read { ¬ IsReading (command_of words.now) → input.new ≡ input.old }
 
-    // The same over a source that does not tell what it has left, as standard input: the answer is
+    // The same over a source that does not say what it has left, as standard input: the answer is
     // that to the bytes that the source gave, up to its first end and not after it.
     ensures heard { IsReading (command_of words.now)
         → ¬ Rose (I.faults input.old) (I.faults input.new)
@@ -96,9 +96,9 @@ pub fn serve<I: Source, O: Sink, L: Ledger>(
     ensures bounded { IsLoading (command_of words.now) → OnRun result
         (TellsInBounds (O.written output.old) (O.written output.new)) }
 
-    // A run counts no more moves than there are statements that are begun and instants at which
-    // something is due, and one; and where it has ended, no less than there are changes of the
-    // owner. Nothing is counted where nothing is run.
+    // The moves of a run are at most the statements that are begun, plus the instants at which
+    // something is due, plus one; and where it has ended, at least the changes of the owner.
+    // Nothing is counted where nothing is run.
     ensures moves { IfSome (document_for words.now (I.left input.old))
         (λ bytes. CountsMoves (run_of words.now bytes) result steps.old steps.new) }
     ensures heard_moves { IsReading (command_of words.now) → (bytes : List ℕ)

@@ -62,7 +62,7 @@ fn trace<O: Sink, L: Ledger>(
     }
 }
 
-/// Runs rows that meet the rules, and writes what the run comes to. Else says which rule they
+/// Runs rows that meet the rules, and writes the summary of the run. Else says which rule they
 /// break.
 fn load<O: Sink, L: Ledger>(
     alloc: Global,

@@ -115,7 +115,7 @@ fn run_report<L: Ledger>(
     }
 }
 
-/// Runs a configuration with a script that was made for it, and writes what the run comes to.
+/// Runs a configuration with a script that was made for it, and writes its summary.
 pub(crate) fn write_load<O: Sink, L: Ledger>(
     alloc: Global,
     config: Config,

@@ -19,7 +19,7 @@ fn put(text: &mut Vec<u8>, line: &Line) -> Result<(), Memory>
     put_bytes(text, line.as_bytes())
 }
 
-/// Appends the checks at the places from one up to below another, which have this monitoring point.
+/// Appends the checks in a half-open range of places, all with this monitoring point.
 fn put_checks(
     text: &mut Vec<u8>,
     names: &Names,
@@ -40,7 +40,7 @@ fn put_checks(
     Ok(())
 }
 
-/// Appends the enables at the places from one up to below another, which stand at this offset.
+/// Appends the enables in a half-open range of places, all at this offset.
 fn put_enables(
     text: &mut Vec<u8>,
     names: &Names,
@@ -77,7 +77,7 @@ fn put_activation(
     }
 }
 
-/// Appends what stands at an offset of the round.
+/// Appends what is due at an offset of the round.
 fn put_offset(text: &mut Vec<u8>, names: &Names, table: &Table, offset: u64) -> Result<(), Memory>
     ensures { OnOk result (text.new.items
         ≡ text.old.items ++ lines_at names.now table.now.mode offset) }
@@ -89,8 +89,8 @@ fn put_offset(text: &mut Vec<u8>, names: &Names, table: &Table, offset: u64) -> 
     put_activation(text, names, table, due.activation)
 }
 
-/// Appends what stands at each offset of the round, in ascending order. Offsets at which nothing
-/// stands are passed over.
+/// Appends what is due at each offset of the round, in ascending order. Offsets at which nothing
+/// is due are passed over.
 fn put_offsets(text: &mut Vec<u8>, names: &Names, table: &Table) -> Result<(), Memory>
     ensures { OnOk result (text.new.items
         ≡ text.old.items ++ texts_below (lines_at names.now table.now.mode) (table.now.limit + 1)) }
@@ -119,8 +119,8 @@ fn put_mode(alloc: Global, text: &mut Vec<u8>, config: &Config, mode: ModeNo) ->
 
 /// The text of the dispatcher tables of a configuration, in time that is n log n in its rows: for
 /// each mode by number its name, then in ascending order of offset the checks, the enables and the
-/// activation that stand there, and last the checks at the round's end. `Memory` is its one
-/// refusal.
+/// activation that are due there, and last the checks at the round's end. Its only error is
+/// `Memory`.
 pub(crate) fn table_text(alloc: Global, config: &Config) -> Result<Vec<u8>, Memory>
     ensures { IfOk result (λ text. text.items ≡ table_text config.now) }
 {

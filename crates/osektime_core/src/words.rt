@@ -19,7 +19,7 @@ pub enum Command {
     Table,
     /// `check`: the schedule check, with the response end of each activation.
     Check,
-    /// `load`: what the run comes to, in numbers.
+    /// `load`: the summary of the run, in numbers.
     Load,
     /// `bulk N`: the same for the bulk document of this number.
     Bulk(u32),
@@ -67,7 +67,7 @@ impl Words {
         Ok(())
     }
 
-    /// The command that the words are. None exactly where they are none.
+    /// The command that the words name; None exactly where they name none.
     pub fn command(&self) -> Option<Command>
         ensures { result ≡ command_of self.now }
     {
