@@ -1,8 +1,8 @@
 #!/usr/bin/env python3
 """Measures the built program against the plain one: measure.py PROGRAM PLAIN FOLDER [--quick] [--table FILE] [NAME ..]
 
-For each document and command the texts and statuses are compared first; then both programs run in turn, output to /dev/null. Told are the
-least wall time, the least processor time and the peak memory of each, and the ratios. What it does is told on standard error while it does
+For each document and command the texts and statuses are compared first; then both programs run in turn, output to /dev/null. The table has the
+least wall time, the least processor time and the peak memory of each, and the ratios. What it does is printed on standard error while it does
 it; the table goes to standard output and, with --table, between the marks of that file. The status is 1 where an answer differs. A program
 that is stopped after 20 s of processor time, or that has no memory below 4 GiB, differs too, and has a row that says so. A command that the program does not know yet (status 2) is left out."""
 import hashlib

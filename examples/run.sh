@@ -2,7 +2,7 @@
 # Runs the documents of the folders beside it through the built program: NAME.osektime on standard input of each command for which there
 # is a NAME.COMMAND.out, which is the text that must be written. The exit status must be that of the folder's statuses.txt, or 0. A row
 # `NAME COMMAND STATUS TEXT` of an answers.txt is the same for a text of one line. A command that the program does not know yet is
-# left out, and that is told. A NAME.COMMAND.ends has the number of lines and the last line of a text that is too long to keep.
+# left out, which is printed. A NAME.COMMAND.ends has the number of lines and the last line of a text that is too long to keep.
 set -u
 here=$(cd "$(dirname "${BASH_SOURCE[0]}")" && pwd)
 program=$here/../osektime

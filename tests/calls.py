@@ -36,7 +36,7 @@ def exported(crate):
 
 
 def clauses(head, word):
-    """The names of the clauses of this kind in the head of a call; a clause without a name is told by an empty one."""
+    """The names of the clauses of this kind in the head of a call; an empty one stands for a clause without a name."""
     return [name for name in re.findall(rf"^\s*{word}(?: (\w+))? \{{", head, re.M)]
 
 
@@ -81,7 +81,7 @@ def call(owner, name, comment, lines, at):
     return shown, sentence, wants, gives
 
 
-def told(names, empty):
+def listed(names, empty):
     return ", ".join(f"`{name}`" if name else empty for name in names)
 
 
@@ -90,9 +90,9 @@ def page():
     for crate in crates():
         rows = []
         for name, sentence, wants, gives in calls(crate):
-            carried = told(gives, "its value") or "safe"
+            carried = listed(gives, "its value") or "safe"
             if wants:
-                carried += f"; where {told(wants, 'its condition')}"
+                carried += f"; where {listed(wants, 'its condition')}"
             rows.append(f"| `{name}` | {sentence} | {carried} |")
         if rows:
             parts.append("\n".join([f"\n## {crate}\n", "| call | what it does | clauses |", "|---|---|---|", *rows, ""]))

@@ -1,6 +1,6 @@
 #!/usr/bin/env python3
 """Looks for definitions and lemmas that nothing reaches: from the contracts and the code, and from the answers and invariants of functions,
-over what each names. Definitions are told apart by their names alone, so one that shares its name with another may be passed over. The
+over what each names. Definitions are known by their names alone, so one that shares its name with another may be passed over. The
 status is 1 where there is one."""
 import collections
 import pathlib

@@ -2,7 +2,7 @@
 //!
 //!     fuzz PROGRAM [--count N | --seconds S] [--seed SEED] [--only NUMBER] [--write] [--tally]
 //!
-//! A command that the program does not know (status 2) is left out. A difference is told with its seed and number, and with the smallest
+//! A command that the program does not know (status 2) is left out. A difference is printed with its seed and number, and with the smallest
 //! document to which it can be cut by lines; the exit status is then 1. `--only` looks at one document, and `--write` writes it. `--tally`
 //! only counts what documents there are, by the plain program's answers.
 #[path = "../../bench/baseline/bench.rs"]
@@ -182,15 +182,15 @@ fn compare(path: &str, options: &Options) -> Result<usize, Fault> {
     };
     let until = Duration::from_secs(options.seconds.unwrap_or(if options.count.is_some() { u64::MAX } else { 60 }));
     let started = Instant::now();
-    let mut told = started;
+    let mut printed = started;
     let mut tally = Tally::default();
     let mut differences = 0;
     for number in numbers {
         if started.elapsed() >= until || differences >= MOST_DIFFERENCES {
             break;
         }
-        if told.elapsed() >= Duration::from_secs(10) {
-            told = Instant::now();
+        if printed.elapsed() >= Duration::from_secs(10) {
+            printed = Instant::now();
             eprintln!("{} documents, {differences} with a difference", tally.documents);
         }
         let document = maker::document(seed, number);

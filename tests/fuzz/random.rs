@@ -44,7 +44,7 @@ impl Random {
         &items[self.place(items.len())]
     }
 
-    /// So many different numbers from `least` to `most`.
+    /// `count` different numbers from `least` to `most`.
     pub fn sample(&mut self, count: usize, least: u64, most: u64) -> Vec<u64> {
         let mut taken = Vec::new();
         while taken.len() < count {

@@ -1,8 +1,8 @@
 #!/usr/bin/env bash
 # Compares the built program with the plain one of bench/baseline/ over random documents: text and status of each command that the
-# program knows. `bash tests/fuzz/run.sh` looks for a minute; `--count N` at so many documents, `--seconds S` for so long, `--seed SEED`
-# at others, `--only NUMBER` at one of them (and `--write` writes it). A difference ends with status 1, and is told with its seed and
-# with the smallest document that has it. Needs rustc.
+# program knows. `bash tests/fuzz/run.sh` runs for a minute; `--count N` tries N documents, `--seconds S` runs for S seconds, `--seed SEED`
+# tries other documents, `--only NUMBER` one of them (and `--write` writes it). At a difference it prints the seed and the smallest
+# document that it finds with this difference, and ends with status 1. Needs rustc.
 set -eu
 here=$(cd "$(dirname "${BASH_SOURCE[0]}")" && pwd)
 top=$here/../..
