@@ -116,7 +116,7 @@ pub fn serve<I: Source, O: Sink, L: Ledger>(
         let Ok(bytes) = bulk_document(alloc, number) else {
             return Status::Memory;
         };
-        return respond(alloc, command, &bytes, output, steps);
+        return respond(alloc, command, bytes, output, steps);
     }
     let bytes = match take_all(alloc, input, MOST_BYTES) {
         Ok(bytes) => bytes,
@@ -124,5 +124,5 @@ pub fn serve<I: Source, O: Sink, L: Ledger>(
         Err(TakeFault::ReadFault) => return Status::ReadFault,
         Err(TakeFault::TooLong) => return Status::TooLong,
     };
-    respond(alloc, command, &bytes, output, steps)
+    respond(alloc, command, bytes, output, steps)
 }

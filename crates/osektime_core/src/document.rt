@@ -174,23 +174,25 @@ fn respond_to_rows<O: Sink, L: Ledger>(
     }
 }
 
-/// Answers a command for the bytes of its document.
+/// Answers a command for the bytes of its document, which are given up once they are read.
 pub(crate) fn respond<O: Sink, L: Ledger>(
     alloc: Global,
     command: Command,
-    bytes: &[u8],
+    bytes: Vec<u8>,
     output: &mut O,
     steps: &mut Steps<L>,
 ) -> Status
-    requires { length bytes.now ≤ 2 ^ 20 }
-    ensures responds { Responds (document_answer command (document_of bytes.now)) result
+    requires { length bytes.items ≤ 2 ^ 20 }
+    ensures responds { Responds (document_answer command (document_of bytes.items)) result
         (output.new ≡ output.old)
         (O.written output.old) (O.written output.new) (O.faults output.old) (O.faults output.new) }
-    ensures no_miss { IsSchedulable bytes.now → NoneIsMissed result }
-    ensures moves { CountsMoves (document_run command (document_of bytes.now)) result
+    ensures no_miss { IsSchedulable bytes.items → NoneIsMissed result }
+    ensures moves { CountsMoves (document_run command (document_of bytes.items)) result
         steps.old steps.new }
 {
-    match read(alloc, bytes) {
+    let document = read(alloc, &bytes);
+    drop(bytes);
+    match document {
         Ok(rows) => respond_to_rows(alloc, command, rows, output, steps),
         Err(FormFault::Memory) => Status::Memory,
         Err(FormFault::Form { line, kind }) => match form_line(alloc, line, kind) {

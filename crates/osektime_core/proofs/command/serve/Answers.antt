@@ -16,7 +16,7 @@ use Rattle.osektime_core.proofs.command.serve.Given.{Over}
 use Rattle.osektime_core.proofs.command.serve.Goals as goal
 
 -- the whole answer, where one was given
-given : (g : Over) (c : goal.After-drop-bytes-2 g) → c.respond-2.result ≢ Memory
+given : (g : Over) (c : goal.After-respond-2 g) → c.respond-2.result ≢ Memory
     → c.respond-2.result ≢ WriteFault
     → IsAnswered c.args.words.now (g.I.Source.left c.args.input.now) c.respond-2.result
     (g.O.Sink.written c.args.output.now) (g.O.Sink.written c.respond-2.new.output)
@@ -26,10 +26,10 @@ given g c ample whole =
     c.args.words.now c.in-Some.command _ (g.I.Source.left c.take_all.new.source) c.in-Ok-take_all.bytes.items
     (sym c.command.ensures ∙ c.in-Some.is) (is_reading c.in-Some.command c.in_default-command.not-Bulk)
     c.in-Ok-take_all.ensures.bytes c.in-Ok-take_all.ensures.fits
-    (rw (← c.deref-2.ensures.value) (c.respond-2.ensures.responds.answered ample whole))
+    (c.respond-2.ensures.responds.answered ample whole)
 
 -- the same of the bytes that were given
-heard : (g : Over) (c : goal.After-drop-bytes-2 g) → c.respond-2.result ≢ Memory
+heard : (g : Over) (c : goal.After-respond-2 g) → c.respond-2.result ≢ Memory
     → c.respond-2.result ≢ WriteFault
     → Heard c.args.words.now c.respond-2.result (g.I.Source.gave c.args.input.now)
     (g.I.Source.gave c.take_all.new.source)
@@ -38,8 +38,8 @@ heard g c ample whole =
     heard_whole c.args.words.now c.in-Some.command _ _ c.in-Ok-take_all.bytes.items
     (sym c.command.ensures ∙ c.in-Some.is) (is_reading c.in-Some.command c.in_default-command.not-Bulk)
     c.respond-2.result _ _ c.in-Ok-take_all.ensures.fits c.in-Ok-take_all.ensures.gave
-    (rw (← c.deref-2.ensures.value) (c.respond-2.ensures.responds.answered ample whole))
-    (rw (← c.deref-2.ensures.value) c.respond-2.ensures.no_miss)
+    (c.respond-2.ensures.responds.answered ample whole)
+    c.respond-2.ensures.no_miss
 
 pub returns-clause-heard : goal.returns-clause-heard
 returns-clause-heard g c = λ reads calm_input calm_output ample.
@@ -70,7 +70,7 @@ returns-clause-write_fault g c = λ fault. (
       c.args.words.now c.in-Some.command _ (g.I.Source.left c.take_all.new.source) c.in-Ok-take_all.bytes.items
       (sym c.command.ensures ∙ c.in-Some.is) (is_reading c.in-Some.command c.in_default-command.not-Bulk)
       c.in-Ok-take_all.ensures.bytes c.in-Ok-take_all.ensures.fits
-      (rw (← c.deref-2.ensures.value) (c.respond-2.ensures.responds.part fault)),
+      (c.respond-2.ensures.responds.part fault),
 )
 
 pub returns-clause-no_miss : goal.returns-clause-no_miss
@@ -78,20 +78,20 @@ returns-clause-no_miss g c =
     told_bytes (λ bytes. IsSchedulable bytes → NoneIsMissed c.respond-2.result) c.args.words.now c.in-Some.command _
     (g.I.Source.left c.take_all.new.source) c.in-Ok-take_all.bytes.items
     (sym c.command.ensures ∙ c.in-Some.is) (is_reading c.in-Some.command c.in_default-command.not-Bulk)
-    c.in-Ok-take_all.ensures.bytes (rw (← c.deref-2.ensures.value) c.respond-2.ensures.no_miss)
+    c.in-Ok-take_all.ensures.bytes c.respond-2.ensures.no_miss
 
 pub returns-in-Bulk-clause-bounded : goal.returns-in-Bulk-clause-bounded
 returns-in-Bulk-clause-bounded g c = λ loads.
     told_in_bounds c.respond.result (g.O.Sink.written c.args.output.now) (g.O.Sink.written c.respond.new.output)
     (Bulk c.in-Bulk.number) tt c.in-Ok.bytes.items c.in-Ok.ensures.short
-    (λ ample whole. rw (← c.deref.ensures.value) (c.respond.ensures.responds.answered ample whole))
+    (λ ample whole. c.respond.ensures.responds.answered ample whole)
 
 pub returns-clause-bounded : goal.returns-clause-bounded
 returns-clause-bounded g c = λ loads.
     told_in_bounds c.respond-2.result (g.O.Sink.written c.args.output.now) (g.O.Sink.written c.respond-2.new.output)
     c.in-Some.command (subst IsLoading (sym c.command.ensures ∙ c.in-Some.is) loads) c.in-Ok-take_all.bytes.items
     c.in-Ok-take_all.ensures.fits
-    (λ ample whole. rw (← c.deref-2.ensures.value) (c.respond-2.ensures.responds.answered ample whole))
+    (λ ample whole. c.respond-2.ensures.responds.answered ample whole)
 
 pub returns-in-Err-Memory-clause-moves : goal.returns-in-Err-Memory-clause-moves
 returns-in-Err-Memory-clause-moves g c =
@@ -122,4 +122,4 @@ returns-clause-heard_moves g c = λ reads bytes all.
     heard_counted c.args.words.now c.in-Some.command (g.I.Source.gave c.args.input.now)
     (g.I.Source.gave c.take_all.new.source) c.in-Ok-take_all.bytes.items bytes c.respond-2.result _ _
     (sym c.command.ensures ∙ c.in-Some.is) c.in-Ok-take_all.ensures.fits c.in-Ok-take_all.ensures.gave all
-    (rw (← c.deref-2.ensures.value) c.respond-2.ensures.moves)
+    c.respond-2.ensures.moves
