@@ -1,7 +1,7 @@
 #!/usr/bin/env bash
 # Measures the built program against the plain one of baseline/ and prints a table: `bash bench/run.sh` measures all documents of
 # documents.py, `bash bench/run.sh NAME ..` those named, `--quick` with three runs in place of nine, `--write` writes the table into
-# README.md too. It tells what it does, compares the answers before it measures, and ends with 1 where one differs.
+# README.md too. It prints what it does, compares the answers before it measures, and ends with 1 where one differs.
 # Needs python3, rustc and GNU time.
 set -eu
 here=$(cd "$(dirname "${BASH_SOURCE[0]}")" && pwd)
