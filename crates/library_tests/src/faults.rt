@@ -47,7 +47,8 @@ fn check_trace<L: Ledger>(
     let mut source = MemSource::new(DOCUMENT.to_vec(alloc)?, CHUNK, [read].to_vec(alloc)?);
     let mut sink = MemSink::new(alloc, 1000, CHUNK, [write].to_vec(alloc)?)?;
     assert_eq!(rt; serve(alloc, &words, &mut source, &mut sink, steps), status);
-    assert_eq!(rt; sink.as_bytes(), &TRACE[..written]);
+    assert_eq!(rt; sink.as_bytes().len(), written);
+    assert!(rt; TRACE.starts_with(sink.as_bytes()));
     Ok(())
 }
 
