@@ -192,6 +192,16 @@ def work_rows():
     return "osektime 1\nround 10\nmode m\ntask A 8\n" + "work 5\n" * 149780 + "end\nstart m\nrounds 1\n"
 
 
+def out_rows():
+    """One body of 174,748 statements, each with an expression: what takes the most memory."""
+    return "osektime 1\nround 10000\nmode m\ntask A 8\n" + "out 1\n" * 174748 + "end\nstart m\nrounds 1\n"
+
+
+def empty_blocks():
+    """One body of 116,500 blocks without a statement."""
+    return "osektime 1\nround 10000\nmode m\ntask A 8\n" + "if 1\nend\n" * 116500 + "end\nstart m\nrounds 1\n"
+
+
 def long_expressions():
     """6,300 lines, each of an expression of 81 terms."""
     line = "out " + "+ " * 40 + " ".join(["a"] * 41) + "\n"
@@ -323,6 +333,8 @@ DOCUMENTS = {
     much_output: ["trace", "load"],
     comment_lines: ["show"],
     work_rows: ["show", "trace"],
+    out_rows: ["show", "trace"],
+    empty_blocks: ["show", "trace"],
     long_expressions: ["show", "trace"],
     full_modes: ["trace", "table", "check"],
     storm: ["trace", "load"],
