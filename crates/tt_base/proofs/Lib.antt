@@ -1,4 +1,5 @@
 pub mod Padding
-pub mod NamesLemmas
+pub mod NameLength
+mod NamesLemmas
 pub mod FindLemmas
 pub mod IndexLemmas

@@ -1,11 +1,11 @@
 -- What a name is: the bytes that name a declared thing.
-use Rattle.std.specs.Prelude.{◌≡◌, ℕ, ◌-◌, ◌≤◌, Bool, true, false, IsTrue, ◌&&◌, ◌||◌, ◌==◌, nat_le}
-use Rattle.std.specs.Prelude.{List, [], ◌∷◌, ◌++◌, length, take, drop, replicate}
+use Rattle.std.specs.Prelude.{◌≡◌, ℕ, ◌-◌, Bool, true, false, IsTrue, ◌&&◌, ◌||◌, ◌==◌, nat_le}
+use Rattle.std.specs.Prelude.{List, [], ◌∷◌, ◌++◌, length, replicate}
 use Rattle.std.specs.Hash as fed
 use Rattle.std.specs.Int.{from_le_bytes, w128}
-use Rattle.std.specs.List.{list_all}
+use Rattle.std.specs.List.{list_all, before_first}
 use Rattle.std.specs.Str.{bytes_eq}
-use Rattle.std.proofs.Common.{arith, take-append-drop, length-take-le, ap, sym, ◌∙◌}
+use Rattle.std.proofs.Common.{ap}
 use Rattle.std.proofs.lemmas.Slice.Eq.{bytes_eq-Decides}
 
 -- `_`, or a letter of either case
@@ -31,22 +31,14 @@ is_name (first ∷ rest) = is_letter first && is_rest_of_name rest
 abbrev pub with_zeros : List ℕ → List ℕ
 with_zeros name = name ++ replicate (16 - length name) 0
 
--- sixteen bytes that hold a name of this length, with zeros after it
-pub record IsPadded (len : ℕ) (bytes : List ℕ) : Type 0 where
-  pub named : is_name (take len bytes) ≡ true
-  pub few : len ≤ 16
-  pub long : length bytes ≡ 16
-  pub zeros : drop len bytes ≡ replicate (16 - len) 0
+-- the name in sixteen bytes: what stands before the first zero
+abbrev pub name_in : List ℕ → List ℕ
+name_in bytes = before_first (λ b. b == 0) bytes
 
--- the name in them has this length
-pub padded_len : (len : ℕ) (bytes : List ℕ) → IsPadded len bytes → length (take len bytes) ≡ len
-padded_len len bytes p = length-take-le len bytes (omega (arith, p.few, p.long))
-
--- and they are the name with zeros after it
-pub padded_bytes : (len : ℕ) (bytes : List ℕ) → IsPadded len bytes → with_zeros (take len bytes) ≡ bytes
-padded_bytes len bytes p =
-    ap (λ k. take len bytes ++ replicate (16 - k) 0) (padded_len len bytes p)
-    ∙ ap (λ xs. take len bytes ++ xs) (sym p.zeros) ∙ take-append-drop len bytes
+-- sixteen bytes that hold a name, with zeros after it
+pub record IsPadded (bytes : List ℕ) : Type 0 where
+  pub named : is_name (name_in bytes) ≡ true
+  pub whole : with_zeros (name_in bytes) ≡ bytes
 
 -- a name with zeros after it as one number, which is what is hashed
 unfoldable pub number_of_name : List ℕ → ℕ

@@ -17,23 +17,21 @@ pub const NAME_BYTES: usize = 16;
 pub struct Name {
     /// The text, and zeros after it.
     bytes: [u8; NAME_BYTES],
-    len: u8,
 }
 
 impl Model for Name {
-    ghost use Rattle.std.specs.Prelude.{◌≡◌, List, ℕ, length, take};
-    ghost use Rattle.tt_base.specs.Name.{IsPadded, with_zeros, padded_bytes, padded_len};
+    ghost use Rattle.std.specs.Prelude.{◌≡◌, List, ℕ};
+    ghost use Rattle.tt_base.specs.Name.{IsPadded, name_in, with_zeros};
 
     ghost Value = { List ℕ };
 
-    ghost view = { λ n. take n.len n.bytes };
+    ghost view = { λ n. name_in n.bytes };
 
-    ghost invariant = { λ n. IsPadded n.len n.bytes };
+    ghost invariant = { λ n. IsPadded n.bytes };
 
-    ghost inverse = { λ v. record { bytes = with_zeros v; len = length v } };
+    ghost inverse = { λ v. record { bytes = with_zeros v } };
 
-    ghost inverse_ok = { λ n h i.
-        record { bytes = padded_bytes n.len n.bytes h i; len = padded_len n.len n.bytes h i } };
+    ghost inverse_ok = { λ n h i. record { bytes = h.whole i } };
 }
 
 impl Name {
@@ -47,10 +45,7 @@ impl Name {
         }
         let mut bytes = [0; NAME_BYTES];
         bytes[..text.len()].copy_from_slice(text);
-        Some(Name {
-            bytes,
-            len: text.len() as u8,
-        })
+        Some(Name { bytes })
     }
 
     /// The text.
@@ -58,7 +53,7 @@ impl Name {
         ensures text { result.now ≡ self.now }
         ensures named { is_name self.now ≡ true }
     {
-        &self.bytes[..self.len as usize]
+        &self.bytes[..self.len()]
     }
 
     /// How many bytes the text has.
@@ -66,7 +61,8 @@ impl Name {
         ensures value { result ≡ length self.now }
         ensures few { result ≤ NAME_BYTES }
     {
-        self.len as usize
+        let zeros = u128::from_le_bytes(self.bytes).leading_zeros() / 8;
+        NAME_BYTES - zeros as usize
     }
 
     /// The text with zeros after it.
