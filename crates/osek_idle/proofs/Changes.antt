@@ -1,5 +1,5 @@
 -- What a change of one frame makes of the subsystem.
-use Rattle.std.proofs.Common.{◌≡◌, ℕ, Bool, true, false, List, [], ◌∷◌, ◌++◌, Option, None, Some, sym, ap, ◌∙◌}
+use Rattle.std.proofs.Common.{◌≡◌, ℕ, Bool, true, false, List, Option, None, Some, sym, ap, ◌∙◌}
 use Rattle.std.specs.Prelude.{slice_index_or, slice_set, ◌==◌, if◌then◌else◌}
 use Rattle.std.specs.Option.{option_map}
 use Rattle.std.proofs.lemmas.Bool.{ne_eqb}
@@ -7,7 +7,8 @@ use Rattle.task_lang.specs.declared.syntax.Stmt.{Stmt}
 use Rattle.task_machine.specs.declared.frame.Frame.{Frame}
 use Rattle.task_machine.specs.Standing.{left_of}
 use Rattle.osek_idle.specs.Subsystem.{Subsystem, result_of}
-use Rattle.osek_idle.specs.Standing.{frames, states, slot_left}
+use Rattle.osek_idle.specs.Standing.{states, slot_left}
+use Rattle.osek_idle.specs.Slots.{frames}
 use Rattle.osek_idle.specs.declared.slot.Slot.{Slot}
 use Rattle.osek_idle.proofs.Parts.{states_set, set_here, left_is}
 

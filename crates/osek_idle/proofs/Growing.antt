@@ -7,7 +7,8 @@ use Rattle.task_machine.specs.declared.frame.Frame.{Frame}
 use Rattle.task_machine.specs.Standing.{left_of, IsSound as IsSoundFrame, StandsFor}
 use Rattle.task_machine.proofs.Standings.{codes_grow}
 use Rattle.osek_idle.specs.Laws.{CodesMayGrow}
-use Rattle.osek_idle.specs.Standing.{frames, states, AreSound}
+use Rattle.osek_idle.specs.Standing.{states, AreSound}
+use Rattle.osek_idle.specs.Slots.{frames}
 
 module _ (codes more : List (List Stmt)) where
   stands : (f : Frame) → IsSoundFrame codes f → StandsFor (codes ++ more) f (left_of codes f)
@@ -38,11 +39,11 @@ pub grows : CodesMayGrow
 grows codes more osek sound = (
   record {
     enough = omega (arith, length-append codes more, sound.enough);
-    tasks = all_sound codes more (frames osek.tasks.items) sound.tasks;
-    routines = all_sound codes more (frames osek.routines.items) sound.routines;
+    tasks = all_sound codes more (frames osek.tasks) sound.tasks;
+    routines = all_sound codes more (frames osek.routines) sound.routines;
   },
-  ap (λ xs. record { tasks = xs; routines = states (codes ++ more) (frames osek.routines.items) })
-      (all_same codes more (frames osek.tasks.items) sound.tasks)
-      ∙ ap (λ xs. record { tasks = states codes (frames osek.tasks.items); routines = xs })
-      (all_same codes more (frames osek.routines.items) sound.routines),
+  ap (λ xs. record { tasks = xs; routines = states (codes ++ more) (frames osek.routines) })
+      (all_same codes more (frames osek.tasks) sound.tasks)
+      ∙ ap (λ xs. record { tasks = states codes (frames osek.tasks); routines = xs })
+      (all_same codes more (frames osek.routines) sound.routines),
 )

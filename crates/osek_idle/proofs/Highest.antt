@@ -6,7 +6,7 @@ use Rattle.std.specs.Option.{is_some}
 use Rattle.std.proofs.lemmas.List.{length-map}
 use Rattle.tt_world.specs.Runners.{higher, highest}
 use Rattle.osek_idle.specs.Subsystem.{is_ready, ready_numbers}
-use Rattle.osek_idle.specs.Standing.{priorities, frames}
+use Rattle.osek_idle.specs.Slots.{priorities, frames}
 use Rattle.osek_idle.specs.declared.slot.Slot.{Slot}
 
 -- the numbers from this one on of those that have a frame

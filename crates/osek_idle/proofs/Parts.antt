@@ -1,9 +1,9 @@
 -- The frames of the subsystem one by one.
-use Rattle.std.proofs.Common.{◌≡◌, ℕ, zero, suc, ◌≤◌, ◌<◌, List, [], ◌∷◌, length, Option, None, Some, refl, ap, ◌∙◌}
+use Rattle.std.proofs.Common.{◌≡◌, ℕ, zero, suc, List, [], ◌∷◌, length, Option, None, Some, refl, ap, sym, ◌∙◌}
 use Rattle.std.specs.Prelude.{filter, slice_index_or, slice_set}
 use Rattle.std.specs.List.{range_with_len}
 use Rattle.std.specs.Option.{is_some, option_map}
-use Rattle.std.proofs.lemmas.List.{length-map, map-set}
+use Rattle.std.proofs.lemmas.List.{length-map, length-set, map-set}
 use Rattle.std.proofs.Math.Seq.{map-set_same}
 use Rattle.std.proofs.lemmas.List.Elements.{filter_agree}
 use Rattle.task_lang.specs.declared.syntax.Stmt.{Stmt}
@@ -11,7 +11,8 @@ use Rattle.task_machine.specs.declared.frame.Frame.{Frame}
 use Rattle.task_machine.specs.Standing.{left_of}
 use Rattle.osek_idle.specs.Subsystem.{is_ready, ready_numbers, left_in, picked, routine_first}
 use Rattle.tt_world.specs.Runners.{highest}
-use Rattle.osek_idle.specs.Standing.{priorities, frames, states, slot_left, subsystem_of, setup_of}
+use Rattle.osek_idle.specs.Standing.{states, slot_left, subsystem_of, setup_of}
+use Rattle.osek_idle.specs.Slots.{priorities, frames}
 use Rattle.osek_idle.specs.declared.slot.Slot.{Slot}
 use Rattle.osek_idle.specs.declared.subsystem.Osek.{Osek}
 
@@ -69,15 +70,31 @@ numbers_same codes fs =
     ∙ ap (λ (n : ℕ). filter (λ (k : ℕ). is_ready fs k) (range_with_len 0 n))
     (length-map fs (option_map (left_of codes)))
 
+ready_as_before : (fs : List (Option Frame)) (n : ℕ) (f g : Frame) → slice_index_or fs n None ≡ Some f
+    → (k : ℕ) → is_ready (slice_set fs n (Some g)) k ≡ is_ready fs k
+ready_as_before [] n f g is k = refl
+ready_as_before (h ∷ fs) zero f g is zero = ap is_some (sym is)
+ready_as_before (h ∷ fs) zero f g is (suc k) = refl
+ready_as_before (h ∷ fs) (suc n) f g is zero = refl
+ready_as_before (h ∷ fs) (suc n) f g is (suc k) = ready_as_before fs n f g is k
+
+-- Where a frame takes the place of another, the same are ready.
+pub numbers_as_before : (fs : List (Option Frame)) (n : ℕ) (f g : Frame) → slice_index_or fs n None ≡ Some f
+    → ready_numbers (slice_set fs n (Some g)) ≡ ready_numbers fs
+numbers_as_before fs n f g is =
+    filter_agree (λ (k : ℕ). is_ready (slice_set fs n (Some g)) k) (λ (k : ℕ). is_ready fs k) (ready_as_before fs n f g is)
+    (range_with_len 0 (length (slice_set fs n (Some g))))
+    ∙ ap (λ (l : ℕ). filter (λ (k : ℕ). is_ready fs k) (range_with_len 0 l)) (length-set fs n (Some g))
+
 -- the one who is picked, from the frames
 pub picked_is : (codes : List (List Stmt)) (osek : Osek)
     → picked (setup_of osek) (subsystem_of codes osek)
-    ≡ routine_first (highest (priorities osek.routines.items) (ready_numbers (frames osek.routines.items)))
-    (highest (priorities osek.tasks.items) (ready_numbers (frames osek.tasks.items)))
+    ≡ routine_first (highest (priorities osek.routines) (ready_numbers (frames osek.routines)))
+    (highest (priorities osek.tasks) (ready_numbers (frames osek.tasks)))
 picked_is codes osek =
-    ap (λ k. routine_first (highest (priorities osek.routines.items) k)
-    (highest (priorities osek.tasks.items) (ready_numbers (states codes (frames osek.tasks.items)))))
-    (numbers_same codes (frames osek.routines.items))
-    ∙ ap (λ k. routine_first (highest (priorities osek.routines.items) (ready_numbers (frames osek.routines.items)))
-    (highest (priorities osek.tasks.items) k))
-    (numbers_same codes (frames osek.tasks.items))
+    ap (λ k. routine_first (highest (priorities osek.routines) k)
+    (highest (priorities osek.tasks) (ready_numbers (states codes (frames osek.tasks)))))
+    (numbers_same codes (frames osek.routines))
+    ∙ ap (λ k. routine_first (highest (priorities osek.routines) (ready_numbers (frames osek.routines)))
+    (highest (priorities osek.tasks) k))
+    (numbers_same codes (frames osek.tasks))

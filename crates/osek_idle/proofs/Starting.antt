@@ -1,5 +1,5 @@
 -- The frames before the first tick, one after another.
-use Rattle.std.proofs.Common.{◌≡◌, ℕ, zero, suc, ◌+◌, ◌≤◌, ◌<◌, List, [], ◌∷◌, ◌++◌, length, map, Option, None, IfSome, refl, sym, ap, subst, ◌∙◌, arith}
+use Rattle.std.proofs.Common.{◌≡◌, ℕ, zero, suc, ◌+◌, ◌≤◌, ◌<◌, List, [], ◌∷◌, length, map, Option, None, IfSome, refl, sym, ap, subst, arith}
 use Rattle.std.specs.Prelude.{slice_index_or}
 use Rattle.std.proofs.lemmas.List.{length-map}
 use Rattle.tt_world.specs.declared.config.ConfigParts.{ConfigParts}
@@ -8,7 +8,8 @@ use Rattle.tt_world.specs.declared.config.OisrDef.{OisrDef}
 use Rattle.task_lang.specs.declared.syntax.Stmt.{Stmt}
 use Rattle.task_machine.specs.declared.frame.Frame.{Frame}
 use Rattle.task_machine.specs.Standing.{IsSound as IsSoundFrame}
-use Rattle.osek_idle.specs.Standing.{priorities, states, AreSound, HaveOsek}
+use Rattle.osek_idle.specs.Standing.{states, AreSound, HaveOsek}
+use Rattle.osek_idle.specs.Slots.{priorities}
 use Rattle.osek_idle.specs.declared.slot.Slot.{Slot}
 
 -- ---- no routine is unfinished

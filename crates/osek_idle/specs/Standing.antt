@@ -9,14 +9,9 @@ use Rattle.tt_world.specs.declared.config.ConfigParts.{ConfigParts}
 use Rattle.tt_world.specs.declared.config.OsekDef.{OsekDef}
 use Rattle.tt_world.specs.declared.config.OisrDef.{OisrDef}
 use Rattle.osek_idle.specs.Subsystem.{Subsystem, Setup, left_in}
+use Rattle.osek_idle.specs.Slots.{priorities, frames}
 use Rattle.osek_idle.specs.declared.slot.Slot.{Slot}
 use Rattle.osek_idle.specs.declared.subsystem.Osek.{Osek}
-
-abbrev pub priorities : List Slot → List ℕ
-priorities slots = map (λ (slot : Slot). slot.priority) slots
-
-abbrev pub frames : List Slot → List (Option Frame)
-frames slots = map (λ (slot : Slot). slot.frame) slots
 
 -- what is left of each one that has a frame
 abbrev pub states : List (List Stmt) → List (Option Frame) → List (Option (List Stmt))
@@ -28,24 +23,24 @@ AreSound codes fs = All (λ (f : Option Frame). IfSome f (IsSoundFrame codes)) f
 -- the subsystem that the frames stand for, with these codes
 abbrev pub subsystem_of : List (List Stmt) → Osek → Subsystem
 subsystem_of codes osek = record {
-  tasks = states codes (frames osek.tasks.items);
+  tasks = states codes (frames osek.tasks);
   routines =
-      states codes (frames osek.routines.items);
+      states codes (frames osek.routines);
 }
 
 abbrev pub setup_of : Osek → Setup
 setup_of osek = record {
   first = osek.first;
-  tasks = priorities osek.tasks.items;
+  tasks = priorities osek.tasks;
   routines =
-      priorities osek.routines.items;
+      priorities osek.routines;
 }
 
 -- The codes of the tasks and then of the routines are there from the first one on, and the frames are of these codes.
 pub record IsSound (codes : List (List Stmt)) (osek : Osek) : Type 0 where
-  pub enough : osek.first + (length osek.tasks.items + length osek.routines.items) ≤ length codes
-  pub tasks : AreSound codes (frames osek.tasks.items)
-  pub routines : AreSound codes (frames osek.routines.items)
+  pub enough : osek.first + (length osek.tasks + length osek.routines) ≤ length codes
+  pub tasks : AreSound codes (frames osek.tasks)
+  pub routines : AreSound codes (frames osek.routines)
 
 -- the bodies of a task and of a routine
 abbrev pub task_body : List (List Stmt) → Setup → ℕ → List Stmt

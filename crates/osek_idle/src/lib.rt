@@ -4,6 +4,7 @@
 
 mod laws;
 mod slot;
+mod slots;
 mod subsystem;
 
 pub use laws::{osek_codes_may_grow, picks_are_the_runners};

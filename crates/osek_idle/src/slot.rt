@@ -6,11 +6,11 @@ ghost use Rattle.std.specs.List.{All};
 ghost use Rattle.task_lang.specs.declared.syntax.Stmt.{Stmt};
 ghost use Rattle.task_lang.specs.Tick.{supply_of, state_of, ticks};
 ghost use Rattle.task_machine.specs.Standing.{work_in_front};
-ghost use Rattle.tt_world.specs.Runners.{higher, highest};
+ghost use Rattle.tt_world.specs.Runners.{higher};
 ghost use Rattle.osek_idle.specs.Subsystem.{ready_numbers, left_in};
-ghost use Rattle.osek_idle.specs.Standing.{priorities, frames, AreSound, states, slot_left};
+ghost use Rattle.osek_idle.specs.Standing.{AreSound, states, slot_left};
+ghost use Rattle.osek_idle.specs.Slots.{priorities, frames, top_of};
 
-use arrayvec::ArrayVec;
 use task_machine::{Codes, Env, Frame, Progress, advance};
 use tt_base::{Ledger, Steps};
 
@@ -21,9 +21,6 @@ pub(crate) struct Slot {
     pub(crate) priority: u8,
     pub(crate) frame: Option<Frame>,
 }
-
-/// Tasks or routines, by number.
-pub(crate) type Slots = ArrayVec<Slot, 32>;
 
 /// The frame of a number, if it has one.
 pub(crate) fn frame_at(slots: &[Slot], number: u16) -> Option<Frame>
@@ -36,14 +33,7 @@ pub(crate) fn frame_at(slots: &[Slot], number: u16) -> Option<Frame>
 }
 
 /// Gives a number a frame, or none. All others keep theirs.
-pub(crate) fn set_frame(slots: &mut Slots, number: u16, frame: Option<Frame>)
-    ensures priorities { priorities slots.new.items ≡ priorities slots.old.items }
-    ensures frames { frames slots.new.items ≡ slice_set (frames slots.old.items) number frame }
-{
-    write_frame(slots.as_mut_slice(), number, frame);
-}
-
-fn write_frame(slots: &mut [Slot], number: u16, frame: Option<Frame>)
+pub(crate) fn set_frame(slots: &mut [Slot], number: u16, frame: Option<Frame>)
     ensures priorities { priorities slots.new ≡ priorities slots.old }
     ensures frames { frames slots.new ≡ slice_set (frames slots.old) number frame }
 {
@@ -58,7 +48,7 @@ fn write_frame(slots: &mut [Slot], number: u16, frame: Option<Frame>)
 #[tactic(auto, using(crate::proofs::Highest::none_yet, crate::proofs::Highest::all_seen, crate::proofs::Highest::one_more, crate::proofs::Highest::none_more))]
 pub(crate) fn highest(slots: &[Slot]) -> Option<u16>
     requires { length slots.now ≤ 32 }
-    ensures { result ≡ highest (priorities slots.now) (ready_numbers (frames slots.now)) }
+    ensures { result ≡ top_of slots.now }
 {
     let mut best = None;
     for number in (0..slots.len()).rev() {
@@ -95,34 +85,35 @@ fn priority_at(slots: &[Slot], number: u16) -> u8
     }
 }
 
-/// Takes k ticks of the frame of a number. All others keep theirs.
+/// Takes k ticks of the frame of a number. All others keep theirs, and who has a frame stays.
 pub(crate) fn advance_slot<L: Ledger>(
-    slots: &mut Slots,
+    slots: &mut [Slot],
     number: u16,
     codes: &Codes,
     k: u64,
     env: &mut Env,
     steps: &mut Steps<L>,
 ) -> Progress
-    requires sound { AreSound codes.now (frames slots.old.items) }
-    requires left { slot_left codes.now slots.old.items number ≢ [] }
+    requires sound { AreSound codes.now (frames slots.old) }
+    requires left { slot_left codes.now slots.old number ≢ [] }
     requires some { 1 ≤ k }
-    requires within { k ≤ max 1 (work_in_front (slot_left codes.now slots.old.items number)) }
-    ensures priorities { priorities slots.new.items ≡ priorities slots.old.items }
-    ensures sound { AreSound codes.now (frames slots.new.items) }
-    ensures others { states codes.now (frames slots.new.items)
-        ≡ slice_set (states codes.now (frames slots.old.items)) number
-        (Some (slot_left codes.now slots.new.items number)) }
-    ensures ticks { state_of (slot_left codes.now slots.new.items number) env.new.vars
+    requires within { k ≤ max 1 (work_in_front (slot_left codes.now slots.old number)) }
+    ensures priorities { priorities slots.new ≡ priorities slots.old }
+    ensures ready { ready_numbers (frames slots.new) ≡ ready_numbers (frames slots.old) }
+    ensures sound { AreSound codes.now (frames slots.new) }
+    ensures others { states codes.now (frames slots.new)
+        ≡ slice_set (states codes.now (frames slots.old)) number
+        (Some (slot_left codes.now slots.new number)) }
+    ensures ticks { state_of (slot_left codes.now slots.new number) env.new.vars
         env.new.cursors (option_to_list result.effect)
         ≡ ticks (supply_of env.old.demands env.old.values) k
-        (state_of (slot_left codes.now slots.old.items number) env.old.vars env.old.cursors []) }
+        (state_of (slot_left codes.now slots.old number) env.old.vars env.old.cursors []) }
     ensures demands { env.new.demands ≡ env.old.demands }
     ensures values { env.new.values ≡ env.old.values }
-    ensures ended { IsTrue result.ended ↔ (slot_left codes.now slots.new.items number ≡ []) }
+    ensures ended { IsTrue result.ended ↔ (slot_left codes.now slots.new number ≡ []) }
     ensures counted { steps.new ≡ steps.old + 1 }
 {
-    match frame_at(slots.as_slice(), number) {
+    match frame_at(slots, number) {
         None => Progress {
             effect: None,
             ended: true,

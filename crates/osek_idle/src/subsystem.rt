@@ -9,9 +9,11 @@ ghost use Rattle.task_lang.specs.Tick.{supply_of, state_of, ticks};
 ghost use Rattle.task_machine.specs.Standing.{work_in_front, body_of, left_of, IsSound as IsSoundFrame};
 ghost use Rattle.osek_idle.specs.Subsystem.{is_ready, first_subsystem, picked, owner_left, owner_leaving, result_of, activated, chained, chain_result, readied, suspended, gone, begun, finished, ready_numbers};
 ghost use Rattle.tt_world.specs.Runners.{highest};
-ghost use Rattle.osek_idle.specs.Standing.{subsystem_of, setup_of, setup_for, task_body, routine_body, priorities, frames, states, AreSound, IsSound, HaveBodies, HaveOsek};
+ghost use Rattle.osek_idle.specs.Standing.{subsystem_of, setup_of, setup_for, task_body, routine_body, states, AreSound, IsSound, HaveBodies, HaveOsek};
+ghost use Rattle.osek_idle.specs.Slots.{priorities, frames};
 
-use crate::slot::{Slot, Slots, advance_slot, frame_at, highest, set_frame, slot_work_left};
+use crate::slot::Slot;
+use crate::slots::Slots;
 use arrayvec::ArrayVec;
 use task_machine::{Codes, Env, Frame, Progress};
 use tt_base::{Ledger, OisrNo, OsekNo, Owner, Steps};
@@ -120,11 +122,8 @@ impl Osek {
     {
         let first = codes.number_after(self.first, self.tasks.len() as u16);
         let program = codes.number_after(first, oisr.0);
-        set_frame(
-            &mut self.routines,
-            oisr.0,
-            Some(Frame::start(codes, program)),
-        );
+        self.routines
+            .set_frame(oisr.0, Some(Frame::start(codes, program)));
     }
 
     /// Whether a routine is unfinished.
@@ -132,7 +131,7 @@ impl Osek {
         ensures { (codes : List (List Stmt))
             → result ≡ is_ready (subsystem_of codes self.now).routines oisr.0 }
     {
-        frame_at(self.routines.as_slice(), oisr.0).is_some()
+        self.routines.frame(oisr.0).is_some()
     }
 
     /// Who of the subsystem runs: the unfinished routine of the highest priority, else the ready
@@ -228,18 +227,18 @@ impl Osek {
     /// The unfinished routine of the highest priority, if there is one.
     fn top_routine(&self) -> Option<u16>
         ensures { result
-            ≡ highest (priorities self.now.routines.items)
-            (ready_numbers (frames self.now.routines.items)) }
+            ≡ highest (priorities self.now.routines)
+            (ready_numbers (frames self.now.routines)) }
     {
-        highest(self.routines.as_slice())
+        self.routines.top()
     }
 
     /// The ready task of the highest priority, if there is one.
     fn top_task(&self) -> Option<u16>
-        ensures { result ≡ highest (priorities self.now.tasks.items)
-            (ready_numbers (frames self.now.tasks.items)) }
+        ensures { result ≡ highest (priorities self.now.tasks)
+            (ready_numbers (frames self.now.tasks)) }
     {
-        highest(self.tasks.as_slice())
+        self.tasks.top()
     }
 
     /// The ticks left of the `work` at the front of an owner.
@@ -248,8 +247,8 @@ impl Osek {
             → result ≡ work_in_front (owner_left (subsystem_of codes self.now) (Some owner)) }
     {
         match owner {
-            Owner::Oisr(oisr) => slot_work_left(self.routines.as_slice(), oisr.0),
-            Owner::Osek(task) => slot_work_left(self.tasks.as_slice(), task.0),
+            Owner::Oisr(oisr) => self.routines.work_left(oisr.0),
+            Owner::Osek(task) => self.tasks.work_left(task.0),
             _ => 0,
         }
     }
@@ -286,8 +285,8 @@ impl Osek {
         ensures counted { steps.new ≡ steps.old + 1 }
     {
         match owner {
-            Owner::Oisr(oisr) => advance_slot(&mut self.routines, oisr.0, codes, k, env, steps),
-            Owner::Osek(task) => advance_slot(&mut self.tasks, task.0, codes, k, env, steps),
+            Owner::Oisr(oisr) => self.routines.advance(oisr.0, codes, k, env, steps),
+            Owner::Osek(task) => self.tasks.advance(task.0, codes, k, env, steps),
             _ => Progress {
                 effect: None,
                 ended: true,
@@ -303,7 +302,7 @@ impl Osek {
         ensures state { (codes : List (List Stmt))
             → subsystem_of codes self.new ≡ gone oisr.0 (subsystem_of codes self.old) }
     {
-        set_frame(&mut self.routines, oisr.0, None);
+        self.routines.set_frame(oisr.0, None);
     }
 
     /// Whether a task is not suspended.
@@ -311,7 +310,7 @@ impl Osek {
         ensures { (codes : List (List Stmt))
             → result ≡ is_ready (subsystem_of codes self.now).tasks task.0 }
     {
-        frame_at(self.tasks.as_slice(), task.0).is_some()
+        self.tasks.frame(task.0).is_some()
     }
 
     fn make_ready(&mut self, codes: &Codes, task: OsekNo)
@@ -324,7 +323,8 @@ impl Osek {
             (subsystem_of codes.now self.old) }
     {
         let program = codes.number_after(self.first, task.0);
-        set_frame(&mut self.tasks, task.0, Some(Frame::start(codes, program)));
+        self.tasks
+            .set_frame(task.0, Some(Frame::start(codes, program)));
     }
 
     fn suspend(&mut self, task: OsekNo)
@@ -334,7 +334,7 @@ impl Osek {
         ensures state { (codes : List (List Stmt))
             → subsystem_of codes self.new ≡ suspended task.0 (subsystem_of codes self.old) }
     {
-        set_frame(&mut self.tasks, task.0, None);
+        self.tasks.set_frame(task.0, None);
     }
 }
 
@@ -342,17 +342,17 @@ impl Osek {
 fn first_tasks(tasks: &[OsekDef], codes: &Codes, first: u16) -> Slots
     requires few { length tasks.now ≤ 32 }
     requires there { HaveBodies codes.now first (map (λ (task : OsekDef). task.body) tasks.now) }
-    ensures priorities { priorities result.items
+    ensures priorities { priorities result
         ≡ map (λ (task : OsekDef). task.priority) tasks.now }
-    ensures sound { AreSound codes.now (frames result.items) }
-    ensures state { states codes.now (frames result.items)
+    ensures sound { AreSound codes.now (frames result) }
+    ensures state { states codes.now (frames result)
         ≡ map (λ (task : OsekDef). if task.auto then Some task.body else None) tasks.now }
 {
     let mut slots = ArrayVec::new();
     for (number, task) in tasks.iter().enumerate() {
         slots.push(first_task(task, codes, first, number as u16));
     }
-    slots
+    Slots::new(slots)
 }
 
 /// A task before the first tick. Its code is the one at this place after the first.
@@ -380,9 +380,9 @@ fn first_task(task: &OsekDef, codes: &Codes, first: u16, number: u16) -> Slot
 /// The routines before the first tick.
 fn first_routines(oisrs: &[OisrDef]) -> Slots
     requires { length oisrs.now ≤ 16 }
-    ensures priorities { priorities result.items
+    ensures priorities { priorities result
         ≡ map (λ (oisr : OisrDef). oisr.priority) oisrs.now }
-    ensures frames { frames result.items ≡ map (λ (oisr : OisrDef). None) oisrs.now }
+    ensures frames { frames result ≡ map (λ (oisr : OisrDef). None) oisrs.now }
 {
     let mut slots = ArrayVec::new();
     for oisr in oisrs {
@@ -391,5 +391,5 @@ fn first_routines(oisrs: &[OisrDef]) -> Slots
             frame: None,
         });
     }
-    slots
+    Slots::new(slots)
 }

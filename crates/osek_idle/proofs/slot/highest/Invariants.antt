@@ -1,6 +1,6 @@
 use Rattle.std.proofs.Common.{◌≡◌}
 use Rattle.tt_world.specs.Runners.{highest}
-use Rattle.osek_idle.specs.Standing.{priorities}
+use Rattle.osek_idle.specs.Slots.{priorities}
 use Rattle.osek_idle.proofs.Highest.{ready_from}
 use Rattle.osek_idle.proofs.slot.highest.Given as goal
 

@@ -1,6 +1,6 @@
 use Rattle.std.proofs.Common.{◌≡◌, ◌++◌, drop, length, map, None}
 use Rattle.tt_world.specs.declared.config.OisrDef.{OisrDef}
-use Rattle.osek_idle.specs.Standing.{priorities, frames}
+use Rattle.osek_idle.specs.Slots.{priorities, frames}
 use Rattle.osek_idle.proofs.subsystem.first_routines.Given as goal
 
 -- the routines so far and those that are left

@@ -1,7 +1,8 @@
 use Rattle.std.proofs.Common.{◌≡◌, ◌++◌, drop, length, map, Some, None}
 use Rattle.std.specs.Prelude.{if◌then◌else◌}
 use Rattle.tt_world.specs.declared.config.OsekDef.{OsekDef}
-use Rattle.osek_idle.specs.Standing.{priorities, frames, states, AreSound}
+use Rattle.osek_idle.specs.Standing.{states, AreSound}
+use Rattle.osek_idle.specs.Slots.{priorities, frames}
 use Rattle.osek_idle.proofs.subsystem.first_tasks.Given as goal
 
 -- the tasks so far and those that are left

@@ -1,9 +1,9 @@
 use Rattle.std.proofs.Common.{None}
-use Rattle.osek_idle.specs.Standing.{frames}
+use Rattle.osek_idle.specs.Slots.{frames}
 use Rattle.osek_idle.proofs.Changes.{states_are, with_routines}
 use Rattle.osek_idle.proofs.subsystem.Osek.give_up.Goals as goal
 
 pub returns-clause-state : goal.returns-clause-state
 returns-clause-state c = λ codes.
-    with_routines _ _ _ (states_are codes (frames c.set_frame.new.slots.items)
-    (frames c.args.self.now.routines.items) c.args.oisr.0 None c.set_frame.ensures.frames)
+    with_routines _ _ _ (states_are codes (frames c.set_frame.new.self)
+    (frames c.args.self.now.routines) c.args.oisr.0 None c.set_frame.ensures.frames)

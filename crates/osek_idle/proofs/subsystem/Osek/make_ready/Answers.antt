@@ -1,15 +1,16 @@
 use Rattle.std.proofs.Common.{Some, ap, ◌∙◌}
 use Rattle.std.specs.Prelude.{slice_set}
 use Rattle.task_machine.specs.Standing.{body_of}
-use Rattle.osek_idle.specs.Standing.{frames, states}
+use Rattle.osek_idle.specs.Standing.{states}
+use Rattle.osek_idle.specs.Slots.{frames}
 use Rattle.osek_idle.proofs.Changes.{states_are, with_tasks}
 use Rattle.osek_idle.proofs.subsystem.Osek.make_ready.Goals as goal
 
 pub returns-clause-state : goal.returns-clause-state
 returns-clause-state c =
     let codes = c.args.codes.now in
-    let old = states codes (frames c.args.self.now.tasks.items) in
-    with_tasks _ _ _ (states_are codes (frames c.set_frame.new.slots.items)
-    (frames c.args.self.now.tasks.items) c.args.task.0 (Some c.start.result) c.set_frame.ensures.frames
+    let old = states codes (frames c.args.self.now.tasks) in
+    with_tasks _ _ _ (states_are codes (frames c.set_frame.new.self)
+    (frames c.args.self.now.tasks) c.args.task.0 (Some c.start.result) c.set_frame.ensures.frames
     ∙ ap (λ l. slice_set old c.args.task.0 (Some l))
     (c.start.ensures.whole.left ∙ ap (body_of codes) c.number_after-program.ensures))

@@ -14,8 +14,8 @@ returns-clause-sound c =
     let oisrs : c.as_slice-2.result.now ≡ c.args.config.now.oisrs = c.as_slice-2.ensures
     ∙ ap (λ p. p.oisrs) c.parts-parts.ensures.same in
     record {
-      enough = enough_codes c.args.codes.now c.args.config.now c.args.first c.first_tasks.result.items
-          c.first_routines.result.items
+      enough = enough_codes c.args.codes.now c.args.config.now c.args.first c.first_tasks.result
+          c.first_routines.result
           (c.first_tasks.ensures.priorities ∙ ap (map (λ (task : OsekDef). task.priority)) oseks)
           (c.first_routines.ensures.priorities ∙ ap (map (λ (oisr : OisrDef). oisr.priority)) oisrs) c.requires;
       tasks = c.first_tasks.ensures.sound;

@@ -1,9 +1,9 @@
 use Rattle.std.proofs.Common.{None}
-use Rattle.osek_idle.specs.Standing.{frames}
+use Rattle.osek_idle.specs.Slots.{frames}
 use Rattle.osek_idle.proofs.Changes.{states_are, with_tasks}
 use Rattle.osek_idle.proofs.subsystem.Osek.suspend.Goals as goal
 
 pub returns-clause-state : goal.returns-clause-state
 returns-clause-state c = λ codes.
-    with_tasks _ _ _ (states_are codes (frames c.set_frame.new.slots.items)
-    (frames c.args.self.now.tasks.items) c.args.task.0 None c.set_frame.ensures.frames)
+    with_tasks _ _ _ (states_are codes (frames c.set_frame.new.self)
+    (frames c.args.self.now.tasks) c.args.task.0 None c.set_frame.ensures.frames)
