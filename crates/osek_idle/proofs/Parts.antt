@@ -82,7 +82,8 @@ ready_as_before (h ∷ fs) (suc n) f g is (suc k) = ready_as_before fs n f g is 
 pub numbers_as_before : (fs : List (Option Frame)) (n : ℕ) (f g : Frame) → slice_index_or fs n None ≡ Some f
     → ready_numbers (slice_set fs n (Some g)) ≡ ready_numbers fs
 numbers_as_before fs n f g is =
-    filter_agree (λ (k : ℕ). is_ready (slice_set fs n (Some g)) k) (λ (k : ℕ). is_ready fs k) (ready_as_before fs n f g is)
+    filter_agree (λ (k : ℕ). is_ready (slice_set fs n (Some g)) k) (λ (k : ℕ). is_ready fs k)
+    (ready_as_before fs n f g is)
     (range_with_len 0 (length (slice_set fs n (Some g))))
     ∙ ap (λ (l : ℕ). filter (λ (k : ℕ). is_ready fs k) (range_with_len 0 l)) (length-set fs n (Some g))
 

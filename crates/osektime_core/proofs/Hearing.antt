@@ -1,18 +1,17 @@
 -- The answer to the bytes that a source gave.
-use Rattle.std.proofs.Common.{◌≡◌, ℕ, ◌^◌, ◌≤◌, List, [], ◌∷◌, ◌++◌, Option, Some, None, false, nat_lt, cond, length, map, refl, ap, sym, ◌∙◌, subst, arith}
+use Rattle.std.proofs.Common.{◌≡◌, ℕ, ◌^◌, ◌≤◌, List, [], ◌∷◌, ◌++◌, Option, Some, None, false, nat_lt, cond, length, map, refl, ap, sym, ◌∙◌, arith}
 use Rattle.std.proofs.lemmas.Bool.Decides.{nat_tests}
 use Rattle.std.specs.Io.KnownBytes.{Appends}
 use Rattle.tt_io.specs.Gave.{GivesAll}
-use Rattle.tt_io.specs.Known.{AppendsPart}
 use Rattle.tt_read.specs.Document.{document_of}
 use Rattle.osektime_core.specs.declared.words.Command.{Command}
 use Rattle.osektime_core.specs.declared.status.Status.{Status}
 use Rattle.osektime_core.specs.declared.status.Status.TheVariants.{Missed}
 use Rattle.osektime_core.specs.Words.{command_of}
-use Rattle.osektime_core.specs.Answer.{Answer, IsReading, document_answer}
-use Rattle.osektime_core.specs.Heard.{Heard, HeardPart, stop_after}
+use Rattle.osektime_core.specs.Answer.{IsReading, document_answer}
+use Rattle.osektime_core.specs.Heard.{Heard, stop_after}
 use Rattle.osektime_core.specs.NoMiss.{IsSchedulable, NoneIsMissed}
-use Rattle.osektime_core.proofs.Told.{answer_is, told_answer}
+use Rattle.osektime_core.proofs.Told.{told_answer}
 
 -- few bytes are given to their end
 few_end : (bytes : List ℕ) → length bytes ≤ 2 ^ 20 → stop_after bytes ≡ None ∷ []
@@ -34,15 +33,4 @@ module _ (words : List (List ℕ)) (command : Command) (gave now : List (Option 
     answered = told_answer (λ a. (status ≡ a.status) × Appends before after a.text) words command (Some bytes) (Some [])
         bytes is reads (refl, refl) fits answered;
     no_miss = no_miss;
-  }
-
-  -- a part of the answer was written
-  pub heard_part : (before after : Option (List ℕ)) → length bytes ≤ 2 ^ 20 → GivesAll gave now bytes
-      → AppendsPart before after (document_answer command (document_of bytes)).text
-      → HeardPart words gave now before after
-  heard_part before after fits all part = record {
-    bytes = bytes;
-    given = all;
-    part = subst (λ (a : Answer). AppendsPart before after a.text)
-        (sym (answer_is words command bytes is reads fits)) part;
   }

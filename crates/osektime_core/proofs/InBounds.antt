@@ -54,7 +54,8 @@ few_rows line (first ∷ rest) =
 
 rows_by : (fault : Option Fault) (rows found : List NumberedRow) → document_by fault rows ≡ Rows found
     → length found ≤ length rows
-rows_by None rows found is = subst (λ (xs : List NumberedRow). length xs ≤ length rows) (same rows found is) (omega arith)
+rows_by None rows found is =
+    subst (λ (xs : List NumberedRow). length xs ≤ length rows) (same rows found is) (omega arith)
   where
     same : (rows found : List NumberedRow) → Rows rows ≡ Rows found → rows ≡ found
     same rows found is = cc
@@ -139,7 +140,7 @@ module _ (status : Status) (before after : Option (List ℕ)) where
       let few = document_rows bytes rows is in
       of_command command loading rows (document_of-sound bytes rows is) (omega arith) same text
 
-  -- where the answer of such a command to a document was given, and it is the end of a run, its summary is in its bounds
+  -- where such a command answered a document, and its answer is the end of a run, the summary is in its bounds
   pub told_in_bounds : (command : Command) → IsLoading (Some command) → (bytes : List ℕ) → length bytes ≤ 2 ^ 20
       → (status ≢ Memory → status ≢ WriteFault → (status ≡ (document_answer command (document_of bytes)).status)
       × Appends before after (document_answer command (document_of bytes)).text) → Told

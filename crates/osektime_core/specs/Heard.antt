@@ -22,7 +22,8 @@ pub record Heard (words : List (List ℕ)) (status : Status) (gave now : List (O
   pub no_miss : IsSchedulable bytes → NoneIsMissed status
 
 -- these bytes were given to their end, and a proper prefix of the text of the answer to them was written
-pub record HeardPart (words : List (List ℕ)) (gave now : List (Option ℕ)) (before after : Option (List ℕ)) : Type 0 where
+pub record HeardPart (words : List (List ℕ)) (gave now : List (Option ℕ)) (before after : Option (List ℕ))
+    : Type 0 where
   pub bytes : List ℕ
   pub given : GivesAll gave now bytes
   pub part : AppendsPart before after (answer_of words bytes).text
