@@ -15,19 +15,21 @@ use Rattle.tt_base.specs.declared.number.TaskNo.{TaskNo}
 use Rattle.tt_base.specs.declared.number.IsrNo.{IsrNo}
 use Rattle.tt_base.specs.declared.event.Owner.TheVariants as By
 use Rattle.run_stack.specs.declared.stack.StackFrame.{StackFrame}
-use Rattle.run_stack.specs.Frames.{Frames, Holds, depth_of, isr_frame, task_frame, with_isr as with_isr_frame, with_task}
+use Rattle.run_stack.specs.Frames.{Frames, Holds, depth_of, isr_frame, task_frame, with_isr as with_isr_frame, with_task, words_of}
 use Rattle.run_stack.proofs.Lists.{All-by_level, order-by_level}
 use Rattle.tt_world.specs.ConfigRules.{are_distinct}
 use Rattle.tt_world.specs.Load.{count_left, count_unfinished}
 use Rattle.tt_world.specs.World.{Job}
 use Rattle.tt_world.specs.Runners.{is_done, job_at}
-use Rattle.tt_stack.specs.Stacked.{Stacked, depth_in, with_isr, with_job}
+use Rattle.tt_stack.specs.Stacked.{Stacked, depth_in, with_isr, with_job, words_in}
+use Rattle.tt_stack.specs.Words.{Words, entry_words, routine_words}
 use Rattle.tt_stack.specs.Kept.{Left, written, lefts_of, jobs_from, routine_number, routine_lefts, bodies_left, task_lefts, stacked, AreKept, IsOfTask, IsOfRoutine}
 use Rattle.tt_stack.specs.declared.state.TtStack.TheInside.{Inside}
 use Rattle.tt_stack.proofs.Frames.{isrs_insert, isrs_of, left_at, level_is, level_of, not_among, number_within, routines_given, tasks_given, tasks_push}
 use Rattle.tt_stack.proofs.Jobs.{count_jobs, job, job_left, jobs_push, length-jobs}
-use Rattle.tt_stack.proofs.Pairs.{All-from_zip, All-zip_first, length-zip}
-use Rattle.tt_stack.proofs.Weights.{job_weight, weights_given}
+use Rattle.tt_stack.proofs.Pairs.{All-from_zip, All-zip_first, length-zip, map-push}
+use Rattle.tt_stack.proofs.Running.{HasRoutineWords, words_of_frame}
+use Rattle.tt_stack.proofs.Weights.{isrs_sum, job_weight, sum-same, unfinished_weights, weights_given}
 use Rattle.tt_stack.proofs.Written.{at, AreGiven, at_none, count_lefts_of, count_room, finished_not_in, length-lefts_of, length-none, none_more, written_more, written_or}
 
 -- ---- levels
@@ -66,7 +68,7 @@ distinct_levels (x ∷ xs) (suc i) (suc j) distinct a b apart =
     (λ e. apart (omega (arith, e)))
 
 module _ (inside : Inside)
-    (k : AreKept inside.codes inside.first inside.levels.items inside.stack inside.entries.items inside.reached) where
+    (k : AreKept inside.codes inside.first inside.levels.items inside.words inside.stack inside.entries.items inside.reached) where
   abbrev codes : List (List Stmt)
   codes = inside.codes
 
@@ -75,6 +77,9 @@ module _ (inside : Inside)
 
   abbrev levels : List ℕ
   levels = inside.levels.items
+
+  abbrev words : Words
+  words = inside.words
 
   abbrev reached : ℕ
   reached = inside.reached
@@ -86,7 +91,7 @@ module _ (inside : Inside)
   entries = inside.entries.items
 
   abbrev view : Stacked
-  view = stacked codes first levels s entries reached
+  view = stacked codes first levels words s entries reached
 
   abbrev given : List Left
   given = task_lefts codes entries s.tasks
@@ -123,6 +128,16 @@ module _ (inside : Inside)
   pub weights_tasks : (weight : ℕ → ℕ) → sum_by (job_weight weight) view.jobs ≡ sum_by weight entries
   weights_tasks weight = weights_given weight reached entries (bodies_left codes s.tasks) bodies_as_many given_tasks
 
+  -- the words of all frames are those of the unfinished activations and routines
+  pub words_are : words_of s ≡ words_in view
+  words_are =
+      let given = routines_given codes levels s.isrs k.isrs k.by_level in
+      let tasks = sum-same words_of_frame (entry_words words) s.tasks entries k.task_words in
+      let jobs = weights_tasks (entry_words words) in
+      let isrs = isrs_sum codes words s.isrs k.isr_words in
+      let routines = unfinished_weights (routine_words words) (length levels) (routine_lefts codes s.isrs) given in
+      omega (arith, tasks, jobs, isrs, routines)
+
   -- ---- an activation
 
   lefts_more : lefts_of (reached + 1) given ≡ lefts_of reached given ++ [] ∷ []
@@ -139,8 +154,14 @@ module _ (inside : Inside)
       (λ n less. omega (arith, less)) entries k.in_count
 
   with_jobs : List Job → Stacked
-  with_jobs jobs =
-      record { codes = codes; first = first; levels = levels; jobs = jobs; isrs = isrs_of codes levels s.isrs }
+  with_jobs jobs = record {
+    codes = codes;
+    first = first;
+    levels = levels;
+    words = words;
+    jobs = jobs;
+    isrs = isrs_of codes levels s.isrs;
+  }
 
   at_end : (left : List Stmt) → jobs_from 0 (lefts_of reached given ++ left ∷ [])
       ≡ view.jobs ++ job (length view.jobs) left ∷ []
@@ -150,16 +171,16 @@ module _ (inside : Inside)
       jobs_push 0 lefts left ∙ ap (λ n. jobs_from 0 lefts ++ job n left ∷ []) same
 
   -- one more place of the round, of which nothing is left, is one more activation that has ended
-  pub counted : stacked codes first levels s entries (reached + 1) ≡ with_job [] view
+  pub counted : stacked codes first levels words s entries (reached + 1) ≡ with_job [] view
   unfolding with_jobs
   counted = ap with_jobs (ap (λ (l : List (List Stmt)). jobs_from 0 l) lefts_more ∙ at_end [])
 
   module _ (task : TaskNo) (frame : Frame) (sound : IsSound codes frame) (some : left_of codes frame ≢ []) where
     abbrev new_task : StackFrame
-    new_task = task_frame task frame 0
+    new_task = task_frame task frame (entry_words words reached)
 
     -- the invariant holds with the frame of one more activation
-    pub task_kept : AreKept codes first levels (with_task new_task s) (entries ++ reached ∷ []) (reached + 1)
+    pub task_kept : AreKept codes first levels words (with_task new_task s) (entries ++ reached ∷ []) (reached + 1)
     task_kept = record {
       enough = k.enough;
       distinct = k.distinct;
@@ -170,10 +191,14 @@ module _ (inside : Inside)
       as_many = omega (arith, k.as_many, length-append entries (reached ∷ []), length-append s.tasks (new_task ∷ []));
       ascend = all_pairs_push (λ (a b : ℕ). a < b) entries reached k.ascend k.in_count;
       in_count = All-push (λ (n : ℕ). n < reached + 1) entries reached more_in_count (omega arith);
+      task_words = map-push words_of_frame s.tasks new_task
+          ∙ ap (λ (ws : List ℕ). ws ++ entry_words words reached ∷ []) k.task_words
+          ∙ sym (map-push (entry_words words) entries reached);
+      isr_words = k.isr_words;
     }
 
     -- contracts see the frame of one more activation as that activation, with what is left of it
-    pub task_begun : stacked codes first levels (with_task new_task s) (entries ++ reached ∷ []) (reached + 1)
+    pub task_begun : stacked codes first levels words (with_task new_task s) (entries ++ reached ∷ []) (reached + 1)
         ≡ with_job (left_of codes frame) view
     unfolding with_jobs
     task_begun =
@@ -189,7 +214,14 @@ module _ (inside : Inside)
   -- ---- a routine
 
   with_isrs : List (List Stmt) → Stacked
-  with_isrs isrs = record { codes = codes; first = first; levels = levels; jobs = view.jobs; isrs = isrs }
+  with_isrs isrs = record {
+    codes = codes;
+    first = first;
+    levels = levels;
+    words = words;
+    jobs = view.jobs;
+    isrs = isrs;
+  }
 
   not_task : (isr : IsrNo) (f : StackFrame) → IsOfTask codes f → f.owner ≡ By.Isr isr → ⊥
   not_task isr f t e = two_owners t.task isr (sym t.owner ∙ e)
@@ -261,10 +293,10 @@ module _ (inside : Inside)
 
       module _ (frame : Frame) (sound : IsSound codes frame) (some : left_of codes frame ≢ []) where
         abbrev new_isr : StackFrame
-        new_isr = isr_frame isr (level_of codes levels isr.0) frame 0
+        new_isr = isr_frame isr (level_of codes levels isr.0) frame (routine_words words isr.0)
 
         -- the invariant holds with the frame of a routine that was finished
-        pub isr_kept : AreKept codes first levels (with_isr_frame new_isr s) entries reached
+        pub isr_kept : AreKept codes first levels words (with_isr_frame new_isr s) entries reached
         isr_kept = record {
           enough = k.enough;
           distinct = k.distinct;
@@ -281,10 +313,12 @@ module _ (inside : Inside)
           as_many = k.as_many;
           ascend = k.ascend;
           in_count = k.in_count;
+          task_words = k.task_words;
+          isr_words = All-by_level (HasRoutineWords words) new_isr s.isrs refl k.isr_words;
         }
 
         -- contracts see the frame of a routine that was finished as that routine, with what is left of it
-        pub isr_begun : stacked codes first levels (with_isr_frame new_isr s) entries reached
+        pub isr_begun : stacked codes first levels words (with_isr_frame new_isr s) entries reached
             ≡ with_isr isr.0 (left_of codes frame) view
         unfolding with_isrs
         isr_begun =

@@ -1,6 +1,6 @@
 -- Who runs, and what each call makes of the stack.
 use Rattle.std.proofs.Common.{◌≡◌, ◌≢◌, ℕ, ◌+◌, ◌-◌, ◌<◌, List, [], ◌∷◌, ◌++◌, length, take, Option, None, Some, refl, sym, ap, ◌∙◌, subst, arith, IsSome}
-use Rattle.std.specs.Prelude.{option_map, slice_get, slice_set}
+use Rattle.std.specs.Prelude.{map, option_map, slice_get, slice_set}
 use Rattle.std.proofs.Math.Seq.{take-append_seam}
 use Rattle.std.proofs.lemmas.List.{length-append, get_or-set_same, set-set}
 use Rattle.std.proofs.lemmas.List.Elements.{All-push}
@@ -19,7 +19,9 @@ use Rattle.tt_world.specs.Runners.{with_left}
 use Rattle.tt_stack.specs.Stacked.{Stacked, first_of, runner_in, task_runner, left_in, leaving_in}
 use Rattle.tt_stack.specs.Kept.{lefts_of, jobs_from, routine_number, task_lefts, stacked, runner_for, entries_after, AreKept, IsOfTask, IsOfRoutine}
 use Rattle.tt_stack.proofs.Frames.{entries_apart, isr_gone, isr_left, isr_moved, isr_none, isr_top, isrs_of, task_none, task_top, tasks_push}
+use Rattle.tt_stack.specs.Words.{Words, entry_words, routine_words}
 use Rattle.tt_stack.proofs.Jobs.{job_left, jobs_set}
+use Rattle.tt_stack.proofs.Pairs.{map-push}
 use Rattle.tt_stack.proofs.Written.{at, IsNotIn, gone, length-lefts_of}
 
 -- the frames of tasks and those of routines
@@ -75,14 +77,27 @@ without_entry before e =
     let same : length (before ++ e ∷ []) - 1 ≡ length before = omega (arith, length-append before (e ∷ [])) in
     ap (λ n. take n (before ++ e ∷ [])) same ∙ take-append_seam before (e ∷ [])
 
-module _ (codes : List (List Stmt)) (first : ℕ) (levels : List ℕ) (reached : ℕ) where
+-- two lists that are the same with one more item each are the same without it
+fronts_same : (xs ys : List ℕ) (x y : ℕ) → xs ++ x ∷ [] ≡ ys ++ y ∷ [] → xs ≡ ys
+fronts_same xs ys x y same =
+    sym (without_entry xs x) ∙ ap (λ (l : List ℕ). take (length l - 1) l) same ∙ without_entry ys y
+
+-- the words of a frame
+abbrev pub words_of_frame : StackFrame → ℕ
+words_of_frame f = f.words
+
+-- a frame of a routine has the words of the routine
+abbrev pub HasRoutineWords : Words → StackFrame → Type 0
+HasRoutineWords words f = f.words ≡ routine_words words (routine_number f.owner)
+
+module _ (codes : List (List Stmt)) (first : ℕ) (levels : List ℕ) (words : Words) (reached : ℕ) where
   -- what contracts see of the frames and the entries
   abbrev pub view : Frames → List ℕ → Stacked
-  view s entries = stacked codes first levels s entries reached
+  view s entries = stacked codes first levels words s entries reached
 
   -- the invariant of the frames and the entries
   abbrev pub Kept : Frames → List ℕ → Type 0
-  Kept s entries = AreKept codes first levels s entries reached
+  Kept s entries = AreKept codes first levels words s entries reached
 
   -- the activations that the frames of tasks stand for
   abbrev pub jobs_of : List StackFrame → List ℕ → List Job
@@ -111,7 +126,14 @@ module _ (codes : List (List Stmt)) (first : ℕ) (levels : List ℕ) (reached :
     the_routine = All-last (IsOfRoutine codes levels) front f k.isrs
 
     with_isrs : List (List Stmt) → Stacked
-    with_isrs isrs = record { codes = codes; first = first; levels = levels; jobs = jobs_of tasks entries; isrs = isrs }
+    with_isrs isrs = record {
+      codes = codes;
+      first = first;
+      levels = levels;
+      words = words;
+      jobs = jobs_of tasks entries;
+      isrs = isrs;
+    }
 
     isr_moved_is : (frame : Frame) → with_top frame (frames_of tasks (front ++ f ∷ []))
         ≡ frames_of tasks (front ++ standing_at frame f ∷ [])
@@ -141,6 +163,10 @@ module _ (codes : List (List Stmt)) (first : ℕ) (levels : List ℕ) (reached :
       as_many = k.as_many;
       ascend = k.ascend;
       in_count = k.in_count;
+      task_words = k.task_words;
+      isr_words = All-push (HasRoutineWords words) front (standing_at frame f)
+          (All-front (HasRoutineWords words) front (f ∷ []) k.isr_words)
+          (All-last (HasRoutineWords words) front f k.isr_words);
     }
 
     popped_isr_kept : Kept (frames_of tasks front) entries
@@ -153,6 +179,8 @@ module _ (codes : List (List Stmt)) (first : ℕ) (levels : List ℕ) (reached :
       as_many = k.as_many;
       ascend = k.ascend;
       in_count = k.in_count;
+      task_words = k.task_words;
+      isr_words = All-front (HasRoutineWords words) front (f ∷ []) k.isr_words;
     }
 
     running_isr : Running (frames_of tasks (front ++ f ∷ [])) entries (seen f)
@@ -190,8 +218,14 @@ module _ (codes : List (List Stmt)) (first : ℕ) (levels : List ℕ) (reached :
     below = All-last (λ (n : ℕ). n < reached) before e k.in_count
 
     with_jobs : List Job → Stacked
-    with_jobs jobs =
-        record { codes = codes; first = first; levels = levels; jobs = jobs; isrs = isrs_of codes levels [] }
+    with_jobs jobs = record {
+      codes = codes;
+      first = first;
+      levels = levels;
+      words = words;
+      jobs = jobs;
+      isrs = isrs_of codes levels [];
+    }
 
     lefts_before : List (List Stmt)
     lefts_before = lefts_of reached (task_lefts codes before front)
@@ -238,6 +272,9 @@ module _ (codes : List (List Stmt)) (first : ℕ) (levels : List ℕ) (reached :
       as_many = omega (arith, same, length-append before (e ∷ []), length-append front (standing_at frame f ∷ []));
       ascend = k.ascend;
       in_count = k.in_count;
+      task_words = map-push words_of_frame front (standing_at frame f)
+          ∙ sym (map-push words_of_frame front f) ∙ k.task_words;
+      isr_words = k.isr_words;
     }
 
     popped_task_kept : Kept (frames_of front []) before
@@ -250,6 +287,10 @@ module _ (codes : List (List Stmt)) (first : ℕ) (levels : List ℕ) (reached :
       as_many = same;
       ascend = AllPairs-front (λ (a b : ℕ). a < b) before (e ∷ []) k.ascend;
       in_count = All-front (λ (n : ℕ). n < reached) before (e ∷ []) k.in_count;
+      task_words = fronts_same (map words_of_frame front) (map (entry_words words) before) f.words
+          (entry_words words e)
+          (sym (map-push words_of_frame front f) ∙ k.task_words ∙ map-push (entry_words words) before e);
+      isr_words = k.isr_words;
     }
 
     entries_are : entries_after f.owner (before ++ e ∷ []) ≡ before

@@ -14,6 +14,7 @@ use Rattle.tt_world.specs.Runners.{no_job}
 use Rattle.tt_world.proofs.JobLists.{at_set}
 use Rattle.tt_stack.specs.Stacked.{Stacked, leaving_in, left_in, runner_in, running}
 use Rattle.tt_stack.specs.Kept.{AreKept, entries_after, stacked}
+use Rattle.tt_stack.specs.Words.{Words}
 use Rattle.tt_stack.specs.declared.state.TtStack.TheInside.{Inside}
 use Rattle.tt_stack.proofs.Running.{Running, none_at, running_at, running_now, shape}
 
@@ -49,9 +50,9 @@ pub none_none : (s : Stacked) → IsSome (runner_in s) → runner_in s ≡ None 
 none_none s some none = none_is (runner_in s) none some
 
 module _ (inside : Inside)
-    (k : AreKept inside.codes inside.first inside.levels.items inside.stack inside.entries.items inside.reached)
+    (k : AreKept inside.codes inside.first inside.levels.items inside.words inside.stack inside.entries.items inside.reached)
     (now : Stacked)
-    (is : stacked inside.codes inside.first inside.levels.items inside.stack inside.entries.items inside.reached
+    (is : stacked inside.codes inside.first inside.levels.items inside.words inside.stack inside.entries.items inside.reached
     ≡ now) where
   abbrev codes : List (List Stmt)
   codes = inside.codes
@@ -61,6 +62,9 @@ module _ (inside : Inside)
 
   abbrev levels : List ℕ
   levels = inside.levels.items
+
+  abbrev words : Words
+  words = inside.words
 
   abbrev reached : ℕ
   reached = inside.reached
@@ -72,7 +76,7 @@ module _ (inside : Inside)
   entries = inside.entries.items
 
   abbrev Run : Top → Type 0
-  Run top = Running codes first levels reached s entries top
+  Run top = Running codes first levels words reached s entries top
 
   -- the codes are those that contracts see
   pub codes_are : codes ≡ now.codes
@@ -80,16 +84,16 @@ module _ (inside : Inside)
 
   -- the frame on top is that of the one that runs
   pub run_at : (top : Top) → option_map seen (top_of s) ≡ Some top → Run top
-  run_at top so = running_at codes first levels reached s entries (shape s entries k.as_many) k top so
+  run_at top so = running_at codes first levels words reached s entries (shape s entries k.as_many) k top so
 
   -- where no frame is on top, contracts see nobody run
   pub none_then : option_map seen (top_of s) ≡ None → runner_in now ≡ None
-  none_then so = ap runner_in (sym is) ∙ none_at codes first levels reached s entries (shape s entries k.as_many) so
+  none_then so = ap runner_in (sym is) ∙ none_at codes first levels words reached s entries (shape s entries k.as_many) so
 
   -- where contracts see one run, its frame is on top
   pub run_now : IsSome (runner_in now) → (top : Top) × Run top
   run_now runs =
-      running_now codes first levels reached s entries (shape s entries k.as_many) k
+      running_now codes first levels words reached s entries (shape s entries k.as_many) k
       (subst (λ v. IsSome (runner_in v)) (sym is) runs)
 
   module _ (top : Top) (r : Run top) where
@@ -118,19 +122,19 @@ module _ (inside : Inside)
     pub some_now : left_of now.codes top.frame ≢ []
     some_now = subst (λ c. left_of c top.frame ≢ []) codes_are r.some
 
-    leaving_now : (left : List Stmt) → leaving_in (stacked codes first levels s entries reached) r.who left
+    leaving_now : (left : List Stmt) → leaving_in (stacked codes first levels words s entries reached) r.who left
         ≡ leaving_in now (running now) left
     leaving_now left =
         ap (λ (v : Stacked). leaving_in v r.who left) is ∙ ap (λ (w : Runner). leaving_in now w left) (sym running_is)
 
     -- where the frame on top moves, contracts see another rest of the one that runs, and no other change
-    pub moved_now : (frame : Frame) → stacked codes first levels (with_top frame s) entries reached
+    pub moved_now : (frame : Frame) → stacked codes first levels words (with_top frame s) entries reached
         ≡ leaving_in now (running now) (left_of now.codes frame)
     moved_now frame =
         r.moved frame ∙ leaving_now (left_of codes frame)
         ∙ ap (λ (c : List (List Stmt)). leaving_in now (running now) (left_of c frame)) codes_are
 
     -- where the frame on top is taken off, contracts see nothing left of the one that runs, and no other change
-    pub ended_now : stacked codes first levels (popped s) (entries_after top.owner entries) reached
+    pub ended_now : stacked codes first levels words (popped s) (entries_after top.owner entries) reached
         ≡ leaving_in now (running now) []
     ended_now = r.ended ∙ leaving_now []

@@ -1,18 +1,19 @@
 -- The words of stack of what is unfinished.
-use Rattle.std.proofs.Common.{◌≡◌, ◌≢◌, ℕ, zero, suc, ◌+◌, ◌<◌, Bool, true, false, cond, List, [], ◌∷◌, ◌++◌, length, refl, sym, ap, ◌∙◌, subst, arith, zero-add, replicate}
-use Rattle.std.specs.Prelude.{All, not, filter, slice_index_or, slice_set, sum_by}
+use Rattle.std.proofs.Common.{◌≡◌, ◌≢◌, ℕ, zero, suc, ◌+◌, ◌<◌, Bool, true, false, cond, List, [], ◌∷◌, length, refl, sym, ap, ◌∙◌, subst, arith, zero-add, replicate}
+use Rattle.std.specs.Prelude.{All, map, not, filter, slice_index_or, slice_set, sum, sum_by}
 use Rattle.std.specs.List.{range_with_len, zip}
 use Rattle.std.proofs.lemmas.List.{get_or-set_other, length-set}
-use Rattle.std.proofs.lemmas.List.Elements.{All-head, All-tail, filter-append}
-use Rattle.std.proofs.lemmas.List.Sums.{sum_by-append, sum_by-cons, sum_by-set}
+use Rattle.std.proofs.lemmas.List.Elements.{All-head, All-tail}
+use Rattle.std.proofs.lemmas.List.Sums.{sum-map, sum_by-cons, sum_by-set}
 use Rattle.task_lang.specs.declared.syntax.Stmt.{Stmt}
-use Rattle.tt_world.specs.Load.{count_left}
 use Rattle.tt_world.specs.World.{Job}
 use Rattle.tt_world.specs.Runners.{is_done, job_at, no_job, unfinished}
 use Rattle.run_stack.proofs.Lists.{AllPairs-first}
-use Rattle.tt_stack.specs.Kept.{Left, jobs_from, lefts_of, written}
+use Rattle.run_stack.specs.declared.stack.StackFrame.{StackFrame}
+use Rattle.tt_stack.specs.Kept.{Left, jobs_from, lefts_of, routine_left, routine_lefts, routine_number, written}
+use Rattle.tt_stack.specs.Words.{Words, routine_words}
 use Rattle.tt_stack.proofs.Jobs.{job, job_entry, job_left, jobs_set, length-jobs}
-use Rattle.tt_stack.proofs.Written.{at, at_none, AreGiven, given_rest, length-none, one_left}
+use Rattle.tt_stack.proofs.Written.{at, at_none, AreGiven, given_rest, length-none}
 
 -- ---- activations
 
@@ -85,53 +86,65 @@ module _ (weight : ℕ → ℕ) where
 
 -- ---- routines
 
-range_more : (from count : ℕ) → range_with_len from (suc count) ≡ range_with_len from count ++ (from + count) ∷ []
-range_more from zero = let same : from ≡ from + 0 = omega arith in ap (λ n. n ∷ []) same
-range_more from (suc count) =
-    let same : from + 1 + count ≡ from + suc count = omega arith in
-    ap (λ (ns : List ℕ). from ∷ ns)
-    (range_more (from + 1) count ∙ ap (λ n. range_with_len (from + 1) count ++ n ∷ []) same)
+module _ (weight : ℕ → ℕ) (passes : ℕ → Bool) where
+  more_passed : (n : ℕ) (rest : List ℕ) (b : Bool)
+      → sum_by weight (cond b (n ∷ rest) rest) ≡ cond b (weight n) 0 + sum_by weight rest
+  more_passed n rest true = sum_by-cons weight n rest
+  more_passed n rest false = omega arith
 
--- the sum of the weights of the numbers below a count that pass a test
-abbrev pub passed : (ℕ → Bool) → (ℕ → ℕ) → ℕ → ℕ
-passed passes weight count = sum_by weight (filter passes (range_with_len 0 count))
+  -- the weights of the numbers from one on that pass, where those pass of which something is left
+  passed_weights : (from : ℕ) (lefts : List (List Stmt))
+      → ((n : ℕ) → passes (from + n) ≡ not (is_done (at lefts n)))
+      → sum_by weight (filter passes (range_with_len from (length lefts)))
+      ≡ sum_by (job_weight weight) (jobs_from from lefts)
+  passed_weights from [] same = refl
+  passed_weights from (x ∷ xs) same =
+      let zero_more : from + 0 ≡ from = omega arith in
+      let first : passes from ≡ not (is_done x) = ap passes (sym zero_more) ∙ same 0 in
+      let next : (n : ℕ) → passes (from + 1 + n) ≡ not (is_done (at xs n)) =
+      λ n. let e : from + 1 + n ≡ from + suc n = omega arith in ap passes e ∙ same (suc n) in
+      let rest = passed_weights (from + 1) xs next in
+      let one = more_passed from (filter passes (range_with_len (from + 1) (length xs))) (passes from) in
+      let adds = by_done (passes from) (is_done x) (weight from) first in
+      let all = sum_by-cons (job_weight weight) (job from x) (jobs_from (from + 1) xs) in
+      omega (arith, rest, one, adds, all)
+    where
+      by_done : (b done : Bool) (w : ℕ) → b ≡ not done → cond b w 0 ≡ cond done 0 w
+      by_done true true w is = cc
+      by_done true false w is = refl
+      by_done false true w is = refl
+      by_done false false w is = cc
 
-one_step : (weight : ℕ → ℕ) (n : ℕ) (b : Bool) → sum_by weight (cond b (n ∷ []) []) ≡ cond b (weight n) 0
-one_step weight n true = zero-add (weight n)
-one_step weight n false = refl
+-- the weights of the unfinished numbers are those of the numbers of which something is left
+pub unfinished_weights : (weight : ℕ → ℕ) (count : ℕ) (given : List Left) → AreGiven count given
+    → sum_by weight (unfinished (lefts_of count given)) ≡ sum_by (λ (one : Left). weight one.0) given
+unfinished_weights weight count given g =
+    let lefts = lefts_of count given in
+    let zero_more : (n : ℕ) → 0 + n ≡ n = λ n. omega arith in
+    let all = passed_weights weight (λ (n : ℕ). not (is_done (at lefts n))) 0 lefts
+    (λ n. ap (λ m. not (is_done (at lefts m))) (zero_more n)) in
+    let written = weights_written weight (replicate count []) given
+    (subst (λ n. AreGiven n given) (sym (length-none count)) g)
+    (λ k d l. at_none count (slice_index_or given k d).0) in
+    omega (arith, all, written, weights_none weight 0 count)
 
--- the next number adds its weight where it passes
-pub passed_more : (passes : ℕ → Bool) (weight : ℕ → ℕ) (n : ℕ)
-    → passed passes weight (n + 1) ≡ passed passes weight n + cond (passes n) (weight n) 0
-passed_more passes weight n =
-    let next : n + 1 ≡ suc n = omega arith in
-    let front = range_with_len 0 n in
-    ap (passed passes weight) next
-    ∙ ap (λ (ns : List ℕ). sum_by weight (filter passes ns))
-    (range_more 0 n ∙ ap (λ m. front ++ m ∷ []) (zero-add n))
-    ∙ ap (sum_by weight) (filter-append passes front (n ∷ []))
-    ∙ sum_by-append weight (filter passes front) (cond (passes n) (n ∷ []) [])
-    ∙ ap (λ m. passed passes weight n + m) (one_step weight n (passes n))
+-- ---- sums of words
 
-done_rest : (x : List Stmt) (xs : List (List Stmt)) (done : Bool) → is_done x ≡ done → count_left (x ∷ xs) ≡ 0
-    → (is_done x ≡ true) × (count_left xs ≡ 0)
-done_rest x xs true is none = (is, omega (arith, none, sum_by-cons one_left x xs))
-done_rest x xs false is none =
-    let one : one_left x ≡ 1 = ap (λ (b : Bool). cond (not b) 1 0) is in
-    absurd (omega (arith, none, one, sum_by-cons one_left x xs))
+-- where two lists have the same numbers, the sums are the same
+pub sum-same : {X Y : Type 0} (f : X → ℕ) (g : Y → ℕ) (xs : List X) (ys : List Y) → map f xs ≡ map g ys
+    → sum_by f xs ≡ sum_by g ys
+sum-same f g xs ys same = sym (sum-map f xs) ∙ ap sum same ∙ sum-map g ys
 
-all_done : (lefts : List (List Stmt)) → count_left lefts ≡ 0 → (n : ℕ) → is_done (at lefts n) ≡ true
-all_done [] none n = refl
-all_done (x ∷ xs) none zero = (done_rest x xs (is_done x) refl none).0
-all_done (x ∷ xs) none (suc n) = all_done xs (done_rest x xs (is_done x) refl none).1 n
-
-none_pass : (passes : ℕ → Bool) → ((n : ℕ) → passes n ≡ false) → (ns : List ℕ) → filter passes ns ≡ []
-none_pass passes fails [] = refl
-none_pass passes fails (n ∷ ns) =
-    ap (λ (b : Bool). cond b (n ∷ filter passes ns) (filter passes ns)) (fails n) ∙ none_pass passes fails ns
-
--- where none is unfinished, none is listed
-pub none_unfinished : (lefts : List (List Stmt)) → count_left lefts ≡ 0 → unfinished lefts ≡ []
-none_unfinished lefts none =
-    none_pass (λ (n : ℕ). not (is_done (at lefts n))) (λ n. ap not (all_done lefts none n))
-    (range_with_len 0 (length lefts))
+-- the words of the frames of routines are those of the routines
+pub isrs_sum : (codes : List (List Stmt)) (words : Words) (fs : List StackFrame)
+    → All (λ (f : StackFrame). f.words ≡ routine_words words (routine_number f.owner)) fs
+    → sum_by (λ (f : StackFrame). f.words) fs
+    ≡ sum_by (λ (one : Left). routine_words words one.0) (routine_lefts codes fs)
+isrs_sum codes words [] all = refl
+isrs_sum codes words (f ∷ fs) all =
+    let P : StackFrame → Type 0 = λ f. f.words ≡ routine_words words (routine_number f.owner) in
+    let first = All-head P f fs all in
+    let rest = isrs_sum codes words fs (All-tail P f fs all) in
+    let a = sum_by-cons (λ (f : StackFrame). f.words) f fs in
+    let b = sum_by-cons (λ (one : Left). routine_words words one.0) (routine_left codes f) (routine_lefts codes fs) in
+    omega (arith, first, rest, a, b)

@@ -9,14 +9,12 @@ use Rattle.task_lang.specs.declared.syntax.Stmt.{Stmt}
 use Rattle.task_machine.specs.Standing.{left_of, IsSound}
 use Rattle.run_stack.specs.Frames.{Frames, IsByLevel}
 use Rattle.run_stack.specs.declared.stack.StackFrame.{StackFrame}
-use Rattle.tt_world.specs.declared.config.ConfigParts.{ConfigParts}
-use Rattle.tt_world.specs.declared.config.ModeDef.{ModeDef}
 use Rattle.tt_world.specs.ConfigRules.{are_distinct}
-use Rattle.tt_world.specs.Rows.{no_task, row_of}
 use Rattle.tt_world.specs.World.{Job}
 use Rattle.tt_world.specs.declared.world.Runner.{Runner}
 use Rattle.tt_world.specs.declared.world.Runner.TheVariants as runner
 use Rattle.tt_stack.specs.Stacked.{Stacked}
+use Rattle.tt_stack.specs.Words.{Words, entry_words, routine_words}
 
 -- ---- what is left of each number
 
@@ -59,11 +57,12 @@ bodies_left codes fs = map (λ (f : StackFrame). left_of codes f.frame) fs
 abbrev pub task_lefts : List (List Stmt) → List ℕ → List StackFrame → List Left
 task_lefts codes entries fs = zip entries (bodies_left codes fs)
 
-abbrev pub stacked : List (List Stmt) → ℕ → List ℕ → Frames → List ℕ → ℕ → Stacked
-stacked codes first levels frames entries reached = record {
+abbrev pub stacked : List (List Stmt) → ℕ → List ℕ → Words → Frames → List ℕ → ℕ → Stacked
+stacked codes first levels words frames entries reached = record {
   codes = codes;
   first = first;
   levels = levels;
+  words = words;
   jobs = jobs_from 0 (lefts_of reached (task_lefts codes entries frames.tasks));
   isrs = lefts_of (length levels) (routine_lefts codes frames.isrs);
 }
@@ -79,12 +78,6 @@ runner_for _ last = option_map (λ (place : ℕ). runner.Job place) last
 abbrev pub entries_after : Owner → List ℕ → List ℕ
 entries_after (By.Isr isr) entries = entries
 entries_after _ entries = take (length entries - 1) entries
-
--- ---- words of stack
-
--- the declared words of stack of the task of an entry number
-abbrev pub entry_words : ConfigParts → ModeDef → ℕ → ℕ
-entry_words c mode entry = (slice_index_or c.tasks (row_of mode entry).task.0 no_task).stack
 
 -- ---- what is kept
 
@@ -112,9 +105,10 @@ abbrev pub DoAscend : List ℕ → Type 0
 DoAscend entries = AllPairs (λ entry later. entry < later) entries
 
 -- The codes of the routines are there, and their levels are distinct. Each frame on the stack has statements left, and
--- each frame of a routine has the routine's level. The frames of tasks are those of the entries, which ascend.
-pub record AreKept (codes : List (List Stmt)) (first : ℕ) (levels : List ℕ) (frames : Frames) (entries : List ℕ)
-    (reached : ℕ) : Type 0 where
+-- each frame of a routine has the routine's level. The frames of tasks are those of the entries, which ascend. Each
+-- frame has the declared words of its entry or routine.
+pub record AreKept (codes : List (List Stmt)) (first : ℕ) (levels : List ℕ) (words : Words) (frames : Frames)
+    (entries : List ℕ) (reached : ℕ) : Type 0 where
   pub enough : first + length levels ≤ length codes
   pub distinct : are_distinct levels ≡ true
   pub tasks : All (IsOfTask codes) frames.tasks
@@ -123,3 +117,5 @@ pub record AreKept (codes : List (List Stmt)) (first : ℕ) (levels : List ℕ) 
   pub as_many : length entries ≡ length frames.tasks
   pub ascend : DoAscend entries
   pub in_count : All (λ entry. entry < reached) entries
+  pub task_words : map (λ (f : StackFrame). f.words) frames.tasks ≡ map (entry_words words) entries
+  pub isr_words : All (λ (f : StackFrame). f.words ≡ routine_words words (routine_number f.owner)) frames.isrs

@@ -1,5 +1,5 @@
 -- The activations of a round and the time-triggered routines: what is left of each, and who of them runs.
-use Rattle.std.specs.Prelude.{ℕ, ◌+◌, List, [], ◌∷◌, ◌++◌, length, Option, None, Some, unwrap_or, option_map, slice_index_or, slice_set}
+use Rattle.std.specs.Prelude.{ℕ, ◌+◌, List, [], ◌∷◌, ◌++◌, length, Option, None, Some, if◌then◌else◌, unwrap_or, option_map, slice_index_or, slice_set, sum_by}
 use Rattle.task_lang.specs.declared.syntax.Stmt.{Stmt}
 use Rattle.task_machine.specs.Standing.{body_of}
 use Rattle.tt_world.specs.declared.world.Runner.{Runner}
@@ -7,7 +7,8 @@ use Rattle.tt_world.specs.declared.world.Runner.TheVariants.{Isr, Nobody}
 use Rattle.tt_world.specs.declared.world.Runner.TheVariants as runner
 use Rattle.tt_world.specs.Load.{count_left, count_unfinished}
 use Rattle.tt_world.specs.World.{Job}
-use Rattle.tt_world.specs.Runners.{job_at, with_left, unfinished, highest, last_unfinished}
+use Rattle.tt_world.specs.Runners.{is_done, job_at, with_left, unfinished, highest, last_unfinished}
+use Rattle.tt_stack.specs.Words.{Words, entry_words, routine_words}
 
 pub record Stacked : Type 0 where
   -- the bodies by program number, the number of the program of the first routine, and the levels of the routines: these
@@ -15,6 +16,8 @@ pub record Stacked : Type 0 where
   pub codes : List (List Stmt)
   pub first : ℕ
   pub levels : List ℕ
+  -- the declared words of stack, and the mode of the present round
+  pub words : Words
   -- all activations of the present round, in their order
   pub jobs : List Job
   -- what is left of each routine; nothing where it is finished
@@ -74,3 +77,13 @@ leaving_in s _ left = s
 -- how many activations and routines
 abbrev pub depth_in : Stacked → ℕ
 depth_in s = count_unfinished s.jobs + count_left s.isrs
+
+-- ---- their words of stack
+
+-- the words of an activation that is unfinished, and none where it has ended
+abbrev pub job_words : Words → Job → ℕ
+job_words words job = if is_done job.left then 0 else entry_words words job.entry
+
+-- the words of all that are unfinished
+abbrev pub words_in : Stacked → ℕ
+words_in s = sum_by (job_words s.words) s.jobs + sum_by (routine_words s.words) (unfinished s.isrs)

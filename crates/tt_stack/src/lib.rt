@@ -6,3 +6,4 @@ mod state;
 mod words;
 
 pub use state::TtStack;
+pub use words::DeclaredWords;

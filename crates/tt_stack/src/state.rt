@@ -1,22 +1,23 @@
 //! The stack with what its frames stand for.
 
-ghost use Rattle.std.specs.Prelude.{◌≡◌, ◌≢◌, ◌≤◌, ◌<◌, ◌+◌, ◌-◌, ◌*◌, ◌↔◌, List, [], ◌∷◌, ◌++◌, length, map, max, replicate, sum_by, true, IfSome, IsSome, IsTrue, None, option_to_list, slice_get, slice_index_or};
+ghost use Rattle.std.specs.Prelude.{◌≡◌, ◌≢◌, ◌≤◌, ◌<◌, ◌+◌, ◌-◌, ◌↔◌, List, [], length, map, max, replicate, true, IfSome, IsSome, IsTrue, option_to_list, slice_get, slice_index_or};
 ghost use Rattle.task_lang.specs.Tick.{supply_of, state_of, ticks};
 ghost use Rattle.task_machine.specs.Standing.{body_of, left_of, work_in_front, IsSound as IsSoundFrame};
 ghost use Rattle.tt_world.specs.declared.config.IsrDef.{IsrDef};
 ghost use Rattle.tt_world.specs.ConfigRules.{are_distinct};
-ghost use Rattle.tt_world.specs.Load.{count_left, count_unfinished, isr_words, words_in};
-ghost use Rattle.tt_world.specs.Runners.{is_done, job_at, unfinished};
+ghost use Rattle.tt_world.specs.Load.{count_unfinished};
+ghost use Rattle.tt_world.specs.Runners.{is_done, job_at};
 ghost use Rattle.tt_stack.specs.Kept.{entries_after, runner_for};
-ghost use Rattle.tt_stack.specs.Stacked.{with_job, with_isr, isr_body, runner_in, running, left_in, leaving_in, depth_in};
+ghost use Rattle.tt_stack.specs.Stacked.{with_job, with_isr, isr_body, runner_in, running, left_in, leaving_in, depth_in, words_in};
+ghost use Rattle.tt_stack.specs.Words.{Words, entry_words, routine_words};
 
-use crate::words::{isr_words, words_of_entries};
+use crate::words::DeclaredWords;
 use arrayvec::ArrayVec;
 use run_stack::RunStack;
 use std::marker::Model;
 use task_machine::{Codes, Env, Frame, Progress, advance};
-use tt_base::{IsrNo, Ledger, Owner, Steps, TaskNo};
-use tt_world::{ConfigParts, IsrDef, ModeDef, Runner};
+use tt_base::{IsrNo, Ledger, ModeNo, Owner, Steps, TaskNo};
+use tt_world::{IsrDef, Runner};
 
 /// The unfinished activations of the present round and the unfinished time-triggered routines, as
 /// frames on a stack. It takes no memory beside its own. Contracts see the activations of the
@@ -28,6 +29,7 @@ pub struct TtStack {
     first: u16,
     /// The levels of the routines, by number.
     levels: ArrayVec<u8, 16>,
+    words: DeclaredWords,
     stack: RunStack,
     /// The entry number of each frame of a task, in the order of the stack.
     entries: ArrayVec<usize, 64>,
@@ -45,10 +47,11 @@ impl Model for TtStack {
 
     ghost coded = { Prim.hlevel (code_rules, stmt.the_row.coded) };
 
-    ghost view = { λ s. stacked s.codes s.first s.levels.items s.stack s.entries.items s.reached };
-
-    ghost invariant = { λ s. AreKept s.codes s.first s.levels.items s.stack s.entries.items
+    ghost view = { λ s. stacked s.codes s.first s.levels.items s.words s.stack s.entries.items
         s.reached };
+
+    ghost invariant = { λ s. AreKept s.codes s.first s.levels.items s.words s.stack
+        s.entries.items s.reached };
 }
 
 /// The levels of some routines, by number.
@@ -95,7 +98,7 @@ fn drop_entry(entries: &mut ArrayVec<usize, 64>, owner: Owner)
 impl TtStack {
     /// Before the first round: no activation, and no routine is unfinished. The program of a task
     /// has the number of the task; those of the routines have the numbers from `first` on.
-    pub fn new(codes: Codes, isrs: &[IsrDef], first: u16) -> TtStack
+    pub fn new(codes: Codes, words: DeclaredWords, isrs: &[IsrDef], first: u16) -> TtStack
         requires few { length isrs.now ≤ 16 }
         requires distinct { are_distinct (map (λ (isr : IsrDef). isr.level) isrs.now) ≡ true }
         requires enough { first + length isrs.now ≤ length codes }
@@ -103,6 +106,7 @@ impl TtStack {
           codes = codes;
           first = first;
           levels = map (λ (isr : IsrDef). isr.level) isrs.now;
+          words = words;
           jobs = [];
           isrs = replicate (length isrs.now) [];
         } }
@@ -111,6 +115,7 @@ impl TtStack {
             codes,
             first,
             levels: levels_of(isrs),
+            words,
             stack: RunStack::new(),
             entries: ArrayVec::new(),
             reached: 0,
@@ -240,14 +245,18 @@ impl TtStack {
         self.reached
     }
 
-    /// A round has ended: its activations are gone, also those that are unfinished. The routines
-    /// stay.
-    pub fn clear_jobs(&mut self)
-        ensures { self.new ≡ record self.old { jobs = [] } }
+    /// A round has ended: its activations are gone, also those that are unfinished, and a round of
+    /// this mode begins. The routines stay.
+    pub fn clear_jobs(&mut self, mode: ModeNo)
+        ensures { self.new ≡ record self.old {
+          jobs = [];
+          words = record self.old.words { mode = mode };
+        } }
     {
         self.stack.clear_tasks();
         self.entries.clear();
         self.reached = 0;
+        self.words.begin_round(mode);
     }
 
     /// How many activations and routines are unfinished.
@@ -257,46 +266,11 @@ impl TtStack {
         self.stack.depth()
     }
 
-    /// The declared words of stack of the activations and routines that are unfinished, where the
-    /// activations are of the rows of a mode.
-    pub fn words(&self, config: &ConfigParts, mode: &ModeDef) -> u64
-        ensures { result ≡ words_in config.now mode.now self.now.jobs self.now.isrs }
+    /// The declared words of stack of the activations and routines that are unfinished.
+    pub fn words(&self) -> u64
+        ensures { result ≡ words_in self.now }
     {
-        let of_jobs = words_of_entries(config, mode, self.entries.as_slice());
-        if self.has_no_isr() {
-            return of_jobs;
-        }
-        of_jobs + self.words_of_isrs(config)
-    }
-
-    /// The declared words of stack of the unfinished routines.
-    fn words_of_isrs(&self, config: &ConfigParts) -> u64
-        ensures value { result ≡ sum_by (isr_words config.now) (unfinished self.now.isrs) }
-        ensures bounded { result ≤ 16 * u32.MAX }
-    {
-        let mut words = 0;
-        for number in 0..self.count_isrs() {
-            let isr = IsrNo(number as u16);
-            if !self.is_isr_done(isr) {
-                words += u64::from(isr_words(config, isr));
-            }
-        }
-        words
-    }
-
-    /// How many routines there are.
-    fn count_isrs(&self) -> usize
-        ensures value { result ≡ length self.now.isrs }
-        ensures few { result ≤ 16 }
-    {
-        self.levels.len()
-    }
-
-    /// Whether no routine is unfinished.
-    fn has_no_isr(&self) -> bool
-        ensures { IsTrue result ↔ (count_left self.now.isrs ≡ 0) }
-    {
-        self.depth() == self.entries.len()
+        self.stack.words()
     }
 
     /// The frame of the one that runs.
@@ -329,8 +303,8 @@ impl TtStack {
         requires some { left_of self.old.codes frame ≢ [] }
         ensures { self.new ≡ with_job (left_of self.old.codes frame) self.old }
     {
-        // The words of an instant are summed from the tables, so that frames carry none.
-        self.stack.push_task(task, frame, 0);
+        let words = self.words.of_entry(self.reached);
+        self.stack.push_task(task, frame, words);
         self.entries.push(self.reached);
         self.reached += 1;
     }
@@ -344,8 +318,8 @@ impl TtStack {
         ensures { self.new ≡ with_isr isr.0 (left_of self.old.codes frame) self.old }
     {
         let level = self.levels[usize::from(isr.0)];
-        // As for a task, the frame carries no words.
-        self.stack.accept_isr(isr, level, frame, 0);
+        let words = self.words.of_isr(isr);
+        self.stack.accept_isr(isr, level, frame, words);
     }
 
     /// The one that runs has this frame now, or has ended.

@@ -46,7 +46,7 @@ invariant_of-self c =
     subst (λ (s : Stacked). is_done (slice_index_or s.isrs c.args.isr.0 []) ≡ true)
     (sym c.self.view_is) c.requires.finished in
     let codes = codes_are i c.self.invariant c.args.self.now c.self.view_is in
-    rw (c.accept_isr.ensures, c.deref.ensures.0, c.from.ensures)
+    rw (c.accept_isr.ensures, c.deref.ensures.0, c.from.ensures, c.of_isr-words.ensures)
     (isr_kept i c.self.invariant c.args.isr exists finished c.args.frame
     (subst (λ l. IsSound l c.args.frame) (sym codes) c.requires.sound)
     (subst (λ l. left_of l c.args.frame ≢ []) (sym codes) c.requires.some))
@@ -59,17 +59,22 @@ returns c =
     subst (λ (s : Stacked). is_done (slice_index_or s.isrs c.args.isr.0 []) ≡ true)
     (sym c.self.view_is) c.requires.finished in
     let codes = codes_are i c.self.invariant c.args.self.now c.self.view_is in
-    ap (λ s. stacked i.codes i.first i.levels.items s i.entries.items i.reached) c.accept_isr.ensures
-    ∙ ap (λ l. stacked i.codes i.first i.levels.items
+    ap (λ s. stacked i.codes i.first i.levels.items i.words s i.entries.items i.reached) c.accept_isr.ensures
+    ∙ ap (λ l. stacked i.codes i.first i.levels.items i.words
     (with_frame
     (isr_frame c.args.isr
-    (slice_index_or l c.from.result 0) c.args.frame 0) i.stack) i.entries.items i.reached)
+    (slice_index_or l c.from.result 0) c.args.frame c.of_isr-words.result) i.stack) i.entries.items i.reached)
     c.deref.ensures.0
-    ∙ ap (λ n. stacked i.codes i.first i.levels.items
+    ∙ ap (λ n. stacked i.codes i.first i.levels.items i.words
     (with_frame
     (isr_frame c.args.isr
-    (slice_index_or i.levels.items n 0) c.args.frame 0) i.stack) i.entries.items i.reached)
+    (slice_index_or i.levels.items n 0) c.args.frame c.of_isr-words.result) i.stack) i.entries.items i.reached)
     c.from.ensures
+    ∙ ap (λ n. stacked i.codes i.first i.levels.items i.words
+    (with_frame
+    (isr_frame c.args.isr
+    (slice_index_or i.levels.items c.args.isr.0 0) c.args.frame n) i.stack) i.entries.items i.reached)
+    c.of_isr-words.ensures
     ∙ isr_begun i c.self.invariant c.args.isr exists finished c.args.frame
     (subst (λ l. IsSound l c.args.frame) (sym codes) c.requires.sound)
     (subst (λ l. left_of l c.args.frame ≢ []) (sym codes) c.requires.some)

@@ -1,4 +1,4 @@
-use Rattle.std.proofs.Common.{◌≢◌, ◌+◌, [], ap, ◌∙◌, length, subst, sym, arith}
+use Rattle.std.proofs.Common.{◌≢◌, ◌+◌, [], ◌∷◌, ◌++◌, ap, ◌∙◌, length, subst, sym, arith}
 use Rattle.task_machine.specs.Standing.{left_of, IsSound}
 use Rattle.run_stack.specs.Frames.{task_frame, with_task}
 use Rattle.tt_world.specs.Load.{count_unfinished}
@@ -33,7 +33,7 @@ pub invariant_of-self : goal.invariant_of-self
 invariant_of-self c =
     let i = c.self.inside in
     let codes = codes_are i c.self.invariant c.args.self.now c.self.view_is in
-    rw (c.push_task.ensures, c.push.ensures.items)
+    rw (c.push_task.ensures, c.push.ensures.items, c.of_entry-words.ensures)
     (task_kept i c.self.invariant c.args.task c.args.frame
     (subst (λ l. IsSound l c.args.frame) (sym codes) c.requires.sound)
     (subst (λ l. left_of l c.args.frame ≢ []) (sym codes) c.requires.some))
@@ -42,9 +42,13 @@ pub returns : goal.returns
 returns c =
     let i = c.self.inside in
     let codes = codes_are i c.self.invariant c.args.self.now c.self.view_is in
-    ap (λ s. stacked i.codes i.first i.levels.items s c.push.new.self.items (i.reached + 1)) c.push_task.ensures
-    ∙ ap (λ es. stacked i.codes i.first i.levels.items
-    (with_task (task_frame c.args.task c.args.frame 0) i.stack) es (i.reached + 1)) c.push.ensures.items
+    ap (λ s. stacked i.codes i.first i.levels.items i.words s c.push.new.self.items (i.reached + 1)) c.push_task.ensures
+    ∙ ap (λ es. stacked i.codes i.first i.levels.items i.words
+    (with_task (task_frame c.args.task c.args.frame c.of_entry-words.result) i.stack) es (i.reached + 1))
+    c.push.ensures.items
+    ∙ ap (λ n. stacked i.codes i.first i.levels.items i.words
+    (with_task (task_frame c.args.task c.args.frame n) i.stack) (i.entries.items ++ i.reached ∷ []) (i.reached + 1))
+    c.of_entry-words.ensures
     ∙ task_begun i c.self.invariant c.args.task c.args.frame
     (subst (λ l. IsSound l c.args.frame) (sym codes) c.requires.sound)
     (subst (λ l. left_of l c.args.frame ≢ []) (sym codes) c.requires.some)

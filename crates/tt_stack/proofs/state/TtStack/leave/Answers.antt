@@ -26,5 +26,5 @@ pub returns-else-ended : goal.returns-else-ended
 returns-else-ended c =
     let i = c.self.inside in
     let (top, r) = run_now i c.self.invariant c.args.self.now c.self.view_is c.requires.runs in
-    ap (λ s. stacked i.codes i.first i.levels.items s i.entries.items i.reached) c.set_top.ensures
+    ap (λ s. stacked i.codes i.first i.levels.items i.words s i.entries.items i.reached) c.set_top.ensures
     ∙ moved_now i c.self.invariant c.args.self.now c.self.view_is top r c.args.frame

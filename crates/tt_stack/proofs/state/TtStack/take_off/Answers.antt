@@ -16,8 +16,8 @@ returns-in-Some c =
     let i = c.self.inside in
     let r = run_at i c.self.invariant c.args.self.now c.self.view_is c.in-Some.top
     (sym c.top.ensures.top ∙ c.in-Some.is) in
-    ap (λ s. stacked i.codes i.first i.levels.items s c.drop_entry.new.entries.items i.reached) c.pop.ensures
-    ∙ ap (λ es. stacked i.codes i.first i.levels.items (popped i.stack) es i.reached) c.drop_entry.ensures
+    ap (λ s. stacked i.codes i.first i.levels.items i.words s c.drop_entry.new.entries.items i.reached) c.pop.ensures
+    ∙ ap (λ es. stacked i.codes i.first i.levels.items i.words (popped i.stack) es i.reached) c.drop_entry.ensures
     ∙ ended_now i c.self.invariant c.args.self.now c.self.view_is c.in-Some.top r
 
 pub returns-in_default : goal.returns-in_default
