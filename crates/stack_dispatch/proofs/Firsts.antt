@@ -3,6 +3,7 @@ use Rattle.std.proofs.Common.{ℕ, ◌≡◌, ◌≢◌, ◌<◌, ◌≤◌, ◌
 use Rattle.std.specs.Prelude.{map, IfSome, replicate, if◌then◌else◌}
 use Rattle.std.proofs.lemmas.List.Elements.{All-map}
 use Rattle.std.proofs.lemmas.List.{length-append, length-map, get_or-map}
+use Rattle.tt_base.specs.declared.number.ModeNo.{ModeNo}
 use Rattle.task_lang.specs.declared.syntax.Stmt.{Stmt}
 use Rattle.task_machine.specs.Standing.{body_of}
 use Rattle.tt_world.specs.declared.config.ConfigParts.{ConfigParts}
@@ -20,6 +21,7 @@ use Rattle.tt_world.specs.Runners.{isr_levels}
 use Rattle.tt_world.specs.Schedule.{first_world}
 use Rattle.task_machine.specs.Stored.{Store}
 use Rattle.tt_stack.specs.Stacked.{Stacked}
+use Rattle.tt_stack.specs.Words.{Words, all_isr_words, all_row_words}
 use Rattle.isr_window.specs.Window.{Window, new_window}
 use Rattle.round_end.specs.Round.{Round, first_round}
 use Rattle.stack_dispatch.specs.First.{first_state}
@@ -141,6 +143,8 @@ view_by round env stack gates setup sub = record {
     codes = stack.codes;
     first = stack.first;
     levels = stack.levels;
+    isr_words = stack.words.isrs;
+    row_words = stack.words.rows;
     setup = setup;
     isrs_ticks = gates.isrs_left;
     oisrs_ticks = gates.oisrs_left;
@@ -156,11 +160,16 @@ env_first c s = record {
       s.values;
 }
 
-abbrev stack_first : ConfigParts → Stacked
-stack_first c = record {
+-- the declared words of stack of a configuration, where the first round has this mode
+abbrev pub words_first : ConfigParts → ModeNo → Words
+words_first c mode = record { isrs = all_isr_words c; rows = all_row_words c; mode = mode }
+
+abbrev stack_first : ConfigParts → ModeNo → Stacked
+stack_first c mode = record {
   codes = bodies_of c;
   first = length c.tasks;
   levels = isr_levels c;
+  words = words_first c mode;
   jobs = [];
   isrs = replicate (length c.isrs) [];
 }
@@ -174,6 +183,7 @@ module _ (c : ConfigParts) (s : ScriptParts) (script : IsScript c s) (round : Ro
         codes = bodies_of c;
         first = length c.tasks;
         levels = isr_levels c;
+        words = words_first c s.start;
         jobs = [];
         isrs = replicate (length c.isrs) [];
       } → gates ≡ new_window s.arrivals → setup ≡ setup_for c (length c.tasks + length c.isrs) → sub ≡ first_subsystem c
@@ -183,10 +193,10 @@ module _ (c : ConfigParts) (s : ScriptParts) (script : IsScript c s) (round : Ro
       ∙ ap (λ (e : Store). view_by (first_round c s.start s.rounds s.times) e stack gates setup sub) ee
       ∙ ap (λ (k : Stacked). view_by (first_round c s.start s.rounds s.times) (env_first c s) k gates setup sub) es
       ∙ ap (λ (g : Window). view_by (first_round c s.start s.rounds s.times) (env_first c s)
-      (stack_first c) g setup sub) eg
-      ∙ ap (λ (u : Setup). view_by (first_round c s.start s.rounds s.times) (env_first c s) (stack_first c)
+      (stack_first c s.start) g setup sub) eg
+      ∙ ap (λ (u : Setup). view_by (first_round c s.start s.rounds s.times) (env_first c s) (stack_first c s.start)
       (new_window s.arrivals) u sub) eu
-      ∙ ap (λ (b : Subsystem). view_by (first_round c s.start s.rounds s.times) (env_first c s) (stack_first c)
+      ∙ ap (λ (b : Subsystem). view_by (first_round c s.start s.rounds s.times) (env_first c s) (stack_first c s.start)
       (new_window s.arrivals)
       (setup_for c (length c.tasks + length c.isrs)) b) eb
       ∙ ap (λ (ls : List (List Stmt)). record (first_state c s) {

@@ -29,6 +29,7 @@ pub mod TakingAll
 pub mod Telling
 pub mod Ticks
 pub mod ToldRuns
+pub mod Weighed
 pub mod WhoRuns
 pub mod WorkedOff
 pub mod Working

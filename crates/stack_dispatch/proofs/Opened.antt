@@ -31,7 +31,7 @@ use Rattle.tt_world.proofs.Moves.{gives_first, gives_over, gives_done, gives_sto
 use Rattle.tt_world.proofs.Openings.{activated_in, due_same}
 use Rattle.tt_world.proofs.Parts.{Before, Latched, Begun, Alone, Anything, Leads, followed_leads, chain_each, led_on}
 use Rattle.tt_world.proofs.Points.{Ahead, latch_ahead, round_end_ahead, checks_ahead, ahead_at}
-use Rattle.tt_world.proofs.Places.{Placed, latch_placed, round_end_placed, placed_at}
+use Rattle.tt_world.proofs.Places.{Placed, latch_placed, opening_placed, round_end_placed, placed_at}
 use Rattle.tt_world.proofs.Stamps.{AtTick as AtStamp, EndsAtTick, opening_at_tick}
 use Rattle.tt_world.proofs.Still.{step_still}
 use Rattle.tt_world.proofs.Time.{Timed, latch_timed, round_end_timed, opening_timed, opening_keeps, timed_at}
@@ -45,8 +45,8 @@ use Rattle.stack_dispatch.specs.Checking.{monitored_entries}
 use Rattle.stack_dispatch.specs.First.{first_state}
 use Rattle.stack_dispatch.specs.Due.{enables_by, NoneAccepted}
 use Rattle.stack_dispatch.specs.Jumps.{IsOnSchedule}
-use Rattle.stack_dispatch.specs.Served.{IsServed, IsTableOf, StandsAt, HasSources, IsOpened, CanPass}
-use Rattle.stack_dispatch.specs.State.{RunState, Beside, IsFor, window_in}
+use Rattle.stack_dispatch.specs.Served.{IsServed, IsTableOf, IsWeighed, StandsAt, HasSources, IsOpened, CanPass}
+use Rattle.stack_dispatch.specs.State.{RunState, Beside, Fixed, IsFor, window_in}
 use Rattle.stack_dispatch.specs.Ticking.{CanTick}
 use Rattle.stack_dispatch.proofs.Enabling.{enables_are}
 use Rattle.stack_dispatch.proofs.Running.{has_number}
@@ -334,6 +334,15 @@ module _ {L : Type 0} {Told : L → List Event → L → Type 0} (telling : IsTe
       pub opened_timed : Timed Begun c s v
       opened_timed = after (Timed Begun c s) (opening c s w) a b v g
           (opening_timed c s (are_bounded c s h.rules h.script) w [] h.timed)
+
+      -- the words of stack of the opened world can be read
+      pub can_weigh : (st : RunState) → st.world ≡ v → IsFor c s st.beside → IsWeighed c st
+      can_weigh st is fixed = record {
+        isr_words = ap (λ (f : Fixed). f.isr_words) fixed;
+        row_words = ap (λ (f : Fixed). f.row_words) fixed;
+        placed = subst (Placed c 1) (sym is)
+            (after (Placed c 1) (opening c s w) a b v g (opening_placed c s h.rules w [] h.placed));
+      }
 
       pub can_tick : (st : RunState) → st.world ≡ v → IsFor c s st.beside → w.tick + 1 < 2 ^ 64 → CanTick c s st
       can_tick st is fixed room =

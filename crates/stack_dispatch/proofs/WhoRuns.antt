@@ -13,8 +13,13 @@ use Rattle.osek_idle.specs.Laws.{IsOf, runner_in as idle_runner}
 use Rattle.osek_idle.specs.Subsystem.{Subsystem, Setup, lefts, picked, IsSettled}
 use Rattle.osek_idle.proofs.Picking.{picks_are}
 use Rattle.tt_stack.specs.Stacked.{Stacked, first_of, runner_in}
+use Rattle.tt_stack.specs.Words.{Words}
 use Rattle.stack_dispatch.specs.State.{RunState, Fixed, IsFor}
 use Rattle.stack_dispatch.specs.Ticking.{IsOnStack, IsInIdleTime}
+
+-- the declared words of stack of a state, in its mode
+abbrev pub words_beside : RunState → Words
+words_beside st = record { isrs = st.beside.isr_words; rows = st.beside.row_words; mode = st.world.mode }
 
 -- the activations and routines of a state
 abbrev pub stack_of : RunState → Stacked
@@ -22,6 +27,7 @@ stack_of st = record {
   codes = st.beside.codes;
   first = st.beside.first;
   levels = st.beside.levels;
+  words = words_beside st;
   jobs = st.world.jobs;
   isrs = st.world.isrs;
 }

@@ -4,6 +4,7 @@ use Rattle.tt_world.specs.declared.config.ConfigParts.{ConfigParts}
 use Rattle.tt_world.specs.declared.script.ScriptParts.{ScriptParts}
 use Rattle.tt_world.specs.Schedule.{first_world}
 use Rattle.tt_world.specs.Runners.{isr_levels}
+use Rattle.tt_stack.specs.Words.{all_isr_words, all_row_words}
 use Rattle.osek_idle.specs.Standing.{setup_for}
 use Rattle.stack_dispatch.specs.State.{RunState, bodies_of}
 
@@ -21,6 +22,8 @@ first_state c s = record {
     codes = bodies_of c;
     first = length c.tasks;
     levels = isr_levels c;
+    isr_words = all_isr_words c;
+    row_words = all_row_words c;
     setup = setup_for c (length c.tasks + length c.isrs);
     isrs_ticks = s.arrivals.isrs;
     oisrs_ticks = s.arrivals.oisrs;

@@ -1,13 +1,12 @@
 -- What the parts of an opening require.
-use Rattle.std.specs.Prelude.{◌≡◌, ℕ, ◌+◌, ◌^◌, ◌<◌, ◌≤◌, false, not, List, [], Option, None, Some, IfSome, length, slice_index_or, slice_range}
-use Rattle.std.specs.List.{count_by}
+use Rattle.std.specs.Prelude.{◌≡◌, ℕ, ◌+◌, ◌^◌, ◌<◌, ◌≤◌, false, List, [], Option, None, Some, IfSome, length, slice_index_or, slice_range}
 use Rattle.std.specs.Option.{ForSome}
 use Rattle.tt_world.specs.declared.config.ConfigParts.{ConfigParts}
 use Rattle.tt_world.specs.declared.script.ScriptParts.{ScriptParts}
 use Rattle.tt_world.specs.ConfigRules.{IsConfig}
 use Rattle.tt_world.specs.ScriptRules.{IsScript}
-use Rattle.tt_world.specs.World.{World, Job}
-use Rattle.tt_world.specs.Runners.{is_done}
+use Rattle.tt_world.specs.Load.{count_unfinished}
+use Rattle.tt_world.specs.World.{World}
 use Rattle.tt_world.specs.Monitoring.{is_at}
 use Rattle.tt_world.specs.Rows.{offset_of, mode_of, row_of, body_of, enables_at, entry_at}
 use Rattle.tt_world.proofs.Late.{Late}
@@ -16,6 +15,7 @@ use Rattle.tt_world.proofs.Parts.{Phase, Before}
 use Rattle.tt_world.proofs.Places.{Placed}
 use Rattle.tt_world.proofs.Points.{Ahead as PointsAhead}
 use Rattle.tt_world.proofs.Time.{Timed}
+use Rattle.tt_stack.specs.Words.{all_isr_words, all_row_words}
 use Rattle.isr_window.specs.Played.{AreLeftFrom, AreSourcesOf}
 use Rattle.isr_window.specs.Window.{next_tick}
 use Rattle.round_end.specs.Round.{Round, next_own}
@@ -41,10 +41,6 @@ pub record IsServed (phase : Phase) (c : ConfigParts) (s : ScriptParts) (w : Wor
 abbrev pub IsTableOf : ConfigParts → TableRows → World → Type 0
 IsTableOf c table w = table ≡ table_of c (mode_of c w)
 
--- how many activations have statements left
-abbrev pub unfinished_of : List Job → ℕ
-unfinished_of jobs = count_by (λ (job : Job). not (is_done job.left)) jobs
-
 pub record HasRoom (c : ConfigParts) (table : TableRows) (entry : ℕ) (st : RunState) : Type 0 where
   pub within : entry < length table.mode.activations
   pub next : entry ≡ length st.world.jobs
@@ -52,7 +48,7 @@ pub record HasRoom (c : ConfigParts) (table : TableRows) (entry : ℕ) (st : Run
   pub exists : (row_of table.mode entry).task.0 < st.beside.first
   pub body : body_of c (row_of table.mode entry).task
       ≡ slice_index_or st.beside.codes (row_of table.mode entry).task.0 []
-  pub room : unfinished_of st.world.jobs < 64
+  pub room : count_unfinished st.world.jobs < 64
 
 -- the places, in the lists of a table, of what is due at an offset
 pub record StandsAt (table : TableRows) (offset : ℕ) (due : Due) : Type 0 where
@@ -87,6 +83,13 @@ pub record CanPass (c : ConfigParts) (s : ScriptParts) (st : RunState) : Type 0 
   pub fixed : IsFor c s st.beside
   pub sources : HasSources c s st.world.tick st
   pub tick : st.world.tick + 1 < 2 ^ 64
+
+-- what is needed to read the words of stack of the world after an opening: the declared words are those of the
+-- configuration, and the activations are placed as the rows of the mode
+pub record IsWeighed (c : ConfigParts) (st : RunState) : Type 0 where
+  pub isr_words : st.beside.isr_words ≡ all_isr_words c
+  pub row_words : st.beside.row_words ≡ all_row_words c
+  pub placed : Placed c 1 st.world
 
 -- the round of a state
 abbrev pub round_in : RunState → Round

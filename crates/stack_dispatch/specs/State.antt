@@ -10,6 +10,7 @@ use Rattle.tt_world.specs.declared.config.OisrDef.{OisrDef}
 use Rattle.tt_world.specs.declared.script.ScriptParts.{ScriptParts}
 use Rattle.tt_world.specs.Runners.{isr_levels}
 use Rattle.tt_world.specs.World.{World}
+use Rattle.tt_stack.specs.Words.{all_isr_words, all_row_words}
 use Rattle.isr_window.specs.Window.{Window}
 use Rattle.isr_window.specs.Played.{with_window}
 use Rattle.osek_idle.specs.Subsystem.{Setup}
@@ -17,8 +18,9 @@ use Rattle.osek_idle.specs.Standing.{setup_for}
 
 -- what the runner keeps beside the world: how long a round is, how far it is corrected, how many modes and rounds there
 -- are, the global times; the demands and the values that the script gives for them; the bodies of all programs, the
--- number of the first routine's program, the levels of the routines, and what never changes of the OSEK subsystem; and
--- the ticks of the arrivals that were not yet taken
+-- number of the first routine's program, the levels of the routines, the declared words of stack of the routines and of
+-- the rows of each mode, and what never changes of the OSEK subsystem; and the ticks of the arrivals that were not yet
+-- taken
 pub record Beside : Type 0 where
   pub round : ℕ
   pub adjust : ℕ
@@ -30,6 +32,8 @@ pub record Beside : Type 0 where
   pub codes : List (List Stmt)
   pub first : ℕ
   pub levels : List ℕ
+  pub isr_words : List ℕ
+  pub row_words : List (List ℕ)
   pub setup : Setup
   pub isrs_ticks : List (List ℕ)
   pub oisrs_ticks : List (List ℕ)
@@ -50,6 +54,8 @@ pub record Fixed : Type 0 where
   pub codes : List (List Stmt)
   pub first : ℕ
   pub levels : List ℕ
+  pub isr_words : List ℕ
+  pub row_words : List (List ℕ)
   pub setup : Setup
 
 abbrev pub fixed_in : Beside → Fixed
@@ -64,6 +70,8 @@ fixed_in b = record {
   codes = b.codes;
   first = b.first;
   levels = b.levels;
+  isr_words = b.isr_words;
+  row_words = b.row_words;
   setup = b.setup;
 }
 
@@ -86,6 +94,8 @@ fixed_of c s = record {
   codes = bodies_of c;
   first = length c.tasks;
   levels = isr_levels c;
+  isr_words = all_isr_words c;
+  row_words = all_row_words c;
   setup = setup_for c (length c.tasks + length c.isrs);
 }
 

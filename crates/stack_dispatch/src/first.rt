@@ -12,7 +12,7 @@ use round_end::RoundState;
 use std::alloc::Global;
 use task_machine::Env;
 use tt_base::{Memory, Series, Tick};
-use tt_stack::TtStack;
+use tt_stack::{DeclaredWords, TtStack};
 use tt_world::{Arrivals, Config, ScriptParts};
 
 /// A copy of a list of numbers.
@@ -44,6 +44,7 @@ impl State {
         let isrs = copy_ticks(alloc, script.arrivals.isrs.as_slice())?;
         let oisrs = copy_ticks(alloc, script.arrivals.oisrs.as_slice())?;
         let env = Env::new(alloc, &parts.vars, &parts.demands, &script.values)?;
+        let words = DeclaredWords::new(alloc, parts, script.start)?;
         let codes = codes_of(alloc, parts)?;
         let tasks = parts.tasks.as_slice().len() as u16;
         let routines = parts.isrs.as_slice().len() as u16;
@@ -52,7 +53,7 @@ impl State {
             tick: 0,
             round: RoundState::new(config, script.start, script.rounds, times),
             env,
-            stack: TtStack::new(codes, parts.isrs.as_slice(), tasks),
+            stack: TtStack::new(codes, words, parts.isrs.as_slice(), tasks),
             gates: Gates::new(Arrivals { isrs, oisrs }),
             osek,
             last: None,

@@ -1,9 +1,8 @@
 //! The greatest depth and the most words of stack of a run.
 
 ghost use Rattle.std.specs.Prelude.{◌≡◌, max};
-ghost use Rattle.tt_world.specs.ConfigRules.{IsConfig};
 ghost use Rattle.tt_world.specs.Load.{depth_of, words_of};
-ghost use Rattle.tt_world.specs.Rows.{HasMode};
+ghost use Rattle.stack_dispatch.specs.Served.{IsWeighed};
 
 use crate::state::State;
 use tt_world::ConfigParts;
@@ -20,8 +19,7 @@ pub(crate) struct Peaks {
 impl Peaks {
     /// Counts in an instant that takes a tick, after its opening.
     pub(crate) fn raise(&mut self, config: &ConfigParts, state: &State)
-        requires rules { IsConfig config.now }
-        requires mode { HasMode config.now state.now.world }
+        requires { IsWeighed config.now state.now }
         ensures { self.new ≡ record {
           deepest = max self.old.deepest (depth_of state.now.world);
           words = max self.old.words (words_of config.now state.now.world);

@@ -103,7 +103,7 @@ impl State {
                 Some(RunEnd::LastRound)
             }
             RoundStep::Next(number, mode) => {
-                self.stack.clear_jobs();
+                self.stack.clear_jobs(mode);
                 log.tell(Event::Round { at, number, mode });
                 None
             }

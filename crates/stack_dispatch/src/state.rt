@@ -3,6 +3,7 @@
 ghost use Rattle.std.specs.Prelude.{◌≡◌};
 ghost use Rattle.tt_world.specs.Load.{depth_of, words_of};
 ghost use Rattle.tt_world.specs.Rows.{HasMode, offset_of, mode_of, row_of};
+ghost use Rattle.stack_dispatch.specs.Served.{IsWeighed};
 
 use isr_window::Gates;
 use osek_idle::Osek;
@@ -31,6 +32,7 @@ pub(crate) struct State {
 }
 
 impl Model for State {
+    ghost use Rattle.std.specs.Prelude.{◌≡◌};
     ghost use Rattle.std.specs.Coded.{codes};
     ghost use Rattle.task_lang.specs.contracts.syntax.Stmt as stmt;
     ghost use Rattle.stack_dispatch.specs.State.{RunState};
@@ -73,6 +75,8 @@ impl Model for State {
         codes = s.stack.codes;
         first = s.stack.first;
         levels = s.stack.levels;
+        isr_words = s.stack.words.isrs;
+        row_words = s.stack.words.rows;
         setup = setup_of s.osek;
         isrs_ticks = s.gates.isrs_left;
         oisrs_ticks = s.gates.oisrs_left;
@@ -80,7 +84,8 @@ impl Model for State {
     } };
 
     ghost invariant = { λ s. IsSound s.stack.codes s.osek
-        × IsSettled (subsystem_of s.stack.codes s.osek) };
+        × IsSettled (subsystem_of s.stack.codes s.osek)
+        × (s.stack.words.mode ≡ s.round.mode) };
 }
 
 /// The row of an entry number.
@@ -122,10 +127,10 @@ impl State {
 
     /// How many words of stack the unfinished ones take.
     pub(crate) fn words(&self, config: &ConfigParts) -> u64
-        requires { HasMode config.now self.now.world }
+        requires { IsWeighed config.now self.now }
         ensures { result ≡ words_of config.now self.now.world }
     {
-        self.stack.words(config, self.mode_of(config))
+        self.stack.words()
     }
 
     /// The offset of the instant in the present round.

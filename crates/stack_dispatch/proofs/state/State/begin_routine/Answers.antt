@@ -16,8 +16,11 @@ use Rattle.stack_dispatch.proofs.state.State.begin_routine.Goals as goal
 pub invariant_of-self : goal.invariant_of-self
 invariant_of-self c =
     let osek = c.self.inside.osek in
-    subst (λ (codes : List (List Stmt)). IsSound codes osek × IsSettled (subsystem_of codes osek))
-    (sym (ap (λ (s : Stacked). s.codes) c.accept.ensures)) c.self.invariant
+    let codes = sym (ap (λ (s : Stacked). s.codes) c.accept.ensures) in (
+      subst (λ (ks : List (List Stmt)). IsSound ks osek) codes c.self.invariant.0,
+      subst (λ (ks : List (List Stmt)). IsSettled (subsystem_of ks osek)) codes c.self.invariant.1,
+      ap (λ (s : Stacked). s.words.mode) c.accept.ensures ∙ c.self.invariant.2,
+    )
 
 pub invariant_of-self-in-Oisr : goal.invariant_of-self-in-Oisr
 invariant_of-self-in-Oisr c =
@@ -37,6 +40,7 @@ invariant_of-self-in-Oisr c =
           (settled_begun _ n _ (λ none. oisr_some config c.requires.rules n exists
           (sym (oisr_begins config c.args.script.now st.beside is_for n exists) ∙ none))
           c.self.invariant.1),
+      c.self.invariant.2,
     )
 
 pub returns-in-Isr-clause-world : goal.returns-in-Isr-clause-world

@@ -5,11 +5,12 @@ use Rattle.tt_world.specs.declared.config.ConfigParts.{ConfigParts}
 use Rattle.tt_world.specs.declared.config.IsrDef.{IsrDef}
 use Rattle.tt_stack.specs.Stacked.{Stacked}
 use Rattle.isr_window.specs.Window.{new_window}
-use Rattle.round_end.specs.Round.{first_round}
+use Rattle.tt_stack.specs.Words.{Words}
+use Rattle.round_end.specs.Round.{Round, first_round}
 use Rattle.osek_idle.specs.Subsystem.{IsSettled}
 use Rattle.osek_idle.specs.Standing.{HaveOsek, IsSound, setup_for, setup_of, subsystem_of}
 use Rattle.stack_dispatch.specs.State.{bodies_of}
-use Rattle.stack_dispatch.proofs.Firsts.{have_osek, first_settled, first_view}
+use Rattle.stack_dispatch.proofs.Firsts.{have_osek, first_settled, first_view, words_first}
 use Rattle.stack_dispatch.proofs.state.State.new.Goals as goal
 
 pub new-osek-requires : goal.new-osek-requires
@@ -23,11 +24,13 @@ new-osek-requires c =
 
 pub invariant_of-result : goal.invariant_of-result
 invariant_of-result c =
-    let codes : c.new-3.result.codes ≡ c.in_ok-codes.codes = ap (λ (k : Stacked). k.codes) c.new-3.ensures in (
+    let codes : c.new-4.result.codes ≡ c.in_ok-codes.codes = ap (λ (k : Stacked). k.codes) c.new-4.ensures in (
       subst (λ (ks : List (List Stmt)). IsSound ks c.new-osek.result) (sym codes) c.new-osek.ensures.sound,
       subst (λ (ks : List (List Stmt)). IsSettled (subsystem_of ks c.new-osek.result)) (sym codes)
           (subst IsSettled (sym c.new-osek.ensures.state)
           (first_settled c.args.config.now c.parts-parts.ensures.rules)),
+      ap (λ (k : Stacked). k.words.mode) c.new-4.ensures ∙ ap (λ (ws : Words). ws.mode) c.in_ok-words.ensures
+          ∙ sym (ap (λ (r : Round). r.mode) c.new-3.ensures),
     )
 
 pub returns : goal.returns
@@ -37,22 +40,23 @@ returns c =
     let script = c.args.script.now in
     let tasks = ap length c.as_slice-4.ensures ∙ ap (λ (p : ConfigParts). length p.tasks) same in
     let isrs = ap length c.as_slice-5.ensures ∙ ap (λ (p : ConfigParts). length p.isrs) same in
-    let codes : c.new-3.result.codes ≡ c.in_ok-codes.codes = ap (λ (k : Stacked). k.codes) c.new-3.ensures in
-    first_view config script c.requires c.new-2.result c.in_ok-env.env c.new-3.result c.new-4.result
+    let codes : c.new-4.result.codes ≡ c.in_ok-codes.codes = ap (λ (k : Stacked). k.codes) c.new-4.ensures in
+    first_view config script c.requires c.new-3.result c.in_ok-env.env c.new-4.result c.new-5.result
     (setup_of c.new-osek.result)
-    (subsystem_of c.new-3.result.codes c.new-osek.result)
-    (c.new-2.ensures ∙ ap (first_round config script.start script.rounds) (c.in_ok-times.ensures ∙ c.as_slice.ensures))
+    (subsystem_of c.new-4.result.codes c.new-osek.result)
+    (c.new-3.ensures ∙ ap (first_round config script.start script.rounds) (c.in_ok-times.ensures ∙ c.as_slice.ensures))
     (c.in_ok-env.ensures ∙ ap (λ (p : ConfigParts). record {
       vars = p.vars;
       cursors = replicate (length p.demands) 0;
       demands = p.demands;
       values = script.values;
     }) same)
-    (c.new-3.ensures
+    (c.new-4.ensures
     ∙ ap (λ (ks : List (List Stmt)). record {
       codes = ks;
       first = length c.as_slice-4.result.now;
       levels = map (λ (isr : IsrDef). isr.level) c.as_slice-6.result.now;
+      words = c.in_ok-words.words;
       jobs = [];
       isrs = replicate (length c.as_slice-6.result.now) [];
     }) (c.in_ok-codes.ensures ∙ ap bodies_of same)
@@ -60,6 +64,7 @@ returns c =
       codes = bodies_of config;
       first = n;
       levels = map (λ (isr : IsrDef). isr.level) c.as_slice-6.result.now;
+      words = c.in_ok-words.words;
       jobs = [];
       isrs = replicate (length c.as_slice-6.result.now) [];
     }) tasks
@@ -67,10 +72,19 @@ returns c =
       codes = bodies_of config;
       first = length config.tasks;
       levels = map (λ (isr : IsrDef). isr.level) ds;
+      words = c.in_ok-words.words;
       jobs = [];
       isrs = replicate (length ds) [];
-    }) (c.as_slice-6.ensures ∙ ap (λ (p : ConfigParts). p.isrs) same))
-    (c.new-4.ensures
+    }) (c.as_slice-6.ensures ∙ ap (λ (p : ConfigParts). p.isrs) same)
+    ∙ ap (λ (ws : Words). record {
+      codes = bodies_of config;
+      first = length config.tasks;
+      levels = map (λ (isr : IsrDef). isr.level) config.isrs;
+      words = ws;
+      jobs = [];
+      isrs = replicate (length config.isrs) [];
+    }) (c.in_ok-words.ensures ∙ ap (λ (p : ConfigParts). words_first p script.start) same))
+    (c.new-5.ensures
     ∙ ap (λ (lists : List (List ℕ)). new_window (record { isrs = lists; oisrs = c.in_ok-oisrs.oisrs }))
     (c.in_ok-isrs.ensures ∙ c.as_slice-2.ensures)
     ∙ ap (λ (lists : List (List ℕ)). new_window (record { isrs = script.arrivals.isrs; oisrs = lists }))

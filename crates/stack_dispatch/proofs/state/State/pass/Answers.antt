@@ -4,7 +4,7 @@ use Rattle.tt_world.specs.Opening.{opening}
 use Rattle.stack_dispatch.specs.Told.{Tells}
 use Rattle.stack_dispatch.proofs.Begins.{few_over}
 use Rattle.stack_dispatch.proofs.Jumping.{can_jump, is_jump, jump_few, jump_foresees, jump_peaks, jump_sources, over_passes, passes_all, peaks_over, some_ticks}
-use Rattle.stack_dispatch.proofs.Opened.{can_tick, instant_over}
+use Rattle.stack_dispatch.proofs.Opened.{can_weigh, instant_over}
 use Rattle.stack_dispatch.proofs.RunEvents.{counted_jump, counted_opening, counting}
 use Rattle.stack_dispatch.proofs.Telling.{telling}
 use Rattle.stack_dispatch.proofs.state.State.pass.Goals as goal
@@ -22,15 +22,15 @@ returns-in-Some-clause-peaks g c = λ is.
     c.open_ahead.result c.in-Some.end c.requires.on_schedule c.tick-first.ensures c.in-Some.is
     c.open_ahead.ensures.gives.end_is is
 
-pub raise-requires-clause-mode : goal.raise-requires-clause-mode
-raise-requires-clause-mode g c =
+pub raise-requires : goal.raise-requires
+raise-requires g c =
     let can = c.requires.can in
-    (can_tick (telling g.R.Recorder) c.args.config.now c.args.script.now c.args.self.now.world
+    can_weigh (telling g.R.Recorder) c.args.config.now c.args.script.now c.args.self.now.world
     c.open_ahead.new.self.world _ _
     (subst (λ (o : Outcome). Gives
     (Tells g.R.Recorder) c.args.log.now c.open_ahead.new.log c.open_ahead.new.self.world o
     (opening c.args.config.now c.args.script.now c.args.self.now.world)) c.in_default.is c.open_ahead.ensures.gives)
-    can.served can.named c.open_ahead.new.self refl (c.open_ahead.ensures.fixed ∙ can.fixed) can.tick).mode
+    can.served can.named c.open_ahead.new.self refl (c.open_ahead.ensures.fixed ∙ can.fixed)
 
 pub jump_to-k-requires-clause-kept : goal.jump_to-k-requires-clause-kept
 jump_to-k-requires-clause-kept g c = c.open_ahead.ensures.fixed ∙ c.requires.can.fixed

@@ -1,4 +1,4 @@
-use Rattle.std.proofs.Common.{◌≡◌, ◌-◌, List, refl, sym, subst}
+use Rattle.std.proofs.Common.{◌≡◌, ◌-◌, List, refl, sym, ◌∙◌, subst}
 use Rattle.task_lang.specs.declared.syntax.Stmt.{Stmt}
 use Rattle.tt_world.specs.Runners.{left_of, owner_of, runner_of}
 use Rattle.osek_idle.specs.Standing.{IsSound, subsystem_of}
@@ -6,6 +6,7 @@ use Rattle.osek_idle.specs.Subsystem.{IsSettled}
 use Rattle.stack_dispatch.specs.Jumps.{CanWork, lessened_in}
 use Rattle.stack_dispatch.specs.State.{RunState}
 use Rattle.stack_dispatch.specs.Ticking.{CanTick}
+use Rattle.stack_dispatch.proofs.Weighed.{gave_mode}
 use Rattle.stack_dispatch.proofs.TakingAll.{took_seen, idle_bodies, idle_picked, idle_left_some, idle_within, idle_may, idle_took_all}
 use Rattle.stack_dispatch.proofs.state.State.take_in_idle_time.Goals as goal
 
@@ -89,6 +90,7 @@ invariant_of-self g c =
     let t = c.tick_in_idle_time in (
       subst (λ (k : List (List Stmt)). IsSound k t.new.osek) c.codes-codes.ensures t.ensures.sound,
       subst (λ (k : List (List Stmt)). IsSettled (subsystem_of k t.new.osek)) c.codes-codes.ensures t.ensures.settled,
+      c.self.invariant.2 ∙ sym (gave_mode t.ensures.gave),
     )
 
 pub returns-clause-took : goal.returns-clause-took
