@@ -6,9 +6,9 @@ use Rattle.std.proofs.Math.Seq.{get_or-append_seam, take-append_seam, take-lengt
 use Rattle.std.proofs.lemmas.Bool.Decides.{nat_tests}
 use Rattle.std.proofs.lemmas.List.Kept.{AllPairs-cons}
 use Rattle.std.proofs.lemmas.List.Quantifiers.{all_pairs_push}
-use Rattle.std.proofs.lemmas.List.Elements.{All-append}
+use Rattle.std.proofs.lemmas.List.Elements.{All-append, All-push}
 use Rattle.std.proofs.lemmas.List.Sums.{sum_by-cons, sum_by_push, sum_by-le}
-use Rattle.std.specs.Prelude.{All, AllPairs, Some, option_map, option_to_list, slice_get}
+use Rattle.std.specs.Prelude.{All, AllPairs, IfSome, Some, option_map, option_to_list, slice_get}
 use Rattle.std.proofs.lemmas.List.{take-append-le}
 use Rattle.std.specs.List.{insert, prefix_len, refill}
 use Rattle.task_machine.specs.declared.frame.Frame.{Frame}
@@ -161,6 +161,20 @@ slice_get_seam (y ∷ ys) x = slice_get_seam ys x
 
 pub last_is : (front : List StackFrame) (f : StackFrame) → last (front ++ f ∷ []) ≡ Some f
 last_is front f = ap (slice_get (front ++ f ∷ [])) (last_place front f) ∙ slice_get_seam front f
+
+-- the last frame has the highest level
+pub last_highest : (fs : List StackFrame) → IsByLevel fs
+    → IfSome (last fs) (λ top. All (λ (f : StackFrame). f.level ≤ top.level) fs)
+last_highest [] order = tt
+last_highest (x ∷ xs) order =
+    let (front, f, is) = ends x xs in
+    let P : StackFrame → Type 0 = λ g. g.level ≤ f.level in
+    let R : StackFrame → StackFrame → Type 0 = λ g later. g.level < later.level in
+    let lower = AllPairs-last R front f (subst IsByLevel is order) in
+    subst (λ (fs : List StackFrame). IfSome (last fs) (λ top. All (λ (g : StackFrame). g.level ≤ top.level) fs)) (sym is)
+    (subst (λ o. IfSome o (λ top. All (λ (g : StackFrame). g.level ≤ top.level) (front ++ f ∷ [])))
+    (sym (last_is front f))
+    (All-push P front f (λ k d l. let less = lower k d l in omega (arith, less)) (omega arith)))
 
 pub without_last_is : (front : List StackFrame) (f : StackFrame) → without_last (front ++ f ∷ []) ≡ front
 without_last_is front f =

@@ -5,7 +5,6 @@ use Rattle.tt_base.specs.declared.event.Owner.TheVariants as By
 use Rattle.tt_base.specs.declared.number.TaskNo.{TaskNo}
 use Rattle.tt_base.specs.declared.number.IsrNo.{IsrNo}
 use Rattle.task_machine.specs.declared.frame.Frame.{Frame}
-use Rattle.task_machine.specs.Standing.{work_begun}
 use Rattle.run_stack.specs.declared.stack.StackFrame.{StackFrame}
 use Rattle.run_stack.specs.declared.top.Top.{Top}
 
@@ -63,7 +62,7 @@ top_of s = by_top s.isrs (last s.isrs) (last s.tasks)
 
 -- what is seen of it
 abbrev pub seen : StackFrame → Top
-seen f = record { owner = f.owner; frame = f.frame; work_left = work_begun f.frame }
+seen f = record { owner = f.owner; frame = f.frame }
 
 -- an activated task
 abbrev pub with_task : StackFrame → Frames → Frames

@@ -154,7 +154,6 @@ impl RunStack {
         Some(Top {
             owner: top.owner,
             frame: top.frame,
-            work_left: top.frame.work_left(),
         })
     }
 

@@ -10,6 +10,4 @@ pub struct Top {
     pub owner: Owner,
     /// Where it is in its body.
     pub frame: Frame,
-    /// The ticks left of the `work` that its body has begun, 0 where it has begun none.
-    pub work_left: u64,
 }

@@ -52,7 +52,8 @@ none_kept p n (suc m) e j l u =
 -- ---- the own ticks of a round
 
 -- by whether the length of the round is fixed
-pub own_is : (r : Round) (latched : Option ℕ) → r.latched ≡ latched → next_own r ≡ next_own (record r { latched = latched })
+pub own_is : (r : Round) (latched : Option ℕ) → r.latched ≡ latched
+    → next_own r ≡ next_own (record r { latched = latched })
 own_is r latched e = ap (λ l. next_own (record r { latched = l })) e
 
 not_over : (r : Round) (latched : Option ℕ) (offset next : ℕ) → r.latched ≡ latched → next ≤ next_own r

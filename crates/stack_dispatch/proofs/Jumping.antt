@@ -171,7 +171,8 @@ module _ (c : ConfigParts) (s : ScriptParts) (t next : ℕ) (v : World) (b : Bes
         silent = opening_accepts c s later (nothing_due quietly c s st_later passes next foreseen.next idle)
             ∙ acceptances_silent c later (foreseen.none refl)
 
-        same_line : told_then k es line ++ (opened_then k es ++ run_line now (owner_of c now (runner_of c now))) ≡ es ++ line
+        same_line : told_then k es line ++ (opened_then k es ++ run_line now (owner_of c now (runner_of c now)))
+            ≡ es ++ line
         same_line = by_first k can refl
           where
             by_first : (j : ℕ) → CanWork (suc (suc j)) (runner_of c v) (left_of v (runner_of c v)) → j ≡ k
@@ -180,8 +181,8 @@ module _ (c : ConfigParts) (s : ScriptParts) (t next : ℕ) (v : World) (b : Bes
             by_first zero more e = refl
             by_first (suc j) more e =
                 let u = at_work c (suc j) v in
-                let less = fewer (suc (suc j)) (suc (suc (suc j))) (runner_of c v) (left_of v (runner_of c v)) (omega arith)
-                more in
+                let less = fewer (suc (suc j)) (suc (suc (suc j))) (runner_of c v) (left_of v (runner_of c v))
+                (omega arith) more in
                 let who : owner_of c u (runner_of c u) ≡ owner_of c v (runner_of c v) =
                 ap (owner_of c u) (work_runner c v (suc j) less) ∙ work_owner c v (suc j) less in
                 ap (λ (o : Owner). (es ++ line) ++ run_line u o) who
@@ -408,7 +409,8 @@ module _ {L : Type 0} {Told : L → List Event → L → Type 0} (telling : IsTe
       (jump_within (runner_of c st.world) (left_of st.world (runner_of c st.world)) (next - st.world.tick))
 
   can_work_all : CanWork (suc (k - 1)) (runner_of c st.world) (left_of st.world (runner_of c st.world))
-  can_work_all = subst (λ n. CanWork n (runner_of c st.world) (left_of st.world (runner_of c st.world))) one_less can_work
+  can_work_all = subst (λ n. CanWork n (runner_of c st.world) (left_of st.world (runner_of c st.world)))
+      one_less can_work
 
   reached_here : Reached c s t next st.world st.beside es 0
   unfolding t es
@@ -456,21 +458,23 @@ module _ {L : Type 0} {Told : L → List Event → L → Type 0} (telling : IsTe
           (last_gives c s t next st.world st.beside es (k - 1) can_work_all reached_last a d u over gives)
 
       -- the sources are those from the next tick on
-      pub jump_sources : (after : RunState) → after.world ≡ u → after.beside ≡ st.beside → HasSources c s (last + 1) after
+      pub jump_sources : (after : RunState) → after.world ≡ u → after.beside ≡ st.beside
+          → HasSources c s (last + 1) after
       jump_sources after is beside =
-          ticked_sources quietly c s (last + 1) (record { world = at_work c (k - 1) st.world; beside = st.beside }) after
-          tt tt (subst (λ w. Gives {L = Unit {0}} (λ _ _ _. Unit {0}) tt tt w None
+          ticked_sources quietly c s (last + 1)
+          (record { world = at_work c (k - 1) st.world; beside = st.beside }) after tt tt
+          (subst (λ w. Gives {L = Unit {0}} (λ _ _ _. Unit {0}) tt tt w None
           (step c s (at_work c (k - 1) st.world))) (sym is) last_goes_on) beside
-          (subst (λ n. HasSources c s (n + 1) (record { world = at_work c (k - 1) st.world; beside = st.beside })) last_number
-          reached_last.sources)
+          (subst (λ n. HasSources c s (n + 1) (record { world = at_work c (k - 1) st.world; beside = st.beside }))
+          last_number reached_last.sources)
 
       -- and it is known until when nothing is due
       pub jump_foresees : (after : RunState) (ended : Bool) → after.world ≡ u → after.beside ≡ st.beside
           → ended ≡ owner_ends c s (at_work c (k - 1) st.world)
           → Foresees c s after (record { next = next; ended = ended })
       jump_foresees after ended is beside ended_is =
-          foresees quietly c s (record { world = at_work c (k - 1) st.world; beside = st.beside }) after next ended tt tt
-          beside reached_last.can.started
+          foresees quietly c s (record { world = at_work c (k - 1) st.world; beside = st.beside }) after next ended
+          tt tt beside reached_last.can.started
           (subst (λ w. Gives {L = Unit {0}} (λ _ _ _. Unit {0}) tt tt w None
           (step c s (at_work c (k - 1) st.world))) (sym is) last_goes_on) ended_is reached_last.none reached_last.ahead
           reached_last.due

@@ -89,7 +89,8 @@ module _ (c : ConfigParts) (s : ScriptParts) (w : World) where
           (record w { vars = st.vars; cursors = st.cursors })).move)
           (tick_over who (is_somebody r && (effected c s r who st.effects st.left
           (record w { vars = st.vars; cursors = st.cursors })).ended))) state_is
-          ∙ undone_goes_on (worked_off 1 (left_of w r)) (is_somebody r && is_done (worked_off 1 (left_of w r))) not_ended
+          ∙ undone_goes_on (worked_off 1 (left_of w r)) (is_somebody r && is_done (worked_off 1 (left_of w r)))
+          not_ended
 
       works_not_ended : (is_somebody r && (runner_tick c s r who w).ended) ≡ false
       works_not_ended =

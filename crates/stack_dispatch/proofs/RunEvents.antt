@@ -92,8 +92,8 @@ module _ (c : ConfigParts) (s : ScriptParts) where
       let state = state_after c s u (left_of u r) in
       let line = run_line w who in
       let next = tick_over who (is_somebody r && tick.ended) in
-      let quiet = no_runs tick.move.events (effected_all NoRun hooks c s (λ _ _ _ _. refl) r who state.effects state.left
-      (record u { vars = state.vars; cursors = state.cursors })) in
+      let quiet = no_runs tick.move.events (effected_all NoRun hooks c s (λ _ _ _ _. refl) r who state.effects
+      state.left (record u { vars = state.vars; cursors = state.cursors })) in
       let one = runs_more line tick.move.events in
       let few = line_runs (not (ran_before w.last who)) (Run w.tick who) in
       let end = no_runs (next tick.move.world).events

@@ -126,7 +126,8 @@ module _ {L : Type 0} {Told : L → List Event → L → Type 0} (telling : IsTe
     unfolding jump
     jump_as = rw (owns, runs) refl
 
-    first : Gives Told a d v end (preceded (run_line w who) (runner_tick c s r who (lessened k r (waited k who w))).move)
+    first : Gives Told a d v end
+        (preceded (run_line w who) (runner_tick c s r who (lessened k r (waited k who w))).move)
     first = gives_after a b d (run_line w who) v end _ line t.gives
 
     -- where what follows ends the run, the ticks end
@@ -161,7 +162,8 @@ module _ {L : Type 0} {Told : L → List Event → L → Type 0} (telling : IsTe
         ≡ (is_somebody q && (runner_tick c s q (owner_of c w q) u).ended) = rw (owns, runs) refl in
         e ∙ ap (λ x. is_somebody r && x) t.ended_is ∙ same
         ∙ ap (λ (o : Owner). is_somebody q && (runner_tick c s q o u).ended) (sym (work_owner c w k can))
-        ∙ ap (λ (p : Runner). is_somebody p && (runner_tick c s p (owner_of c u p) u).ended) (sym (work_runner c w k can))
+        ∙ ap (λ (p : Runner). is_somebody p && (runner_tick c s p (owner_of c u p) u).ended)
+        (sym (work_runner c w k can))
 
 -- ---- while all ticks but the last are over
 

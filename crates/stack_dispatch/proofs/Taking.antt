@@ -117,7 +117,8 @@ effect_ends body now who r sub setup (effect.Service k ∷ rest) may e = ends_os
 
 -- ---- one who runs in idle time
 
-pub idle_left : (c : ConfigParts) (w : World) (sub : Subsystem) (r : Runner) → IsInIdleTime r → w.oseks ≡ lefts sub.tasks
+pub idle_left : (c : ConfigParts) (w : World) (sub : Subsystem) (r : Runner) → IsInIdleTime r
+    → w.oseks ≡ lefts sub.tasks
     → w.oisrs ≡ lefts sub.routines
     → left_of w r ≡ owner_left sub (Some (owner_of c w r))
 idle_left c w sub (runner.Oisr i) on a b = ap (λ (xs : List (List Stmt)). slice_index_or xs i.0 []) b

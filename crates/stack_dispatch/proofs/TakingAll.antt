@@ -1,4 +1,5 @@
--- Ticks of the one who runs that are taken at once: those of work are taken off, and the last is a tick of what is left.
+-- Ticks of the one who runs that are taken at once: those of work are taken off, and the last is a tick of what is
+-- left.
 use Rattle.std.proofs.Common.{ℕ, zero, suc, ◌≡◌, ◌≢◌, ◌≤◌, ◌-◌, List, [], Bool, true, false, Option, Some, refl, ap, sym, ◌∙◌, subst, arith, length, ⊎_elim}
 use Rattle.std.specs.Prelude.{ℤ, ◌↔◌, ◌||◌, IsSome, IsTrue, max, unwrap_or}
 use Rattle.std.proofs.lemmas.List.{set-set}

@@ -1,6 +1,6 @@
 -- The words of stack of a state, and the mode of its stack.
-use Rattle.std.proofs.Common.{ℕ, suc, ◌≡◌, ◌<◌, ◌≤◌, List, [], ◌∷◌, cond, Option, None, Some, refl, ap, sym, ◌∙◌, subst, arith, length, get_or}
-use Rattle.std.specs.Prelude.{map, slice_index_or, sum_by}
+use Rattle.std.proofs.Common.{ℕ, suc, ◌≡◌, ◌<◌, List, [], ◌∷◌, cond, Option, None, Some, refl, ap, ◌∙◌, arith, length, get_or}
+use Rattle.std.specs.Prelude.{slice_index_or, sum_by}
 use Rattle.std.proofs.Math.ListN.{get_or-map}
 use Rattle.std.proofs.lemmas.List.{get_or-map as get_or-map_within}
 use Rattle.std.proofs.lemmas.List.Sums.{sum_by-cons}
@@ -14,18 +14,16 @@ use Rattle.tt_base.specs.declared.event.Owner.{Owner}
 use Rattle.tt_base.specs.declared.number.ModeNo.{ModeNo}
 use Rattle.tt_world.specs.declared.config.ConfigParts.{ConfigParts}
 use Rattle.tt_world.specs.declared.config.IsrDef.{IsrDef}
-use Rattle.tt_world.specs.declared.config.ModeDef.{ModeDef}
 use Rattle.tt_world.specs.declared.world.Runner.{Runner}
 use Rattle.tt_world.specs.declared.world.Runner.TheVariants as runner
 use Rattle.tt_world.specs.Load.{isr_words, job_words, words_of}
 use Rattle.tt_world.specs.Rows.{mode_of, no_isr, no_mode, no_row, row_of}
 use Rattle.tt_world.specs.Runners.{is_done, job_at, no_job, unfinished}
-use Rattle.tt_world.specs.World.{Job}
 use Rattle.round_end.specs.Round.{Round, next_time, synced}
 use Rattle.osek_idle.specs.Subsystem.{Subsystem, owner_leaving}
 use Rattle.tt_services.specs.Performed.{performed}
 use Rattle.tt_stack.specs.Stacked.{Stacked, job_words as stacked_words, leaving_in, left_in, running, words_in}
-use Rattle.tt_stack.specs.Words.{Words, all_isr_words, entry_words, mode_words, routine_words, row_words}
+use Rattle.tt_stack.specs.Words.{entry_words, mode_words, routine_words, row_words}
 use Rattle.stack_dispatch.specs.declared.took.Taken.{Taken}
 use Rattle.stack_dispatch.specs.Effects.{GaveIdle, effected}
 use Rattle.stack_dispatch.specs.Served.{IsWeighed}
@@ -45,7 +43,8 @@ pub with_mode : (stack next : Stacked) (mode : ModeNo) → stack.words.mode ≡ 
     → next ≡ leaving_in (record stack { words = record stack.words { mode = mode } }) (running stack)
     (left_in next (running stack))
 with_mode stack next mode is others =
-    others ∙ ap (λ (s : Stacked). leaving_in s (running stack) (left_in next (running stack))) (same_stack stack mode is)
+    others ∙ ap (λ (s : Stacked). leaving_in s (running stack) (left_in next (running stack)))
+    (same_stack stack mode is)
 
 leaving_mode : (stack : Stacked) (r : Runner) (left : List Stmt)
     → (leaving_in stack r left).words.mode ≡ stack.words.mode

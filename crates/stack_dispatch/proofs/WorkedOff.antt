@@ -57,7 +57,8 @@ one_first (suc k) (front ∷ rest) l =
 
 module _ (supply : Supply) (vars : List ℤ) (cursors : List ℕ) where
   by_front : (left : List Stmt) (x : Stmt-F Stmt) (rest : List Stmt) → 1 ≤ work_of x
-      → tick_by supply (state_of left vars cursors []) x rest ≡ state_of (work_then (work_of x - 1) rest) vars cursors []
+      → tick_by supply (state_of left vars cursors []) x rest
+      ≡ state_of (work_then (work_of x - 1) rest) vars cursors []
   by_front left (Stmt-F.Work n) rest l = refl
   by_front left (Stmt-F.Take demand) rest l = absurd (omega arith)
   by_front left (Stmt-F.Set var expr) rest l = absurd (omega arith)
@@ -75,7 +76,8 @@ module _ (supply : Supply) (vars : List ℤ) (cursors : List ℕ) where
 
   -- ticks of work and then one are one tick of what the work leaves
   pub last_tick : (k : ℕ) (left : List Stmt) → suc k ≤ max 1 (work_in_front left)
-      → ticks supply (suc k) (state_of left vars cursors []) ≡ tick supply (state_of (worked_off k left) vars cursors [])
+      → ticks supply (suc k) (state_of left vars cursors [])
+      ≡ tick supply (state_of (worked_off k left) vars cursors [])
   unfolding ticks
   last_tick zero left l = refl
   last_tick (suc k) left l =

@@ -42,7 +42,8 @@ is_arrival c s now =
 -- mode at the offset, an arrival, the latch, or the round's end. The rows at offset 0 of the next round belong to the
 -- round's end
 abbrev pub is_due : ConfigParts → ScriptParts → World → Bool
-is_due c s w = not (is_free (offset_of w) (mode_of c w)) || (is_arrival c s w.tick || (is_latch c w || is_round_end c w))
+is_due c s w =
+    not (is_free (offset_of w) (mode_of c w)) || (is_arrival c s w.tick || (is_latch c w || is_round_end c w))
 
 -- something is due at a tick, if the round of this world is still the present one then
 abbrev pub IsDueAt : ConfigParts → ScriptParts → World → ℕ → Type 0

@@ -68,7 +68,8 @@ distinct_levels (x ∷ xs) (suc i) (suc j) distinct a b apart =
     (λ e. apart (omega (arith, e)))
 
 module _ (inside : Inside)
-    (k : AreKept inside.codes inside.first inside.levels.items inside.words inside.stack inside.entries.items inside.reached) where
+    (k : AreKept inside.codes inside.first inside.levels.items inside.words inside.stack inside.entries.items
+    inside.reached) where
   abbrev codes : List (List Stmt)
   codes = inside.codes
 

@@ -50,10 +50,11 @@ pub none_none : (s : Stacked) → IsSome (runner_in s) → runner_in s ≡ None 
 none_none s some none = none_is (runner_in s) none some
 
 module _ (inside : Inside)
-    (k : AreKept inside.codes inside.first inside.levels.items inside.words inside.stack inside.entries.items inside.reached)
+    (k : AreKept inside.codes inside.first inside.levels.items inside.words inside.stack inside.entries.items
+    inside.reached)
     (now : Stacked)
-    (is : stacked inside.codes inside.first inside.levels.items inside.words inside.stack inside.entries.items inside.reached
-    ≡ now) where
+    (is : stacked inside.codes inside.first inside.levels.items inside.words inside.stack inside.entries.items
+    inside.reached ≡ now) where
   abbrev codes : List (List Stmt)
   codes = inside.codes
 
@@ -88,7 +89,8 @@ module _ (inside : Inside)
 
   -- where no frame is on top, contracts see nobody run
   pub none_then : option_map seen (top_of s) ≡ None → runner_in now ≡ None
-  none_then so = ap runner_in (sym is) ∙ none_at codes first levels words reached s entries (shape s entries k.as_many) so
+  none_then so =
+      ap runner_in (sym is) ∙ none_at codes first levels words reached s entries (shape s entries k.as_many) so
 
   -- where contracts see one run, its frame is on top
   pub run_now : IsSome (runner_in now) → (top : Top) × Run top

@@ -193,7 +193,8 @@ impl TtStack {
 
         // The list, the variables, the cursors and the effect are those of k ticks of the list.
         ensures ticks { let who = running self.old in
-            state_of (left_in self.new who) env.new.vars env.new.cursors (option_to_list result.effect)
+            state_of (left_in self.new who) env.new.vars env.new.cursors
+            (option_to_list result.effect)
             ≡ ticks (supply_of env.old.demands env.old.values) k
             (state_of (left_in self.old who) env.old.vars env.old.cursors []) }
         ensures demands { env.new.demands ≡ env.old.demands }

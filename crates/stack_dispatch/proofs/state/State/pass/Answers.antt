@@ -97,7 +97,8 @@ returns-clause-sources g c = λ on.
     (c.runner-runner.ensures c.args.script.now (c.open_ahead.ensures.fixed ∙ c.requires.can.fixed))
     c.jump_to-k.ensures)
     c.step-ticked.new.log c.step-ticked.new.self.world c.step-ticked.result.end c.step-ticked.result.last
-    c.step-ticked.ensures.last c.step-ticked.ensures.gives (sym on) c.step-ticked.new.self refl c.step-ticked.ensures.beside
+    c.step-ticked.ensures.last c.step-ticked.ensures.gives (sym on) c.step-ticked.new.self refl
+    c.step-ticked.ensures.beside
 
 pub returns-clause-foresees : goal.returns-clause-foresees
 returns-clause-foresees g c = λ on.
@@ -112,8 +113,8 @@ returns-clause-foresees g c = λ on.
     (c.runner-runner.ensures c.args.script.now (c.open_ahead.ensures.fixed ∙ c.requires.can.fixed))
     c.jump_to-k.ensures)
     c.step-ticked.new.log c.step-ticked.new.self.world c.step-ticked.result.end c.step-ticked.result.last
-    c.step-ticked.ensures.last c.step-ticked.ensures.gives (sym on) c.step-ticked.new.self c.step-ticked.result.ended refl
-    c.step-ticked.ensures.beside c.step-ticked.ensures.ended
+    c.step-ticked.ensures.last c.step-ticked.ensures.gives (sym on) c.step-ticked.new.self c.step-ticked.result.ended
+    refl c.step-ticked.ensures.beside c.step-ticked.ensures.ended
 
 pub returns-clause-peaks : goal.returns-clause-peaks
 returns-clause-peaks g c = λ is.

@@ -12,7 +12,8 @@ owner-who-requires g c = c.requires.can.can.mode
 
 pub take-taken-requires-clause-within : goal.take-taken-requires-clause-within
 take-taken-requires-clause-within g c =
-    waits_within c.args.config.now c.args.script.now c.args.k c.requires.some c.args.self.now c.wait.new.self c.args.runner
+    waits_within c.args.config.now c.args.script.now c.args.k c.requires.some c.args.self.now c.wait.new.self
+    c.args.runner
     c.owner-who.result c.requires.runs c.owner-who.ensures c.wait.ensures.world c.wait.ensures.beside c.requires.can
 
 pub take-taken-requires-clause-can : goal.take-taken-requires-clause-can
@@ -22,12 +23,14 @@ take-taken-requires-clause-can g c =
 
 pub take-taken-requires-clause-runs : goal.take-taken-requires-clause-runs
 take-taken-requires-clause-runs g c =
-    waits_runs c.args.config.now c.args.script.now c.args.k c.requires.some c.args.self.now c.wait.new.self c.args.runner
+    waits_runs c.args.config.now c.args.script.now c.args.k c.requires.some c.args.self.now c.wait.new.self
+    c.args.runner
     c.owner-who.result c.requires.runs c.owner-who.ensures c.wait.ensures.world c.wait.ensures.beside c.requires.can
 
 pub take-taken-requires-clause-owns : goal.take-taken-requires-clause-owns
 take-taken-requires-clause-owns g c =
-    waits_owns c.args.config.now c.args.script.now c.args.k c.requires.some c.args.self.now c.wait.new.self c.args.runner
+    waits_owns c.args.config.now c.args.script.now c.args.k c.requires.some c.args.self.now c.wait.new.self
+    c.args.runner
     c.owner-who.result c.requires.runs c.owner-who.ensures c.wait.ensures.world c.wait.ensures.beside c.requires.can
 
 pub returns-in-Some-clause-gives : goal.returns-in-Some-clause-gives
@@ -35,7 +38,8 @@ returns-in-Some-clause-gives g c =
     let t = tick_from (telling g.R.Recorder) c.args.config.now c.args.script.now c.args.runner c.owner-who.result
     c.tell_run.new.log c.tell_did-end.new.log
     c.tell_did-end.new.self.world c.tell_did-end.result c.take-taken.result c.take-taken.new.self.world
-    _ (waits_took c.args.config.now c.args.script.now c.args.k c.requires.some c.args.self.now c.wait.new.self c.args.runner
+    _ (waits_took c.args.config.now c.args.script.now c.args.k c.requires.some c.args.self.now c.wait.new.self
+    c.args.runner
     c.owner-who.result c.requires.runs c.owner-who.ensures c.wait.ensures.world c.wait.ensures.beside c.requires.can
     c.take-taken.result c.take-taken.new.self.world c.take-taken.ensures.took) c.tell_did-end.ensures.gives in
     subst (λ (o : Outcome). Gives (Tells g.R.Recorder) c.args.log.now c.tell_did-end.new.log
@@ -51,7 +55,8 @@ end_tick-requires g c =
     let t = tick_from (telling g.R.Recorder) c.args.config.now c.args.script.now c.args.runner c.owner-who.result
     c.tell_run.new.log c.tell_did-end.new.log
     c.tell_did-end.new.self.world c.tell_did-end.result c.take-taken.result c.take-taken.new.self.world
-    _ (waits_took c.args.config.now c.args.script.now c.args.k c.requires.some c.args.self.now c.wait.new.self c.args.runner
+    _ (waits_took c.args.config.now c.args.script.now c.args.k c.requires.some c.args.self.now c.wait.new.self
+    c.args.runner
     c.owner-who.result c.requires.runs c.owner-who.ensures c.wait.ensures.world c.wait.ensures.beside c.requires.can
     c.take-taken.result c.take-taken.new.self.world c.take-taken.ensures.took) c.tell_did-end.ensures.gives in
     let same = step_room (telling g.R.Recorder) c.args.config.now c.args.script.now (c.args.k - 1) c.args.self.now.world
@@ -67,7 +72,8 @@ returns-clause-gives g c =
     let t = tick_from (telling g.R.Recorder) c.args.config.now c.args.script.now c.args.runner c.owner-who.result
     c.tell_run.new.log c.tell_did-end.new.log
     c.tell_did-end.new.self.world c.tell_did-end.result c.take-taken.result c.take-taken.new.self.world
-    _ (waits_took c.args.config.now c.args.script.now c.args.k c.requires.some c.args.self.now c.wait.new.self c.args.runner
+    _ (waits_took c.args.config.now c.args.script.now c.args.k c.requires.some c.args.self.now c.wait.new.self
+    c.args.runner
     c.owner-who.result c.requires.runs c.owner-who.ensures c.wait.ensures.world c.wait.ensures.beside c.requires.can
     c.take-taken.result c.take-taken.new.self.world c.take-taken.ensures.took) c.tell_did-end.ensures.gives in
     step_goes_on (telling g.R.Recorder) c.args.config.now c.args.script.now (c.args.k - 1) c.args.self.now.world
@@ -84,19 +90,23 @@ returns-in-Some-clause-ended g c =
     let t = tick_from (telling g.R.Recorder) c.args.config.now c.args.script.now c.args.runner c.owner-who.result
     c.tell_run.new.log c.tell_did-end.new.log
     c.tell_did-end.new.self.world c.tell_did-end.result c.take-taken.result c.take-taken.new.self.world
-    _ (waits_took c.args.config.now c.args.script.now c.args.k c.requires.some c.args.self.now c.wait.new.self c.args.runner
+    _ (waits_took c.args.config.now c.args.script.now c.args.k c.requires.some c.args.self.now c.wait.new.self
+    c.args.runner
     c.owner-who.result c.requires.runs c.owner-who.ensures c.wait.ensures.world c.wait.ensures.beside c.requires.can
     c.take-taken.result c.take-taken.new.self.world c.take-taken.ensures.took) c.tell_did-end.ensures.gives in
     ends_is (telling g.R.Recorder) c.args.config.now c.args.script.now (c.args.k - 1) c.args.self.now.world
     c.args.runner c.owner-who.result c.requires.runs c.owner-who.ensures
     c.args.log.now c.tell_run.new.log c.tell_did-end.new.log c.tell_run.ensures c.tell_did-end.new.self.world
-    c.tell_did-end.result c.take-taken.result.ended t (waits_work c.args.config.now c.args.script.now c.args.k c.requires.some c.args.self.now c.wait.new.self c.args.runner
+    c.tell_did-end.result c.take-taken.result.ended t
+    (waits_work c.args.config.now c.args.script.now c.args.k c.requires.some c.args.self.now c.wait.new.self
+    c.args.runner
     c.owner-who.result c.requires.runs c.owner-who.ensures c.wait.ensures.world c.wait.ensures.beside c.requires.can)
     c.somebody_ended-ended.result c.somebody_ended-ended.ensures
 
 pub returns-in-Some-clause-last : goal.returns-in-Some-clause-last
 returns-in-Some-clause-last g c =
-    waits_last c.args.config.now c.args.script.now c.args.k c.requires.some c.args.self.now c.wait.new.self c.args.runner
+    waits_last c.args.config.now c.args.script.now c.args.k c.requires.some c.args.self.now c.wait.new.self
+    c.args.runner
     c.owner-who.result c.requires.runs c.owner-who.ensures c.wait.ensures.world c.wait.ensures.beside c.requires.can
     c.tick-last.result c.tick-last.ensures
 
@@ -105,19 +115,23 @@ returns-clause-ended g c =
     let t = tick_from (telling g.R.Recorder) c.args.config.now c.args.script.now c.args.runner c.owner-who.result
     c.tell_run.new.log c.tell_did-end.new.log
     c.tell_did-end.new.self.world c.tell_did-end.result c.take-taken.result c.take-taken.new.self.world
-    _ (waits_took c.args.config.now c.args.script.now c.args.k c.requires.some c.args.self.now c.wait.new.self c.args.runner
+    _ (waits_took c.args.config.now c.args.script.now c.args.k c.requires.some c.args.self.now c.wait.new.self
+    c.args.runner
     c.owner-who.result c.requires.runs c.owner-who.ensures c.wait.ensures.world c.wait.ensures.beside c.requires.can
     c.take-taken.result c.take-taken.new.self.world c.take-taken.ensures.took) c.tell_did-end.ensures.gives in
     ends_is (telling g.R.Recorder) c.args.config.now c.args.script.now (c.args.k - 1) c.args.self.now.world
     c.args.runner c.owner-who.result c.requires.runs c.owner-who.ensures
     c.args.log.now c.tell_run.new.log c.tell_did-end.new.log c.tell_run.ensures c.tell_did-end.new.self.world
-    c.tell_did-end.result c.take-taken.result.ended t (waits_work c.args.config.now c.args.script.now c.args.k c.requires.some c.args.self.now c.wait.new.self c.args.runner
+    c.tell_did-end.result c.take-taken.result.ended t
+    (waits_work c.args.config.now c.args.script.now c.args.k c.requires.some c.args.self.now c.wait.new.self
+    c.args.runner
     c.owner-who.result c.requires.runs c.owner-who.ensures c.wait.ensures.world c.wait.ensures.beside c.requires.can)
     c.somebody_ended-ended.result c.somebody_ended-ended.ensures
 
 pub returns-clause-last : goal.returns-clause-last
 returns-clause-last g c =
-    waits_last c.args.config.now c.args.script.now c.args.k c.requires.some c.args.self.now c.wait.new.self c.args.runner
+    waits_last c.args.config.now c.args.script.now c.args.k c.requires.some c.args.self.now c.wait.new.self
+    c.args.runner
     c.owner-who.result c.requires.runs c.owner-who.ensures c.wait.ensures.world c.wait.ensures.beside c.requires.can
     c.tick-last.result c.tick-last.ensures
 

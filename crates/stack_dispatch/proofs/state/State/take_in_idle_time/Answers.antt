@@ -25,8 +25,8 @@ tick_in_idle_time-requires-clause-bodies g c =
     c.requires.runs in
     let owns = subst (λ (x : RunState). c.args.who ≡ owner_of c.args.config.now x.world c.args.runner)
     (sym c.self.view_is) c.requires.owns in
-    idle_bodies c.args.config.now c.args.script.now _ c.args.runner c.args.who c.args.k c.requires.some within can runs owns c.requires.in_idle_time
-    c.self.inside.osek refl refl refl
+    idle_bodies c.args.config.now c.args.script.now _ c.args.runner c.args.who c.args.k c.requires.some within can runs
+    owns c.requires.in_idle_time c.self.inside.osek refl refl refl
     c.self.invariant.1 c.codes-codes.result.now c.codes-codes.ensures
 
 pub tick_in_idle_time-requires-clause-picks : goal.tick_in_idle_time-requires-clause-picks
@@ -39,8 +39,8 @@ tick_in_idle_time-requires-clause-picks g c =
     c.requires.runs in
     let owns = subst (λ (x : RunState). c.args.who ≡ owner_of c.args.config.now x.world c.args.runner)
     (sym c.self.view_is) c.requires.owns in
-    idle_picked c.args.config.now c.args.script.now _ c.args.runner c.args.who c.args.k c.requires.some within can runs owns c.requires.in_idle_time
-    c.self.inside.osek refl refl refl
+    idle_picked c.args.config.now c.args.script.now _ c.args.runner c.args.who c.args.k c.requires.some within can runs
+    owns c.requires.in_idle_time c.self.inside.osek refl refl refl
     c.self.invariant.1 c.codes-codes.result.now c.codes-codes.ensures
 
 pub tick_in_idle_time-requires-clause-left : goal.tick_in_idle_time-requires-clause-left
@@ -53,8 +53,8 @@ tick_in_idle_time-requires-clause-left g c =
     c.requires.runs in
     let owns = subst (λ (x : RunState). c.args.who ≡ owner_of c.args.config.now x.world c.args.runner)
     (sym c.self.view_is) c.requires.owns in
-    idle_left_some c.args.config.now c.args.script.now _ c.args.runner c.args.who c.args.k c.requires.some within can runs owns
-    c.requires.in_idle_time c.self.inside.osek refl refl refl
+    idle_left_some c.args.config.now c.args.script.now _ c.args.runner c.args.who c.args.k c.requires.some within can
+    runs owns c.requires.in_idle_time c.self.inside.osek refl refl refl
     c.self.invariant.1 c.codes-codes.result.now c.codes-codes.ensures
 
 pub tick_in_idle_time-requires-clause-within : goal.tick_in_idle_time-requires-clause-within
@@ -67,8 +67,8 @@ tick_in_idle_time-requires-clause-within g c =
     c.requires.runs in
     let owns = subst (λ (x : RunState). c.args.who ≡ owner_of c.args.config.now x.world c.args.runner)
     (sym c.self.view_is) c.requires.owns in
-    idle_within c.args.config.now c.args.script.now _ c.args.runner c.args.who c.args.k c.requires.some within can runs owns
-    c.requires.in_idle_time c.self.inside.osek refl refl refl
+    idle_within c.args.config.now c.args.script.now _ c.args.runner c.args.who c.args.k c.requires.some within can runs
+    owns c.requires.in_idle_time c.self.inside.osek refl refl refl
     c.self.invariant.1 c.codes-codes.result.now c.codes-codes.ensures
 
 pub tick_in_idle_time-requires-clause-may : goal.tick_in_idle_time-requires-clause-may
@@ -81,8 +81,8 @@ tick_in_idle_time-requires-clause-may g c =
     c.requires.runs in
     let owns = subst (λ (x : RunState). c.args.who ≡ owner_of c.args.config.now x.world c.args.runner)
     (sym c.self.view_is) c.requires.owns in
-    idle_may c.args.config.now c.args.script.now _ c.args.runner c.args.who c.args.k c.requires.some within can runs owns c.requires.in_idle_time
-    c.self.inside.osek refl refl refl
+    idle_may c.args.config.now c.args.script.now _ c.args.runner c.args.who c.args.k c.requires.some within can runs
+    owns c.requires.in_idle_time c.self.inside.osek refl refl refl
     c.self.invariant.1 c.codes-codes.result.now c.codes-codes.ensures
 
 pub invariant_of-self : goal.invariant_of-self
@@ -105,7 +105,7 @@ returns-clause-took g c =
     (sym c.self.view_is) c.requires.owns in
     let t = c.tick_in_idle_time in
     took_seen c.args.config.now c.args.script.now (c.args.k - 1) c.args.runner _ c.args.self.now _ _ c.self.view_is
-    (idle_took_all c.args.config.now c.args.script.now _ c.args.runner c.args.who c.args.k c.requires.some within can runs owns c.requires.in_idle_time
-    c.self.inside.osek refl refl refl
+    (idle_took_all c.args.config.now c.args.script.now _ c.args.runner c.args.who c.args.k c.requires.some within can
+    runs owns c.requires.in_idle_time c.self.inside.osek refl refl refl
     c.self.invariant.1 c.codes-codes.result.now c.codes-codes.ensures
     t.new.env.vars t.new.env.cursors t.ensures.vars t.ensures.cursors t.result t.new.round t.new.osek t.ensures.gave)

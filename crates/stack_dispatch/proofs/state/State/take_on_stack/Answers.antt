@@ -24,7 +24,8 @@ advance-progress-requires-clause-runs g c =
     c.requires.runs in
     let owns = subst (λ (x : RunState). c.args.who ≡ owner_of c.args.config.now x.world c.args.runner)
     (sym c.self.view_is) c.requires.owns in
-    stack_is_running c.args.config.now c.args.script.now _ c.args.runner c.args.who c.args.k c.requires.some within can runs owns c.requires.on_stack
+    stack_is_running c.args.config.now c.args.script.now _ c.args.runner c.args.who c.args.k c.requires.some within can
+    runs owns c.requires.on_stack
 
 pub advance-progress-requires-clause-within : goal.advance-progress-requires-clause-within
 advance-progress-requires-clause-within g c =
@@ -36,7 +37,8 @@ advance-progress-requires-clause-within g c =
     c.requires.runs in
     let owns = subst (λ (x : RunState). c.args.who ≡ owner_of c.args.config.now x.world c.args.runner)
     (sym c.self.view_is) c.requires.owns in
-    stack_within c.args.config.now c.args.script.now _ c.args.runner c.args.who c.args.k c.requires.some within can runs owns c.requires.on_stack
+    stack_within c.args.config.now c.args.script.now _ c.args.runner c.args.who c.args.k c.requires.some within can
+    runs owns c.requires.on_stack
 
 pub do_effect-effected-requires-clause-may : goal.do_effect-effected-requires-clause-may
 do_effect-effected-requires-clause-may g c =
@@ -49,8 +51,9 @@ do_effect-effected-requires-clause-may g c =
     let owns = subst (λ (x : RunState). c.args.who ≡ owner_of c.args.config.now x.world c.args.runner)
     (sym c.self.view_is) c.requires.owns in
     let a = c.advance-progress in
-    let others = with_mode c.self.inside.stack a.new.self c.self.inside.round.mode c.self.invariant.2 a.ensures.others in
-    all_may c.args.config.now c.args.script.now _ c.args.runner c.args.who c.args.k c.requires.some within can runs owns c.requires.on_stack
+    let others = with_mode c.self.inside.stack a.new.self c.self.inside.round.mode c.self.invariant.2 a.ensures.others
+    in all_may c.args.config.now c.args.script.now _ c.args.runner c.args.who c.args.k c.requires.some within can runs
+    owns c.requires.on_stack
     a.new.self a.new.env.vars a.new.env.cursors (option_to_list a.result.effect) others a.ensures.ticks
 
 pub invariant_of-self : goal.invariant_of-self
@@ -64,7 +67,8 @@ invariant_of-self g c =
     let owns = subst (λ (x : RunState). c.args.who ≡ owner_of c.args.config.now x.world c.args.runner)
     (sym c.self.view_is) c.requires.owns in
     let a = c.advance-progress in
-    let others = with_mode c.self.inside.stack a.new.self c.self.inside.round.mode c.self.invariant.2 a.ensures.others in
+    let others = with_mode c.self.inside.stack a.new.self c.self.inside.round.mode c.self.invariant.2 a.ensures.others
+    in
     let d = c.do_effect-effected in
     let codes = c.codes-codes.result.now in
     let x : Effected = record {
@@ -74,7 +78,8 @@ invariant_of-self g c =
       ends = d.result.ends;
     } in (
       subst (λ (k : List (List Stmt)). IsSound k d.new.osek) c.codes-codes.ensures d.ensures.sound,
-      all_settled c.args.config.now c.args.script.now _ c.args.runner c.args.who c.args.k c.requires.some within can runs owns c.requires.on_stack
+      all_settled c.args.config.now c.args.script.now _ c.args.runner c.args.who c.args.k c.requires.some within can
+          runs owns c.requires.on_stack
           a.new.self a.new.env.vars a.new.env.cursors (option_to_list a.result.effect) others a.ensures.ticks
           c.self.inside.osek d.new.osek refl refl refl c.self.invariant.1 codes c.codes-codes.ensures x
           (parts_are (effected (task_body codes (setup_of c.self.inside.osek)) c.self.inside.tick c.args.who
@@ -100,7 +105,8 @@ returns-clause-took g c =
     let owns = subst (λ (x : RunState). c.args.who ≡ owner_of c.args.config.now x.world c.args.runner)
     (sym c.self.view_is) c.requires.owns in
     let a = c.advance-progress in
-    let others = with_mode c.self.inside.stack a.new.self c.self.inside.round.mode c.self.invariant.2 a.ensures.others in
+    let others = with_mode c.self.inside.stack a.new.self c.self.inside.round.mode c.self.invariant.2 a.ensures.others
+    in
     let d = c.do_effect-effected in
     let codes = c.codes-codes.result.now in
     let x : Effected = record {
@@ -110,7 +116,8 @@ returns-clause-took g c =
       ends = d.result.ends;
     } in
     took_seen c.args.config.now c.args.script.now (c.args.k - 1) c.args.runner _ c.args.self.now _ _ c.self.view_is
-    (all_took c.args.config.now c.args.script.now _ c.args.runner c.args.who c.args.k c.requires.some within can runs owns c.requires.on_stack
+    (all_took c.args.config.now c.args.script.now _ c.args.runner c.args.who c.args.k c.requires.some within can runs
+    owns c.requires.on_stack
     a.new.self a.new.env.vars a.new.env.cursors (option_to_list a.result.effect) others a.ensures.ticks
     c.self.inside.osek d.new.osek refl refl refl c.self.invariant.1 codes c.codes-codes.ensures x
     (parts_are (effected (task_body codes (setup_of c.self.inside.osek)) c.self.inside.tick c.args.who
