@@ -5,7 +5,10 @@ ghost use Rattle.tt_config.specs.Accept.{IfRule};
 ghost use Rattle.tt_config.specs.Broken.{broken_rule};
 ghost use Rattle.tt_config.specs.Document.{elaborated_of};
 ghost use Rattle.tt_config.specs.Parts.{config_of, script_of};
+ghost use Rattle.tt_parts.specs.Parts.{declarations_of};
 ghost use Rattle.tt_rows.specs.Sound.{AreSound};
+ghost use Rattle.tt_rules.specs.Document.{document_of};
+ghost use Rattle.tt_rules.specs.Table.{first_broken, first_rules};
 ghost use Rattle.tt_world.specs.ScriptRules.{IsScript};
 
 use crate::config::config_parts;
@@ -15,7 +18,7 @@ use crate::script::script_parts;
 use std::alloc::Global;
 use thiserror::Error;
 use tt_base::Memory;
-use tt_parts::declarations_of;
+use tt_parts::{Declarations, declarations_of};
 use tt_rows::{NumberedRow, Rows};
 use tt_rules::Broken;
 use tt_world::{Config, Script};
@@ -68,6 +71,50 @@ fn build_accepted(
     Ok(Accepted { config, script })
 }
 
+/// Refuses rows that break one of rules 1 to 8.
+fn keep_first(
+    alloc: Global,
+    rows: &[NumberedRow],
+    declared: &Declarations,
+) -> Result<(), AcceptFault>
+    requires { declared.now ≡ declarations_of rows.now }
+    ensures kept { OnOk result (None ≡ first_broken 1 first_rules (document_of rows.now)) }
+    ensures rule { IfErr result (λ fault. IfRule fault (λ rule. broken_rule rows.now ≡ Some rule)) }
+{
+    match first_broken(alloc, rows, declared)? {
+        None => Ok(()),
+        Some(Broken { number, line }) => Err(AcceptFault::Rule { number, line }),
+    }
+}
+
+/// Refuses rows that break one of rules 9 to 28, and none of those before.
+fn keep_later(alloc: Global, rows: &[NumberedRow], document: &Elaborated) -> Result<(), AcceptFault>
+    requires elaborated { document.now ≡ elaborated_of rows.now }
+    requires few { length rows.now < 2 ^ 32 }
+    requires first { None ≡ first_broken 1 first_rules (document_of rows.now) }
+    ensures kept { OnOk result (broken_rule rows.now ≡ None) }
+    ensures rule { IfErr result (λ fault. IfRule fault (λ rule. broken_rule rows.now ≡ Some rule)) }
+{
+    match later_broken(alloc, rows, document)? {
+        None => Ok(()),
+        Some(Broken { number, line }) => Err(AcceptFault::Rule { number, line }),
+    }
+}
+
+/// What rows say that break none of rules 1 to 8.
+fn elaborate_rows(alloc: Global, rows: &[NumberedRow]) -> Result<Elaborated, AcceptFault>
+    requires { AreSound rows.now }
+    ensures elaborated { IfOk result (λ document. document ≡ elaborated_of rows.now) }
+    ensures few { OnOk result (length rows.now < 2 ^ 32) }
+    ensures first { OnOk result (None ≡ first_broken 1 first_rules (document_of rows.now)) }
+    ensures rule { IfErr result (λ fault. IfRule fault (λ rule. broken_rule rows.now ≡ Some rule)) }
+{
+    let declared = declarations_of(alloc, rows)?;
+    keep_first(alloc, rows, &declared)?;
+    rows_are_few(rows);
+    Ok(elaborate(alloc, rows, declared)?)
+}
+
 /// Accepts borrowed rows.
 fn accept_rows(alloc: Global, rows: &[NumberedRow]) -> Result<Accepted, AcceptFault>
     requires { AreSound rows.now }
@@ -77,15 +124,8 @@ fn accept_rows(alloc: Global, rows: &[NumberedRow]) -> Result<Accepted, AcceptFa
     ensures script_rules { IfOk result (λ accepted. IsScript accepted.config accepted.script) }
     ensures rule { IfErr result (λ fault. IfRule fault (λ rule. broken_rule rows.now ≡ Some rule)) }
 {
-    let declared = declarations_of(alloc, rows)?;
-    if let Some(Broken { number, line }) = first_broken(alloc, rows, &declared)? {
-        return Err(AcceptFault::Rule { number, line });
-    }
-    rows_are_few(rows);
-    let document = elaborate(alloc, rows, declared)?;
-    if let Some(Broken { number, line }) = later_broken(alloc, rows, &document)? {
-        return Err(AcceptFault::Rule { number, line });
-    }
+    let document = elaborate_rows(alloc, rows)?;
+    keep_later(alloc, rows, &document)?;
     Ok(build_accepted(alloc, rows, document)?)
 }
 

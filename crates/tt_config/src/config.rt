@@ -3,6 +3,7 @@
 ghost use Rattle.std.specs.Prelude.{◌≡◌, IfOk};
 ghost use Rattle.tt_config.specs.Owners.{AreFit};
 ghost use Rattle.tt_config.specs.Parts.{config_with};
+ghost use Rattle.tt_config.specs.declared.document.Elaborated.{Elaborated};
 ghost use Rattle.tt_parts.specs.Located.{parts};
 
 use crate::document::Elaborated;
@@ -10,9 +11,9 @@ use crate::lists::{count_of, parts};
 use crate::owners::{Owners, first_body, owners_of};
 use crate::tables::modes_of;
 use std::alloc::Global;
-use task_lang::Vars;
-use tt_base::{Memory, NameKind};
-use tt_parts::At;
+use task_lang::{Demands, Vars};
+use tt_base::{Memory, NameKind, Names, Series};
+use tt_parts::{At, BodyPart, Declarations, Said};
 use tt_rules::{adjust_of, round_of};
 use tt_world::ConfigParts;
 
@@ -28,7 +29,25 @@ pub(crate) fn config_parts(alloc: Global, document: Elaborated) -> Result<Config
         demands,
         bodies,
     } = document;
-    let modes = count_of(declared.names.as_slice(), NameKind::Mode);
+    config_of(alloc, &declared, names, &said, demands, bodies)
+}
+
+/// The configuration that parts give. It borrows what it only reads, so that no way out drops that.
+fn config_of(
+    alloc: Global,
+    declared: &Declarations,
+    names: Names,
+    said: &Said,
+    demands: Demands,
+    bodies: Series<At<BodyPart>>,
+) -> Result<ConfigParts, Memory>
+    requires { AreFit demands bodies }
+    ensures { IfOk result (λ config. (d : Elaborated) → d.declared ≡ declared.now → d.names ≡ names
+        → d.said ≡ said.now → d.demands ≡ demands → d.bodies ≡ bodies → config ≡ config_with d) }
+{
+    let count = count_of(declared.names.as_slice(), NameKind::Mode);
+    let modes = modes_of(alloc, count, said.entries.as_slice())?;
+    let vars = vars_of(alloc, said.vars.as_slice())?;
     let Owners {
         tasks,
         isrs,
@@ -39,9 +58,9 @@ pub(crate) fn config_parts(alloc: Global, document: Elaborated) -> Result<Config
     } = owners_of(alloc, &demands, bodies)?;
     Ok(ConfigParts {
         names,
-        round: round_of(&declared),
-        adjust: adjust_of(&declared),
-        vars: vars_of(alloc, said.vars.as_slice())?,
+        round: round_of(declared),
+        adjust: adjust_of(declared),
+        vars,
         demands,
         tasks,
         isrs,
@@ -49,7 +68,7 @@ pub(crate) fn config_parts(alloc: Global, document: Elaborated) -> Result<Config
         oisrs,
         error_hook: first_body(alloc, error_hooks),
         shutdown_hook: first_body(alloc, shutdown_hooks),
-        modes: modes_of(alloc, modes, said.entries.as_slice())?,
+        modes,
     })
 }
 

@@ -4,8 +4,10 @@ ghost use Rattle.std.specs.Prelude.{◌≡◌, ◌≤◌, ◌<◌, ◌^◌, [], 
 ghost use Rattle.tt_base.specs.declared.names.NameKind.{NameKind};
 ghost use Rattle.tt_base.specs.Names.{count_of};
 ghost use Rattle.tt_config.specs.Document.{elaborated_of};
+ghost use Rattle.tt_parts.specs.Bodies.{bodies_of};
+ghost use Rattle.tt_parts.specs.Located.{parts};
 ghost use Rattle.tt_parts.specs.Names.{names_in};
-ghost use Rattle.tt_parts.specs.Parts.{declarations_of};
+ghost use Rattle.tt_parts.specs.Parts.{declarations_of, said_in};
 ghost use Rattle.tt_rules.specs.Document.{document_of};
 ghost use Rattle.tt_rules.specs.StructureRules.{lines_2, lines_3};
 ghost use Rattle.tt_rules.specs.Table.{first_broken, first_rules, later_rules};
@@ -50,6 +52,22 @@ pub(crate) fn first_broken(
     Ok(broken)
 }
 
+/// What rows say with the numbers of names: the parts, the demands and the bodies.
+fn said_with(
+    alloc: Global,
+    names: &Names,
+    rows: &[NumberedRow],
+) -> Result<(Said, Demands, Series<At<BodyPart>>), Memory>
+    ensures said { IfOk result (λ told. told.0 ≡ said_in names.now rows.now) }
+    ensures demands { IfOk result (λ told. told.1 ≡ parts (said_in names.now rows.now).demands) }
+    ensures bodies { IfOk result (λ told. told.2 ≡ bodies_of names.now rows.now) }
+{
+    let said = said_in(alloc, names, rows)?;
+    let demands = parts(alloc, said.demands.as_slice())?;
+    let bodies = bodies_of(alloc, names, rows)?;
+    Ok((said, demands, bodies))
+}
+
 /// What rows say. No kind has more than 1,024 names.
 pub(crate) fn elaborate(
     alloc: Global,
@@ -61,9 +79,7 @@ pub(crate) fn elaborate(
     ensures { IfOk result (λ document. document ≡ elaborated_of rows.now) }
 {
     let names = names_of(alloc, declared.names.as_slice())?;
-    let said = said_in(alloc, &names, rows)?;
-    let demands = parts(alloc, said.demands.as_slice())?;
-    let bodies = bodies_of(alloc, &names, rows)?;
+    let (said, demands, bodies) = said_with(alloc, &names, rows)?;
     Ok(Elaborated {
         declared,
         names,
