@@ -9,7 +9,7 @@ ghost use Rattle.task_machine.specs.Standing.{work_in_front};
 ghost use Rattle.tt_world.specs.Runners.{higher};
 ghost use Rattle.osek_idle.specs.Subsystem.{ready_numbers, left_in};
 ghost use Rattle.osek_idle.specs.Standing.{AreSound, states, slot_left};
-ghost use Rattle.osek_idle.specs.Slots.{priorities, frames, top_of};
+ghost use Rattle.osek_idle.specs.Slots.{first_of, priorities, frames, top_of};
 
 use task_machine::{Codes, Env, Frame, Progress, advance};
 use tt_base::{Ledger, Steps};
@@ -72,6 +72,33 @@ fn higher(slots: &[Slot], number: u16, other: Option<u16>) -> u16
                 number
             }
         }
+    }
+}
+
+/// The one of two numbers that runs before the other: that of the higher priority, of equals the
+/// lesser.
+pub(crate) fn first_of(slots: &[Slot], number: u16, other: Option<u16>) -> u16
+    ensures { result ≡ first_of (priorities slots.now) number other }
+{
+    match other {
+        None => number,
+        Some(other) => {
+            if other < number {
+                higher(slots, other, Some(number))
+            } else {
+                higher(slots, number, Some(other))
+            }
+        }
+    }
+}
+
+/// Whether there is a number, and it is this one.
+pub(crate) fn is_number(number: Option<u16>, this: u16) -> bool
+    ensures { IsTrue result ↔ (number ≡ Some this) }
+{
+    match number {
+        None => false,
+        Some(number) => number == this,
     }
 }
 

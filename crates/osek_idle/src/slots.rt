@@ -1,13 +1,15 @@
 //! The tasks or the routines of the subsystem, and which of them runs.
 
-ghost use Rattle.std.specs.Prelude.{◌≡◌, ◌≢◌, ◌≤◌, ◌+◌, ◌↔◌, List, [], length, max, None, Some, IsTrue, option_to_list, slice_index_or, slice_set};
+ghost use Rattle.std.specs.Prelude.{◌≡◌, ◌≢◌, ◌<◌, ◌≤◌, ◌+◌, ◌↔◌, List, [], length, max, None, Some, IsTrue, option_to_list, slice_index_or, slice_set};
 ghost use Rattle.task_lang.specs.declared.syntax.Stmt.{Stmt};
 ghost use Rattle.task_lang.specs.Tick.{supply_of, state_of, ticks};
 ghost use Rattle.task_machine.specs.Standing.{work_in_front};
 ghost use Rattle.osek_idle.specs.Slots.{priorities, frames, top_of};
 ghost use Rattle.osek_idle.specs.Standing.{AreSound, states, slot_left};
 
-use crate::slot::{Slot, advance_slot, frame_at, highest, set_frame, slot_work_left};
+use crate::slot::{
+    Slot, advance_slot, first_of, frame_at, highest, is_number, set_frame, slot_work_left,
+};
 use arrayvec::ArrayVec;
 use std::marker::Model;
 use task_machine::{Codes, Env, Frame, Progress};
@@ -18,8 +20,8 @@ use tt_base::{Ledger, Steps};
 #[derive(Drop)]
 pub(crate) struct Slots {
     slots: ArrayVec<Slot, 32>,
-    /// Of those that have a frame, the one of the highest priority. It is looked for again only
-    /// where a frame comes or goes.
+    /// Of those that have a frame, the one of the highest priority. All are searched for it only
+    /// where its own frame goes.
     top: Option<u16>,
 }
 
@@ -66,13 +68,25 @@ impl Slots {
         frame_at(self.slots.as_slice(), number)
     }
 
-    /// Gives a number a frame, or none. All others keep theirs.
-    pub(crate) fn set_frame(&mut self, number: u16, frame: Option<Frame>)
+    /// Gives a number a frame. All others keep theirs.
+    pub(crate) fn begin(&mut self, number: u16, frame: Frame)
+        requires { number < length self.old }
         ensures priorities { priorities self.new ≡ priorities self.old }
-        ensures frames { frames self.new ≡ slice_set (frames self.old) number frame }
+        ensures frames { frames self.new ≡ slice_set (frames self.old) number (Some frame) }
     {
-        set_frame(self.slots.as_mut_slice(), number, frame);
-        self.top = highest(self.slots.as_slice());
+        set_frame(self.slots.as_mut_slice(), number, Some(frame));
+        self.top = Some(first_of(self.slots.as_slice(), number, self.top));
+    }
+
+    /// Takes the frame of a number, if it has one. All others keep theirs.
+    pub(crate) fn end(&mut self, number: u16)
+        ensures priorities { priorities self.new ≡ priorities self.old }
+        ensures frames { frames self.new ≡ slice_set (frames self.old) number None }
+    {
+        set_frame(self.slots.as_mut_slice(), number, None);
+        if is_number(self.top, number) {
+            self.top = highest(self.slots.as_slice());
+        }
     }
 
     /// The ticks left of the `work` at the front of the frame of a number; 0 where there is none.

@@ -122,8 +122,7 @@ impl Osek {
     {
         let first = codes.number_after(self.first, self.tasks.len() as u16);
         let program = codes.number_after(first, oisr.0);
-        self.routines
-            .set_frame(oisr.0, Some(Frame::start(codes, program)));
+        self.routines.begin(oisr.0, Frame::start(codes, program));
     }
 
     /// Whether a routine is unfinished.
@@ -190,7 +189,8 @@ impl Osek {
 
         // The list, the variables, the cursors and the effect are those of k ticks of the list.
         ensures ticks { let who = picked (setup_of self.old) (subsystem_of codes.now self.old) in
-            state_of (owner_left (subsystem_of codes.now self.new) who) env.new.vars env.new.cursors (option_to_list result.effect)
+            state_of (owner_left (subsystem_of codes.now self.new) who) env.new.vars
+            env.new.cursors (option_to_list result.effect)
             ≡ ticks (supply_of env.old.demands env.old.values) k
             (state_of (owner_left (subsystem_of codes.now self.old) who) env.old.vars
             env.old.cursors []) }
@@ -302,7 +302,7 @@ impl Osek {
         ensures state { (codes : List (List Stmt))
             → subsystem_of codes self.new ≡ gone oisr.0 (subsystem_of codes self.old) }
     {
-        self.routines.set_frame(oisr.0, None);
+        self.routines.end(oisr.0);
     }
 
     /// Whether a task is not suspended.
@@ -323,8 +323,7 @@ impl Osek {
             (subsystem_of codes.now self.old) }
     {
         let program = codes.number_after(self.first, task.0);
-        self.tasks
-            .set_frame(task.0, Some(Frame::start(codes, program)));
+        self.tasks.begin(task.0, Frame::start(codes, program));
     }
 
     fn suspend(&mut self, task: OsekNo)
@@ -334,7 +333,7 @@ impl Osek {
         ensures state { (codes : List (List Stmt))
             → subsystem_of codes self.new ≡ suspended task.0 (subsystem_of codes self.old) }
     {
-        self.tasks.set_frame(task.0, None);
+        self.tasks.end(task.0);
     }
 }
 

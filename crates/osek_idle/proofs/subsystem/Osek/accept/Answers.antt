@@ -21,6 +21,6 @@ returns-clause-state c =
       c.number_after-first.ensures,
       c.len.ensures.value,
     ) in
-    with_routines _ _ _ (states_are codes (frames c.set_frame.new.self)
-    (frames osek.routines) c.args.oisr.0 (Some c.start.result) c.set_frame.ensures.frames
+    with_routines _ _ _ (states_are codes (frames c.begin.new.self)
+    (frames osek.routines) c.args.oisr.0 (Some c.start.result) c.begin.ensures.frames
     ∙ ap (λ l. slice_set old c.args.oisr.0 (Some l)) (c.start.ensures.whole.left ∙ ap (body_of codes) number))

@@ -10,7 +10,7 @@ pub returns-clause-state : goal.returns-clause-state
 returns-clause-state c =
     let codes = c.args.codes.now in
     let old = states codes (frames c.args.self.now.tasks) in
-    with_tasks _ _ _ (states_are codes (frames c.set_frame.new.self)
-    (frames c.args.self.now.tasks) c.args.task.0 (Some c.start.result) c.set_frame.ensures.frames
+    with_tasks _ _ _ (states_are codes (frames c.begin.new.self)
+    (frames c.args.self.now.tasks) c.args.task.0 (Some c.start.result) c.begin.ensures.frames
     ∙ ap (λ l. slice_set old c.args.task.0 (Some l))
     (c.start.ensures.whole.left ∙ ap (body_of codes) c.number_after-program.ensures))
