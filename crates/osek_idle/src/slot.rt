@@ -16,7 +16,7 @@ use tt_base::{Ledger, Steps};
 
 /// A task or a routine: its priority (a larger number is a higher one) and its frame. A suspended
 /// task has no frame, and neither has a finished routine.
-#[derive(Clone, Copy, Debug, Default)]
+#[derive(Clone, Copy, Default)]
 pub(crate) struct Slot {
     pub(crate) priority: u8,
     pub(crate) frame: Option<Frame>,

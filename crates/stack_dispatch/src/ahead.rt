@@ -3,7 +3,7 @@
 use tt_base::Tick;
 
 /// How far the runner sees ahead.
-#[derive(Clone, Copy, Debug)]
+#[derive(Clone, Copy)]
 pub(crate) struct Ahead {
     /// Nothing is due at a tick from the present one on up to below this one.
     pub(crate) next: Tick,

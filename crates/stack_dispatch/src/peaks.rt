@@ -8,7 +8,7 @@ use crate::state::State;
 use tt_world::ConfigParts;
 
 /// The greatest depth and the most words of stack of the instants so far that took a tick.
-#[derive(Clone, Copy, Debug, PartialEq, Eq)]
+#[derive(Clone, Copy)]
 pub(crate) struct Peaks {
     /// How many activations and time-triggered routines were unfinished at once.
     pub(crate) deepest: u64,

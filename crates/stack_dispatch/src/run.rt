@@ -21,7 +21,7 @@ use tt_base::{Ledger, Steps, Tick};
 use tt_world::{ConfigParts, RunEnd, ScriptParts};
 
 /// How a run ended, and its results besides its events.
-#[derive(Clone, Copy, Debug, PartialEq, Eq)]
+#[derive(Clone, Copy)]
 pub(crate) struct Last {
     pub(crate) end: RunEnd,
     /// The tick of the last event.

@@ -48,7 +48,7 @@ fn is_shutdown(call: Call) -> bool
 }
 
 /// What followed from the effect of a tick.
-#[derive(Clone, Copy, Debug, PartialEq, Eq)]
+#[derive(Clone, Copy)]
 struct Effected {
     did: Did,
     /// Whether a service has ended its caller.

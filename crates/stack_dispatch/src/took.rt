@@ -4,7 +4,7 @@ use tt_base::{Call, Tick};
 use tt_world::RunEnd;
 
 /// What the tick of the one who runs did besides the ticks of its body.
-#[derive(Clone, Copy, Debug, PartialEq, Eq)]
+#[derive(Clone, Copy)]
 pub(crate) enum Did {
     Nothing,
     /// It output a value.
@@ -14,7 +14,7 @@ pub(crate) enum Did {
 }
 
 /// The ticks of the one who runs.
-#[derive(Clone, Copy, Debug, PartialEq, Eq)]
+#[derive(Clone, Copy)]
 pub(crate) struct Taken {
     pub(crate) did: Did,
     /// Whether the one who ran has ended.
@@ -22,7 +22,7 @@ pub(crate) struct Taken {
 }
 
 /// What the ticks of the one who runs give.
-#[derive(Clone, Copy, Debug, PartialEq, Eq)]
+#[derive(Clone, Copy)]
 pub(crate) struct Ticked {
     /// How they end the run, if they do.
     pub(crate) end: Option<RunEnd>,
@@ -33,7 +33,7 @@ pub(crate) struct Ticked {
 }
 
 /// Instants that were passed.
-#[derive(Clone, Copy, Debug, PartialEq, Eq)]
+#[derive(Clone, Copy)]
 pub(crate) struct Passed {
     /// How they end the run, if they do.
     pub(crate) end: Option<RunEnd>,

@@ -4,7 +4,7 @@ use task_lang::Op;
 use tt_base::{Call, DemandNo, VarNo};
 
 /// One term of an expression.
-#[derive(Clone, Copy, Debug, PartialEq, Eq)]
+#[derive(Clone, Copy)]
 pub enum Term {
     /// A number.
     Const(i32),
@@ -15,7 +15,7 @@ pub enum Term {
 }
 
 /// One instruction. Where it has an expression, the terms follow it in prefix form.
-#[derive(Clone, Copy, Debug, PartialEq, Eq)]
+#[derive(Clone, Copy)]
 pub enum Instr {
     /// This many ticks of computing.
     Work(u64),

@@ -27,7 +27,7 @@ pub struct Progress {
 }
 
 /// Where a tick leads, before places that take no time are passed, and what it does.
-#[derive(Clone, Copy, Debug, PartialEq, Eq)]
+#[derive(Clone, Copy)]
 struct Step {
     place: usize,
     effect: Option<Effect>,

@@ -24,7 +24,7 @@ use tt_rules::{
 };
 
 /// What the rows of a document say.
-#[derive(Debug, Drop)]
+#[derive(Drop)]
 pub(crate) struct Elaborated {
     pub declared: Declarations,
     pub names: Names,

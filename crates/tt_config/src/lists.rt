@@ -37,7 +37,7 @@ pub(crate) fn count_of(names: &[At<NameEntry>], kind: NameKind) -> usize
 }
 
 /// Lists, numbered from 0.
-#[derive(Debug, Drop)]
+#[derive(Drop)]
 pub(crate) struct Lists<T> {
     lists: Vec<Series<T>>,
 }

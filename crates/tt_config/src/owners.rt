@@ -15,7 +15,7 @@ use tt_parts::{At, BodyPart, Owner};
 use tt_world::{IsrDef, OisrDef, OsekDef, TaskDef};
 
 /// What has a body.
-#[derive(Debug, Drop)]
+#[derive(Drop)]
 pub(crate) struct Owners {
     pub tasks: Series<TaskDef>,
     pub isrs: Series<IsrDef>,

@@ -45,7 +45,7 @@ pub struct BodyPart {
 
 /// The statements of a body or a block from some row on, up to an `else` in between, and the
 /// statements after that `else`.
-#[derive(Debug, Drop)]
+#[derive(Drop)]
 struct Block {
     first: FrontList<Stmt>,
     second: FrontList<Stmt>,

@@ -4,7 +4,7 @@ ghost use Rattle.std.specs.Prelude.{◌≡◌};
 ghost use Rattle.tt_read.specs.Keywords.{keyword_of, keyword_text};
 
 /// A word of the language: the first word of a row, or one between its fields.
-#[derive(Clone, Copy, Debug, PartialEq, Eq)]
+#[derive(Clone, Copy)]
 pub enum Keyword {
     Osektime,
     One,
