@@ -1,8 +1,8 @@
 //! What needs no number of a name: the round, and the names.
 
-ghost use Rattle.std.specs.Prelude.{◌≡◌, IfOk};
+ghost use Rattle.std.specs.Prelude.{◌≡◌, IfOk, OnOk};
 ghost use Rattle.tt_parts.specs.Entries.{adjust_in, round_in};
-ghost use Rattle.tt_parts.specs.Parts.{declarations_of, first_line};
+ghost use Rattle.tt_parts.specs.Parts.{declarations_of, declared_then, first_line, none_declared};
 
 use crate::located::{At, put};
 use crate::naming::declared_in;
@@ -50,22 +50,38 @@ fn adjust_in(row: &Row) -> Option<u64>
     }
 }
 
+/// Nothing declared so far, in rows the first of which has this line. It takes no memory.
+fn none_declared(alloc: Global, first: u32) -> Declarations
+    ensures { result ≡ none_declared first }
+{
+    Declarations {
+        first,
+        rounds: Series::new(alloc),
+        adjusts: Series::new(alloc),
+        names: Series::new(alloc),
+    }
+}
+
+/// Appends what a row declares to what the rows above it declare.
+fn put_declared(row: &NumberedRow, declared: &mut Declarations) -> Result<(), Memory>
+    ensures { OnOk result (declared.new ≡ declared_then row.now declared.old) }
+{
+    let line = row.line;
+    let row = &row.row;
+    match row {
+        Row::Round(_) => put(&mut declared.rounds, line, round_in(row)),
+        Row::Adjust(_) => put(&mut declared.adjusts, line, adjust_in(row)),
+        _ => put(&mut declared.names, line, declared_in(row)),
+    }
+}
+
 /// What rows say that needs no number of a name, in one pass.
 pub fn declarations_of(alloc: Global, rows: &[NumberedRow]) -> Result<Declarations, Memory>
     ensures { IfOk result (λ d. d ≡ declarations_of rows.now) }
 {
-    let mut rounds = Series::new(alloc);
-    let mut adjusts = Series::new(alloc);
-    let mut names = Series::new(alloc);
+    let mut declared = none_declared(alloc, first_line(rows));
     for row in rows {
-        put(&mut rounds, row.line, round_in(&row.row))?;
-        put(&mut adjusts, row.line, adjust_in(&row.row))?;
-        put(&mut names, row.line, declared_in(&row.row))?;
+        put_declared(row, &mut declared)?;
     }
-    Ok(Declarations {
-        first: first_line(rows),
-        rounds,
-        adjusts,
-        names,
-    })
+    Ok(declared)
 }

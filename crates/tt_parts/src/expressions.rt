@@ -1,6 +1,6 @@
 //! Expressions by their words in prefix form.
 
-ghost use Rattle.std.specs.Prelude.{◌≡◌, IfOk, OnOk};
+ghost use Rattle.std.specs.Prelude.{◌≡◌, [], ◌∷◌, IfOk, OnOk};
 ghost use Rattle.tt_parts.specs.Bodies.{expression_of, operator_then, term_then};
 
 use crate::front_list::FrontList;
@@ -11,9 +11,31 @@ use task_lang::{Expr, Op};
 use tt_base::{Memory, Names, VarNo};
 use tt_rows::Term;
 
-/// Terms as an expression, in time that is linear in the terms times a look-up. Terms are read from
-/// the last to the first, so that an operator finds its two expressions after it.
+/// Terms as an expression, in time that is linear in the terms times a look-up. A term alone, as
+/// most expressions are, takes no memory.
 pub(crate) fn expression_of(alloc: Global, names: &Names, terms: &[Term]) -> Result<Expr, Memory>
+    ensures { IfOk result (λ expr. expr ≡ expression_of names.now terms.now) }
+{
+    match terms {
+        [term] => Ok(expression_of_one(names, *term)),
+        _ => expression_of_many(alloc, names, terms),
+    }
+}
+
+/// A term as an expression. An operator without expressions after it counts as 0.
+fn expression_of_one(names: &Names, term: Term) -> Expr
+    ensures { result ≡ expression_of names.now (term ∷ []) }
+{
+    match term {
+        Term::Int(value) => Expr::Const(value),
+        Term::Name(name) => Expr::Var(VarNo(number_named(names, name))),
+        Term::Op(_) => Expr::Const(0),
+    }
+}
+
+/// Terms as an expression. They are read from the last to the first, so that an operator finds its
+/// two expressions after it.
+fn expression_of_many(alloc: Global, names: &Names, terms: &[Term]) -> Result<Expr, Memory>
     ensures { IfOk result (λ expr. expr ≡ expression_of names.now terms.now) }
 {
     let mut rest = FrontList::new(alloc);

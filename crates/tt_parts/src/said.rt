@@ -3,7 +3,7 @@
 ghost use Rattle.std.specs.Prelude.{◌≡◌, [], ◌++◌, IfOk, OnOk};
 ghost use Rattle.tt_parts.specs.Entries.{arrival_in, activates, demand_in, entry_in, rounds_in, start_in, time_in, value_in, var_in};
 ghost use Rattle.tt_parts.specs.Located.{at_then};
-ghost use Rattle.tt_parts.specs.Parts.{said_in};
+ghost use Rattle.tt_parts.specs.Parts.{nothing_said, said_in, said_then};
 
 use crate::entries::{Arrival, Entry, Value};
 use crate::located::{At, put};
@@ -146,36 +146,51 @@ fn time_in(row: &Row) -> Option<u64>
     }
 }
 
+/// Nothing said. It takes no memory.
+fn nothing_said(alloc: Global) -> Said
+    ensures { result ≡ nothing_said }
+{
+    Said {
+        vars: Series::new(alloc),
+        demands: Series::new(alloc),
+        entries: Series::new(alloc),
+        starts: Series::new(alloc),
+        counts: Series::new(alloc),
+        values: Series::new(alloc),
+        arrivals: Series::new(alloc),
+        times: Series::new(alloc),
+    }
+}
+
+/// Appends what a row says to what the rows above it say. A row adds to one list at most,
+/// and a row of a body to none.
+fn put_said(names: &Names, row: &NumberedRow, said: &mut Said) -> Result<(), Memory>
+    ensures { OnOk result (said.new ≡ said_then names.now row.now said.old) }
+{
+    let line = row.line;
+    let row = &row.row;
+    match row {
+        Row::Var(_, _) => put(&mut said.vars, line, var_in(row)),
+        Row::Demand(_, _, _) => put(&mut said.demands, line, demand_in(row)),
+        Row::AtStringent(_, _, _, _) | Row::AtNonstringent(_, _, _, _) | Row::AtEnable(_, _, _) => {
+            put(&mut said.entries, line, entry_in(names, row))
+        }
+        Row::Start(_) => put(&mut said.starts, line, start_in(names, row)),
+        Row::Rounds(_) => put(&mut said.counts, line, rounds_in(row)),
+        Row::Value(_, _) => put(&mut said.values, line, value_in(names, row)),
+        Row::Arrive(_, _) => put(&mut said.arrivals, line, arrival_in(names, row)),
+        Row::Time(_) => put(&mut said.times, line, time_in(row)),
+        _ => Ok(()),
+    }
+}
+
 /// What rows say besides the round, names and bodies, in one pass.
 pub fn said_in(alloc: Global, names: &Names, rows: &[NumberedRow]) -> Result<Said, Memory>
     ensures { IfOk result (λ said. said ≡ said_in names.now rows.now) }
 {
-    let mut vars = Series::new(alloc);
-    let mut demands = Series::new(alloc);
-    let mut entries = Series::new(alloc);
-    let mut starts = Series::new(alloc);
-    let mut counts = Series::new(alloc);
-    let mut values = Series::new(alloc);
-    let mut arrivals = Series::new(alloc);
-    let mut times = Series::new(alloc);
+    let mut said = nothing_said(alloc);
     for row in rows {
-        put(&mut vars, row.line, var_in(&row.row))?;
-        put(&mut demands, row.line, demand_in(&row.row))?;
-        put(&mut entries, row.line, entry_in(names, &row.row))?;
-        put(&mut starts, row.line, start_in(names, &row.row))?;
-        put(&mut counts, row.line, rounds_in(&row.row))?;
-        put(&mut values, row.line, value_in(names, &row.row))?;
-        put(&mut arrivals, row.line, arrival_in(names, &row.row))?;
-        put(&mut times, row.line, time_in(&row.row))?;
+        put_said(names, row, &mut said)?;
     }
-    Ok(Said {
-        vars,
-        demands,
-        entries,
-        starts,
-        counts,
-        values,
-        arrivals,
-        times,
-    })
+    Ok(said)
 }

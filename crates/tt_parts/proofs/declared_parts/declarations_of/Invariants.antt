@@ -1,11 +1,8 @@
 use Rattle.std.proofs.Common.{◌≡◌, take}
-use Rattle.tt_parts.specs.Located.{each_at}
-use Rattle.tt_parts.specs.Entries.{adjust_in, round_in}
-use Rattle.tt_parts.specs.Names.{declared_in}
+use Rattle.tt_parts.specs.Parts.{declarations_of, first_line}
 use Rattle.tt_parts.proofs.declared_parts.declarations_of.Given as goal
 
--- the parts of the rows so far
+-- what the rows so far declare
 abbrev pub invariant-loop-row : goal.invariant-loop-row
-invariant-loop-row l =
-    (l.rounds ≡ each_at round_in (take l.row-index l.rows)) × (l.adjusts ≡ each_at adjust_in (take l.row-index l.rows))
-    × (l.names ≡ each_at declared_in (take l.row-index l.rows))
+invariant-loop-row l = l.declared
+    ≡ record (declarations_of (take l.row-index l.rows)) { first = first_line l.rows }

@@ -1,6 +1,6 @@
 use Rattle.std.proofs.Common.{◌∙◌}
 use Rattle.tt_parts.proofs.Terms.{terms_first, terms_more, terms_last}
-use Rattle.tt_parts.proofs.expressions.expression_of.Goals as goal
+use Rattle.tt_parts.proofs.expressions.expression_of_many.Goals as goal
 
 pub loop-term-init : goal.loop-term-init
 loop-term-init c = terms_first c.args.names.now c.args.terms.now c.new-rest.result c.new-rest.ensures
