@@ -1,4 +1,5 @@
 pub mod Located
+pub mod FrontLends
 pub mod Structure
 pub mod Names
 pub mod Bodies

@@ -189,11 +189,10 @@ fn put_end(alloc: Global, blocks: &mut Blocks) -> Result<(), Memory>
 fn put_statement(stmt: Stmt, blocks: &mut Blocks) -> Result<(), Memory>
     ensures { OnOk result (blocks.new ≡ statement_then stmt blocks.old) }
 {
-    let Some(mut inner) = blocks.pop_front() else {
-        return Ok(());
-    };
-    inner.first.push_front(stmt)?;
-    blocks.push_front(inner)
+    match blocks.front_mut() {
+        None => Ok(()),
+        Some(inner) => inner.first.push_front(stmt),
+    }
 }
 
 /// Reads an `else`: what follows is the second branch.

@@ -1,7 +1,9 @@
 //! A list that grows at its front.
 
 ghost use Rattle.std.specs.Prelude.{◌≡◌, [], ◌∷◌, IfOk, OnOk, MatchOption, slice_get};
-ghost use Rattle.std.specs.Option.{option_copied};
+ghost use Rattle.std.specs.Option.{option_copied, option_copied_mut};
+ghost use Rattle.std.specs.Borrow.{sem};
+ghost use Rattle.tt_parts.specs.FrontLends.{LendsFront};
 
 use std::alloc::Global;
 use std::marker::Model;
@@ -44,6 +46,14 @@ impl<T> FrontList<T> {
         ensures { option_copied result ≡ slice_get self.now 0 }
     {
         self.reversed.last()
+    }
+
+    /// The front item, to be changed there.
+    pub(crate) fn front_mut(&mut self) -> Option<&mut T>
+        ensures* lends { sem 𝓛 (LendsFront T.row self.entry result) }
+        ensures value { option_copied_mut result ≡ slice_get self.old 0 }
+    {
+        self.reversed.last_mut()
     }
 
     /// Takes the front item.
