@@ -87,9 +87,6 @@ module _ (demands : List Demand) (mosts : AreMostsInRange demands) where
       one_below ticks depth (omega arith)
   level (Stmt-F.Take demand) depth nested numbers =
       one_below (1 + most_of (slice_get demands demand.0)) depth (omega (arith, most_small demands demand.0 mosts))
-  level (Stmt-F.Set var expr) depth nested numbers = one_below 1 depth (omega arith)
-  level (Stmt-F.Out expr) depth nested numbers = one_below 1 depth (omega arith)
-  level (Stmt-F.Service call) depth nested numbers = one_below 1 depth (omega arith)
   level (Stmt-F.If expr first second) zero nested numbers = absurd (omega arith)
   level (Stmt-F.If expr first second) (suc depth) nested numbers =
       let passed = all_true (map (each_of is_number_in_range) (map (λ (p : Below). p.0) first)) in
@@ -102,6 +99,7 @@ module _ (demands : List Demand) (mosts : AreMostsInRange demands) where
       let few : turns ≤ 65535 = from_nat_le turns 65535 (and_right (nat_le 1 turns) _ (and_left range _ numbers)) in
       let inner = body_below body depth (omega arith) (and_right range _ numbers) in
       repeat_bound turns _ _ (cap depth) few inner (omega (arith, cap_some depth))
+  level y depth nested numbers = one_below 1 depth (omega arith)
 
   stmt_below : (stmt : Stmt) → IsBelow stmt
   stmt_below = ind-Stmt IsBelow (λ x y is depth nested numbers.

@@ -91,7 +91,6 @@ lowers_by supply state (Stmt-F.Work ticks) rest keeps range =
 lowers_by supply state (Stmt-F.Take demand) rest keeps range =
     let used = slice_index state.cursors demand.0 in
     omega (arith, worst-work_then supply.demands (given supply demand.0 used) rest, keeps demand.0 used)
-lowers_by supply state (Stmt-F.Set var expr) rest keeps range = omega arith
 lowers_by supply state (Stmt-F.If expr first second) rest keeps range =
     let body = branch (value_of state.vars expr) first second in
     let lowers : worst_in supply.demands (body ++ rest) + 1
@@ -112,19 +111,13 @@ lowers_by supply state (Stmt-F.Repeat turns body) rest keeps range =
     )
     (one_turn turns (worst_in supply.demands body) (worst_in supply.demands rest) some) in
     lowers
-lowers_by supply state (Stmt-F.Out expr) rest keeps range = omega arith
-lowers_by supply state (Stmt-F.Service call) rest keeps range = omega arith
+lowers_by supply state front rest keeps range = omega arith
 
 -- The test of a number doesn't look inside.
 front_range : (front : Stmt-F Stmt) (inside : Stmt → Bool)
     → is_number_in_range (map-Stmt Stmt Bool inside front) ≡ is_number_in_range front
 front_range (Stmt-F.Work ticks) inside = refl
-front_range (Stmt-F.Take demand) inside = refl
-front_range (Stmt-F.Set var expr) inside = refl
-front_range (Stmt-F.If expr first second) inside = refl
-front_range (Stmt-F.Repeat turns body) inside = refl
-front_range (Stmt-F.Out expr) inside = refl
-front_range (Stmt-F.Service call) inside = refl
+front_range front inside = refl
 
 -- what a test of each statement says of an opened statement
 opened : (test : Stmt-F Bool → Bool) (stmt : Stmt) → each_of test stmt ≡ true
@@ -195,7 +188,6 @@ module _ (test : Stmt-F Bool → Bool) where
   keeps_by supply state (Stmt-F.Take demand) rest lasts here inside there =
       let used = slice_index state.cursors demand.0 in
       each-work_then (given supply demand.0 used) rest (λ m is. lasts.take demand used m is here) there
-  keeps_by supply state (Stmt-F.Set var expr) rest lasts here inside there = there
   keeps_by supply state (Stmt-F.If expr first second) rest lasts here inside there =
       let one = each_in test first in
       each-append (branch (value_of state.vars expr) first second) rest
@@ -205,8 +197,7 @@ module _ (test : Stmt-F Bool → Bool) where
       (each-repeat_then (turns - 1) body rest
       (λ m is. lasts.repeat m (map (each_of test) body)
       (subst (λ n. test (Stmt-F.Repeat n (map (each_of test) body)) ≡ true) (omega arith) here)) inside there)
-  keeps_by supply state (Stmt-F.Out expr) rest lasts here inside there = there
-  keeps_by supply state (Stmt-F.Service call) rest lasts here inside there = there
+  keeps_by supply state front rest lasts here inside there = there
 
   keeps_list : (supply : Supply) (state : State) (list : List Stmt) → LastsThroughTicks supply test
       → state.left ≡ list → each_in test list ≡ true → each_in test (tick_list supply state list).left ≡ true

@@ -26,12 +26,7 @@ module _ (kind : OwnerKind) (supply : Supply) (vars : List ℤ) (cursors : List 
       → is_allowed kind (map-Stmt Stmt Bool (each_of (is_allowed kind)) front) ≡ true
       → EffectsAllowed kind (tick_by supply (state_of left vars cursors []) front rest).effects
   tick_allowed left (Stmt-F.Service k) rest h = (h, tt)
-  tick_allowed left (Stmt-F.Out expr) rest h = tt
-  tick_allowed left (Stmt-F.Work n) rest h = tt
-  tick_allowed left (Stmt-F.Take demand) rest h = tt
-  tick_allowed left (Stmt-F.Set var expr) rest h = tt
-  tick_allowed left (Stmt-F.If expr first second) rest h = tt
-  tick_allowed left (Stmt-F.Repeat n body) rest h = tt
+  tick_allowed left front rest h = tt
 
   -- a tick of a list that is allowed calls what is allowed
   pub effects_allowed : (left : List Stmt) → each_in (is_allowed kind) left ≡ true

@@ -219,12 +219,7 @@ module _ (c : ConfigParts) (s : ScriptParts) (rules : IsConfig c) where
       (map-Stmt Stmt Bool (each_of (has_callee (length c.modes) (length c.oseks))) front) ≡ true
       → EffectsNamed (tick_by (supply_of c.demands s.values) (state_of left w.vars w.cursors []) front rest).effects
   tick_named left w (Stmt-F.Service k) rest h = (h, tt)
-  tick_named left w (Stmt-F.Out expr) rest h = tt
-  tick_named left w (Stmt-F.Work n) rest h = tt
-  tick_named left w (Stmt-F.Take demand) rest h = tt
-  tick_named left w (Stmt-F.Set var expr) rest h = tt
-  tick_named left w (Stmt-F.If expr first second) rest h = tt
-  tick_named left w (Stmt-F.Repeat n body) rest h = tt
+  tick_named left w front rest h = tt
 
   pub effects_named : {kind : OwnerKind} (w : World) (left : List Stmt) → IsRunnable c kind left
       → EffectsNamed (state_after c s w left).effects
