@@ -15,20 +15,10 @@ least_none : (lines : List ℕ) → least_line lines ≡ None → lines ≡ []
 least_none [] is = refl
 least_none (line ∷ lines) is = absurd (least_some line (least_line lines) is)
 
-broken_first : (number : ℕ) (line : Option ℕ) (later : Option Broken) → broken_or number line later ≡ None → line ≡ None
-broken_first number None later is = refl
-broken_first number (Some line) later is = cc
-
-broken_later : (number : ℕ) (line : Option ℕ) (later : Option Broken) → broken_or number line later ≡ None
-    → later ≡ None
-broken_later number None later is = is
-broken_later number (Some line) later is = cc
-
-none_then : (number : ℕ) (line : Option ℕ) (first all rest : Option Broken) → broken_or number line first ≡ None
-    → (first ≡ None → all ≡ rest)
-    → broken_or number line all ≡ rest
-none_then number (Some line) first all rest kept later = cc
-none_then number None first all rest kept later = later kept
+broken_none : (number : ℕ) (line : Option ℕ) (later : Option Broken) → broken_or number line later ≡ None
+    → (line ≡ None) × (later ≡ None)
+broken_none number None later is = (refl, is)
+broken_none number (Some line) later is = cc
 
 some_then : (number : ℕ) (line : Option ℕ) (first all : Option Broken) (broken : Broken)
     → broken_or number line first ≡ Some broken
@@ -42,18 +32,18 @@ module _ (d : Document) where
   kept number [] is zero = refl
   kept number [] is (suc n) = refl
   kept number (rule ∷ rules) is zero =
-      least_none (rule d) (broken_first number (least_line (rule d)) (first_broken (number + 1) rules d) is)
+      least_none (rule d) (broken_none number (least_line (rule d)) (first_broken (number + 1) rules d) is).0
   kept number (rule ∷ rules) is (suc n) =
-      kept (number + 1) rules (broken_later number (least_line (rule d)) (first_broken (number + 1) rules d) is) n
+      kept (number + 1) rules (broken_none number (least_line (rule d)) (first_broken (number + 1) rules d) is).1 n
 
   -- where none of the first rules is broken, the first broken rule is that of the others
   pub join_none : (number : ℕ) (first others : List Rule) → first_broken number first d ≡ None
       → first_broken number (first ++ others) d ≡ first_broken (number + length first) others d
   join_none number [] others kept = ap (λ n. first_broken n others d) (omega arith)
   join_none number (rule ∷ first) others kept =
-      none_then number (least_line (rule d)) (first_broken (number + 1) first d)
-      (first_broken (number + 1) (first ++ others) d) (first_broken (number + length (rule ∷ first)) others d) kept
-      (λ later. join_none (number + 1) first others later ∙ ap (λ n. first_broken n others d) (omega arith))
+      let none = broken_none number (least_line (rule d)) (first_broken (number + 1) first d) kept in
+      ap (λ line. broken_or number line (first_broken (number + 1) (first ++ others) d)) none.0
+      ∙ join_none (number + 1) first others none.1 ∙ ap (λ n. first_broken n others d) (omega arith)
 
   -- where one of the first rules is broken, it is the first broken rule
   pub join_some : (number : ℕ) (first others : List Rule) (broken : Broken) → first_broken number first d ≡ Some broken

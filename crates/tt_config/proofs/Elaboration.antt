@@ -27,12 +27,7 @@ use Rattle.tt_config.proofs.SoundBodies.{tellable}
 
 most_small : (kind : NameKind) → most_of kind ≤ 1024
 most_small Kind.Mode = omega arith
-most_small Kind.Var = omega arith
-most_small Kind.Demand = omega arith
-most_small Kind.Task = omega arith
-most_small Kind.Isr = omega arith
-most_small Kind.Osek = omega arith
-most_small Kind.Oisr = omega arith
+most_small kind = omega arith
 
 module _ (rows : List NumberedRow) where
   -- what the rules that need no number of a name say about what is elaborated next

@@ -13,7 +13,7 @@ use Rattle.tt_base.specs.declared.names.NameEntry.{NameEntry}
 use Rattle.tt_base.specs.declared.names.NameKind.TheVariants as Kind
 use Rattle.tt_base.specs.Names.{count_of}
 use Rattle.task_lang.specs.declared.syntax.Op.{Op}
-use Rattle.task_lang.specs.declared.syntax.Op.TheVariants.{Add, Sub, Mul, Less, AtMost, Same, Differ}
+use Rattle.task_lang.specs.declared.syntax.Op.TheVariants.{Add}
 use Rattle.task_lang.specs.declared.syntax.Expr.{Expr}
 use Rattle.task_lang.specs.Limits.{terms_of, terms_step, reads_only, reads_step}
 use Rattle.task_lang.specs.Opening.{fold-Const, fold-Var, fold-Bin}
@@ -78,12 +78,7 @@ some_name (first ∷ rest) is = omega arith
 
 some_op : (op : Op) → 1 ≤ length (op_word op)
 some_op Add = omega arith
-some_op Sub = omega arith
-some_op Mul = omega arith
-some_op Less = omega arith
-some_op AtMost = omega arith
-some_op Same = omega arith
-some_op Differ = omega arith
+some_op op = omega arith
 
 some_word : (t : Term) → is_sound_term t ≡ true → 1 ≤ length (term_word t)
 some_word (term.Int (pos n)) sound = omega (arith, decimal_nonempty n (some_number n sound))

@@ -31,21 +31,11 @@ same_itself kind = eq-eqb (index_of kind) (index_of kind) refl
 
 kind_of-declared : (kind : NameKind) (number : ℕ) → kind_of (declared kind number) ≡ kind
 kind_of-declared Kind.Mode number = refl
-kind_of-declared Kind.Var number = refl
-kind_of-declared Kind.Demand number = refl
-kind_of-declared Kind.Task number = refl
-kind_of-declared Kind.Isr number = refl
-kind_of-declared Kind.Osek number = refl
-kind_of-declared Kind.Oisr number = refl
+kind_of-declared kind number = refl
 
 number_of-declared : (kind : NameKind) (number : ℕ) → number_of (declared kind number) ≡ number
 number_of-declared Kind.Mode number = refl
-number_of-declared Kind.Var number = refl
-number_of-declared Kind.Demand number = refl
-number_of-declared Kind.Task number = refl
-number_of-declared Kind.Isr number = refl
-number_of-declared Kind.Osek number = refl
-number_of-declared Kind.Oisr number = refl
+number_of-declared kind number = refl
 
 -- the number of an entry is below the count of its kind
 below : (names : List NameEntry) (place : ℕ) (entry : NameEntry) → slice_get names place ≡ Some entry

@@ -3,7 +3,6 @@ pub mod Rows
 pub mod Known
 pub mod Counted
 pub mod Expressions
-pub mod BodyTests
 pub mod Limits
 pub mod SoundBodies
 pub mod Distinct

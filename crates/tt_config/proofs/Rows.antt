@@ -1,40 +1,39 @@
--- What the rules on single rows say of the parts that rows give.
-use Rattle.std.proofs.Common.{◌≡◌, Bool, true, List, [], ◌∷◌, Option, Some, None}
+-- What the rules on single rows say of the heads and the parts that rows give.
+use Rattle.std.proofs.Common.{◌≡◌, ℕ, Bool, true, List, [], ◌∷◌, Option, Some, None, refl}
+use Rattle.std.specs.Prelude.{codes, nat_lt, IfSome}
 use Rattle.std.specs.List.{AllByRecursion as Each, list_all}
-use Rattle.std.proofs.lemmas.Bool.{and_parts}
+use Rattle.std.proofs.lemmas.Bool.{and_from, and_parts, lt-ltb}
+use Rattle.task_lang.specs.Limits.{is_expression_short, has_variables, has_demand, has_callee}
+use Rattle.tt_base.specs.declared.names.NameKind.{NameKind}
+use Rattle.tt_base.specs.declared.names.NameKind.TheVariants as Kind
 use Rattle.tt_base.specs.declared.names.NameEntry.{NameEntry}
+use Rattle.tt_base.specs.Name.{is_name}
+use Rattle.tt_base.specs.Names.{count_of}
 use Rattle.tt_rows.specs.declared.row.Row.{Row}
+use Rattle.tt_rows.specs.declared.row.Row.TheVariants as r
 use Rattle.tt_rows.specs.declared.row.NumberedRow.{NumberedRow}
-use Rattle.tt_rows.specs.Sound.{AreSound, is_sound_row}
+use Rattle.tt_rows.specs.Sound.{AreSound, is_sound_item, is_sound_row}
+use Rattle.tt_rows.specs.Spelling.{items_of}
 use Rattle.tt_parts.specs.declared.located.At.{At}
 use Rattle.tt_parts.specs.declared.bodies.Owner.{Owner}
 use Rattle.tt_parts.specs.declared.bodies.BodyPart.{BodyPart}
-use Rattle.tt_parts.specs.Located.{at_then, each_at, parts}
-use Rattle.tt_parts.specs.Bodies.{owner_in, body_of, bodies_of, branches_from}
-use Rattle.tt_parts.specs.Names.{names_in}
-use Rattle.tt_rules.specs.BodyRules.{are_names_declared, lines_14}
+use Rattle.tt_parts.specs.Located.{each_at, parts}
+use Rattle.tt_parts.specs.Bodies.{Branches, owner_in, body_of, bodies_of, branches_from, head_of}
+use Rattle.tt_parts.specs.Names.{names_in, number_named}
+use Rattle.tt_parts.proofs.EachAt.{each_then}
+use Rattle.tt_rules.specs.BodyRules.{are_names_declared, is_declared, lines_14, uses}
 use Rattle.tt_rules.specs.DeclarationRules.{has_numbers_in_range, lines_9}
-use Rattle.tt_rules.specs.Document.{rows_at}
-use Rattle.tt_rules.specs.Shapes.{Every}
-use Rattle.tt_rules.proofs.Each.{each_from_all, each_weaker, each_both}
-use Rattle.tt_rules.proofs.Kept.{kept_one}
+use Rattle.tt_rules.proofs.Each.{each_from_all, each_map, each_weaker, each_both}
+use Rattle.tt_rules.proofs.Kept.{EachRow, each_row}
+use Rattle.tt_rules.proofs.SoundBodies.{Passes, passes}
+use Rattle.tt_config.proofs.Expressions.{last_sound, reads-expression_of, short-last}
+use Rattle.tt_config.proofs.Known.{number_below}
 
 -- a row that a document can have, whose numbers are in range and whose names are declared
 pub record IsRowFit (names : List NameEntry) (row : Row) : Type 0 where
   pub numbers : has_numbers_in_range row ≡ true
   pub known : are_names_declared names row ≡ true
   pub sound : is_sound_row row ≡ true
-
--- a fact for each row
-abbrev pub EachRow : (Row → Type 0) → List NumberedRow → Type 0
-EachRow P rows = Each (λ (row : NumberedRow). P row.row) rows
-
-pub each_row : (test : Row → Bool) (rows : List NumberedRow) → list_all test (parts (rows_at rows)) ≡ true
-    → EachRow (λ row. test row ≡ true) rows
-each_row test [] is = tt
-each_row test (row ∷ rows) is =
-    let both = and_parts (test row.row) (list_all test (parts (rows_at rows))) is in
-    (both.0, each_row test rows both.1)
 
 -- 9, 14. Rows that break neither rule.
 pub rows_fit : (rows : List NumberedRow) → AreSound rows → lines_9 rows ≡ [] → lines_14 (names_in rows) rows ≡ []
@@ -46,36 +45,82 @@ rows_fit rows sound is_9 is_14 =
     let S = λ (row : NumberedRow). is_sound_row row.row ≡ true in
     each_weaker (λ row. N row × (K row × S row)) (λ row. IsRowFit (names_in rows) row.row)
     (λ row h. record { numbers = h.0; known = h.1.0; sound = h.1.1 }) rows
-    (each_both N (λ row. K row × S row) rows
-    (each_row has_numbers_in_range rows (kept_one 1 (Every has_numbers_in_range) (rows_at rows) is_9))
-    (each_both K S rows (each_row known rows (kept_one 1 (Every known) (rows_at rows) is_14))
+    (each_both N (λ row. K row × S row) rows (each_row has_numbers_in_range rows is_9)
+    (each_both K S rows (each_row known rows is_14)
     (each_from_all (λ (row : NumberedRow). is_sound_row row.row) rows sound.sound)))
 
--- a fact for a part, if there is one
-abbrev pub IfPart : {A : Type 0} → (A → Type 0) → Option A → Type 0
-IfPart P None = Unit {0}
-IfPart P (Some part) = P part
+-- ---- parts
 
 module _ {A : Type 0} (P : A → Type 0) (Q : Row → Type 0) (part_of : Row → Option A)
-    (gives : (row : Row) → Q row → IfPart P (part_of row)) where
+    (gives : (row : Row) → Q row → IfSome (part_of row) P) where
+  each_located : (rows : List NumberedRow) → EachRow Q rows → Each (λ (x : At A). P x.part) (each_at part_of rows)
+  each_located [] h = tt
+  each_located (row ∷ rows) h = each_then P row.line (part_of row.row) (each_at part_of rows) (gives row.row h.0)
+      (each_located rows h.1)
+
   -- what holds of each part, where each row gives it
   pub each_part : (rows : List NumberedRow) → EachRow Q rows → Each P (parts (each_at part_of rows))
-  each_part [] h = tt
-  each_part (row ∷ rows) h = by (part_of row.row) (gives row.row h.0) (each_part rows h.1) where
-    by : (o : Option A) → IfPart P o → Each P (parts (each_at part_of rows))
-        → Each P (parts (at_then row.line o (each_at part_of rows)))
-    by None here rest = rest
-    by (Some part) here rest = (here, rest)
+  each_part rows h = each_map P (λ (x : At A). x.part) (each_at part_of rows) (each_located rows h)
 
-module _ (P : Owner → Type 0) (Q : Row → Type 0) (gives : (row : Row) → Q row → IfPart P (owner_in row))
+module _ (P : Owner → Type 0) (Q : Row → Type 0) (gives : (row : Row) → Q row → IfSome (owner_in row) P)
     (names : List NameEntry) where
+  owned : (o : Option Owner) (rest : List Branches) → IfSome o P → IfSome (body_of o rest) (λ (b : BodyPart). P b.owner)
+  owned None rest h = tt
+  owned (Some owner) rest h = h
+
   -- what holds of the owner of each body
   pub each_owner : (rows : List NumberedRow) → EachRow Q rows
       → Each (λ (x : At BodyPart). P x.part.owner) (bodies_of names rows)
   each_owner [] h = tt
-  each_owner (row ∷ rows) h = by (owner_in row.row) (gives row.row h.0) (each_owner rows h.1) where
-    by : (o : Option Owner) → IfPart P o → Each (λ (x : At BodyPart). P x.part.owner) (bodies_of names rows)
-        → Each (λ (x : At BodyPart). P x.part.owner)
-        (at_then row.line (body_of o (branches_from names rows)) (bodies_of names rows))
-    by None here rest = rest
-    by (Some owner) here rest = (here, rest)
+  each_owner (row ∷ rows) h =
+      let rest = branches_from names rows in
+      each_then (λ (b : BodyPart). P b.owner) row.line (body_of (owner_in row.row) rest) (bodies_of names rows)
+      (owned (owner_in row.row) rest (gives row.row h.0)) (each_owner rows h.1)
+
+-- ---- heads
+
+module _ (names : List NameEntry) where
+  one_known : (kind : NameKind) (name : List ℕ) → list_all (is_declared names) (uses kind name ∷ []) ≡ true
+      → nat_lt (number_named names name) (count_of kind names) ≡ true
+  one_known kind name known =
+      lt-ltb (number_named names name) (count_of kind names)
+      (number_below names kind name (and_parts (is_declared names (uses kind name)) true known).0)
+
+  items_sound : (row : Row) → is_sound_row row ≡ true → list_all is_sound_item (items_of row) ≡ true
+  items_sound row sound = (and_parts (list_all is_sound_item (items_of row)) _ sound).0
+
+  pub row_short : (row : Row) → IsRowFit names row → Passes is_expression_short (head_of names row)
+  row_short (r.Set var terms) fit one two =
+      let items = items_sound (r.Set var terms) fit.sound in
+      short-last names (r.Set var terms) (codes "set" ∷ var ∷ []) terms fit.sound
+      (last_sound terms (and_parts (is_name var) _ items).1) refl
+  row_short (r.If terms) fit one two =
+      short-last names (r.If terms) (codes "if" ∷ []) terms fit.sound
+      (last_sound terms (items_sound (r.If terms) fit.sound)) refl
+  row_short (r.Out terms) fit one two =
+      short-last names (r.Out terms) (codes "out" ∷ []) terms fit.sound
+      (last_sound terms (items_sound (r.Out terms) fit.sound)) refl
+  row_short row fit one two = refl
+
+  pub row_variables : (row : Row) → IsRowFit names row
+      → Passes (has_variables (count_of Kind.Var names)) (head_of names row)
+  row_variables (r.Set var terms) fit one two =
+      let here = is_declared names (uses Kind.Var var) in
+      let both = and_parts here _ fit.known in
+      and_from (nat_lt (number_named names var) (count_of Kind.Var names)) _
+      (lt-ltb (number_named names var) (count_of Kind.Var names) (number_below names Kind.Var var both.0))
+      (reads-expression_of names terms both.1)
+  row_variables (r.If terms) fit one two = reads-expression_of names terms fit.known
+  row_variables (r.Out terms) fit one two = reads-expression_of names terms fit.known
+  row_variables row fit one two = refl
+
+  pub row_demand : (row : Row) → IsRowFit names row → Passes (has_demand (count_of Kind.Demand names)) (head_of names row)
+  row_demand (r.Take demand) fit one two = one_known Kind.Demand demand fit.known
+  row_demand row fit one two = refl
+
+  pub row_callee : (row : Row) → IsRowFit names row
+      → Passes (has_callee (count_of Kind.Mode names) (count_of Kind.Osek names)) (head_of names row)
+  row_callee (r.Switch mode) fit one two = one_known Kind.Mode mode fit.known
+  row_callee (r.Activate task) fit one two = one_known Kind.Osek task fit.known
+  row_callee (r.Chain task) fit one two = one_known Kind.Osek task fit.known
+  row_callee row fit one two = refl

@@ -1,6 +1,6 @@
 -- The bodies of a configuration meet its rules.
 use Rattle.std.proofs.Common.{◌≡◌, ℕ, ◌^◌, ◌<◌, ◌≤◌, Bool, true, false, List, [], ◌∷◌, length, refl, ap, sym, ◌∙◌, arith, subst}
-use Rattle.std.specs.Prelude.{◌&&◌, ◌||◌, nat_le}
+use Rattle.std.specs.Prelude.{◌&&◌, ◌||◌, nat_le, flat_map, IfSome}
 use Rattle.std.specs.List.{AllByRecursion as Each}
 use Rattle.std.proofs.lemmas.Bool.{and_parts, leb-true}
 use Rattle.std.proofs.lemmas.List.Elements.{All-from_recursion}
@@ -22,34 +22,31 @@ use Rattle.tt_parts.specs.declared.bodies.Owner.{Owner}
 use Rattle.tt_parts.specs.declared.bodies.Owner.TheVariants as owner
 use Rattle.tt_parts.specs.declared.bodies.BodyPart.{BodyPart}
 use Rattle.tt_parts.specs.Located.{each_at, parts}
-use Rattle.tt_parts.specs.Bodies.{bodies_of, owner_in}
+use Rattle.tt_parts.specs.Bodies.{Head, bodies_of, head_of, owner_in}
 use Rattle.tt_parts.specs.Entries.{demand_in}
 use Rattle.tt_parts.specs.Names.{names_in}
 use Rattle.tt_rules.specs.BodyRules.{AreTellable, has_statement, is_hook, is_light}
 use Rattle.tt_rules.specs.DeclarationRules.{has_numbers_in_range, lines_9}
-use Rattle.tt_rules.specs.Document.{rows_at}
 use Rattle.tt_rules.specs.Laws.{IsBodySound, kind_of}
 use Rattle.tt_rules.specs.RoundRules.{is_within}
-use Rattle.tt_rules.specs.Shapes.{Every, failing}
 use Rattle.tt_rules.specs.StructureRules.{lines_2, lines_3}
 use Rattle.tt_rules.proofs.Each.{all_from_each, each_flat_map, each_map, each_weaker}
-use Rattle.tt_rules.proofs.Kept.{kept_one}
-use Rattle.tt_rules.proofs.SoundBodies.{bodies_sound, none-here, number_passes, shallow-number}
+use Rattle.tt_rules.proofs.Kept.{EachRow, each_kept, each_row}
+use Rattle.tt_rules.proofs.SoundBodies.{Passes, bodies_pass, bodies_sound, number_passes}
 use Rattle.tt_config.specs.BodyRules.{BodiesAreSound, HasSoundBodies, KeepBodyRules}
 use Rattle.tt_config.specs.Document.{elaborated_of}
 use Rattle.tt_config.specs.Owners.{AreFit, FitsOwner, task_by, task_in, isr_by, isr_in, osek_by, osek_in, oisr_by, oisr_in, error_hook_by, error_hook_in, shutdown_hook_by, shutdown_hook_in, first_body}
 use Rattle.tt_config.specs.Parts.{config_of, config_with}
-use Rattle.tt_config.proofs.BodyTests.{bodies_pass, shallow_expressions, row_short, shallow_variables, row_variables, shallow_demand, row_demand, shallow_callee, row_callee}
 use Rattle.tt_config.proofs.Counted.{named}
 use Rattle.tt_config.proofs.Limits.{bodies_nested, bodies_counted}
-use Rattle.tt_config.proofs.Rows.{EachRow, IsRowFit, IfPart, each_owner, each_part, each_row, rows_fit}
+use Rattle.tt_config.proofs.Rows.{IsRowFit, each_owner, each_part, row_callee, row_demand, row_short, row_variables, rows_fit}
 
 -- ---- demands
 
 abbrev IsDemand : Demand → Type 0
 IsDemand d = (nat_le d.most 10000000 ≡ true) × (nat_le d.usual d.most ≡ true)
 
-demand_fits : (row : Row) → has_numbers_in_range row ≡ true → IfPart IsDemand (demand_in row)
+demand_fits : (row : Row) → has_numbers_in_range row ≡ true → IfSome (demand_in row) IsDemand
 demand_fits (r.Demand name most usual) fit = and_parts (nat_le most 10000000) (nat_le usual most) fit
 demand_fits row fit = tt
 
@@ -62,10 +59,9 @@ IsInRange (owner.Isr level stack distance) =
     (is_within 1 255 level ≡ true) × ((nat_le stack 65535 ≡ true) × (is_distance distance ≡ true))
 IsInRange (owner.Osek priority auto) = is_within 1 255 priority ≡ true
 IsInRange (owner.Oisr priority) = is_within 1 255 priority ≡ true
-IsInRange owner.ErrorHook = Unit {0}
-IsInRange owner.ShutdownHook = Unit {0}
+IsInRange other = Unit {0}
 
-owner_fits : (row : Row) → has_numbers_in_range row ≡ true → IfPart IsInRange (owner_in row)
+owner_fits : (row : Row) → has_numbers_in_range row ≡ true → IfSome (owner_in row) IsInRange
 owner_fits (r.Task name stack) fit = fit
 owner_fits (r.Isr name level stack) fit = let both = and_parts (is_within 1 255 level) (nat_le stack 65535) fit in
     (both.0, (both.1, refl))
@@ -75,8 +71,6 @@ owner_fits (r.IsrFar name level stack distance) fit =
 owner_fits (r.Osek name priority) fit = fit
 owner_fits (r.OsekAuto name priority) fit = fit
 owner_fits (r.Oisr name priority) fit = fit
-owner_fits r.HookError fit = tt
-owner_fits r.HookShutdown fit = tt
 owner_fits row fit = tt
 
 fits_owner : (demands : List Demand) (body : List Stmt) (o : Owner) → IsInRange o
@@ -95,8 +89,7 @@ fits_owner demands body (owner.Oisr priority) range light = (
   leb-true priority 255 (and_parts (nat_le 1 priority) (nat_le priority 255) range).1,
   leb-true (worst_in demands body) (10 ^ 12) light,
 )
-fits_owner demands body owner.ErrorHook range light = tt
-fits_owner demands body owner.ShutdownHook range light = tt
+fits_owner demands body other range light = tt
 
 -- ---- bodies whose worst case can be computed
 
@@ -106,7 +99,7 @@ module _ (rows : List NumberedRow) (short : length rows < 2 ^ 32) (is_2 : lines_
   demands = parts (each_at demand_in rows)
 
   in_range : EachRow (λ row. has_numbers_in_range row ≡ true) rows
-  in_range = each_row has_numbers_in_range rows (kept_one 1 (Every has_numbers_in_range) (rows_at rows) is_9)
+  in_range = each_row has_numbers_in_range rows is_9
 
   each_demand : Each IsDemand demands
   each_demand = each_part IsDemand (λ row. has_numbers_in_range row ≡ true) demand_in demand_fits rows in_range
@@ -126,8 +119,8 @@ module _ (rows : List NumberedRow) (short : length rows < 2 ^ 32) (is_2 : lines_
   pub tellable : AreTellable demands (bodies_of (names_in rows) rows)
   tellable = by (bodies_of (names_in rows) rows) (bodies_nested (names_in rows) rows is_2 is_3)
       (bodies_counted (names_in rows) rows short)
-      (bodies_pass is_number_in_range (shallow-number kind.Task) (names_in rows)
-      (λ row. has_numbers_in_range row ≡ true) (number_passes (names_in rows) kind.Task) rows is_2 in_range) where
+      (bodies_pass (names_in rows) is_number_in_range (λ row. has_numbers_in_range row ≡ true)
+      (number_passes (names_in rows)) rows is_2 in_range) where
         by : (xs : List (At BodyPart)) → Each (λ (x : At BodyPart). IsNestedInLimit x.part.body) xs
             → Each (λ (x : At BodyPart). IsCountInLimit x.part.body) xs
             → Each (λ (x : At BodyPart). each_in is_number_in_range x.part.body ≡ true) xs → AreTellable demands xs
@@ -145,12 +138,6 @@ record IsGood (c : ConfigParts) (b : BodyPart) : Type 0 where
   range : IsInRange b.owner
   some : has_statement b ≡ true
   light : is_light c.demands b ≡ true
-
-each_every : {A : Type 0} (test : A → Bool) (xs : List (At A)) → failing test xs ≡ []
-    → Each (λ (x : At A). test x.part ≡ true) xs
-each_every test [] is = tt
-each_every test (x ∷ xs) is = let both = none-here (test x.part) x.line (failing test xs) is in
-    (both.0, each_every test xs both.1)
 
 module _ (c : ConfigParts) where
   hook : IsBody c kind.Hook []
@@ -245,20 +232,20 @@ module _ (rows : List NumberedRow) (rules : KeepBodyRules rows) where
   ranges : Each (λ (x : At BodyPart). IsInRange x.part.owner) bodies
   ranges = each_owner IsInRange (IsRowFit names) (λ row f. owner_fits row f.numbers) names rows fit
 
+  passed : (test : Head → Bool) → ((row : Row) → IsRowFit names row → Passes test (head_of names row))
+      → Each (λ (x : At BodyPart). each_in test x.part.body ≡ true) bodies
+  passed test each = bodies_pass names test (IsRowFit names) each rows rules.rule_2 fit
+
   good_bodies : Each (λ (x : At BodyPart). IsGood c x.part) bodies
   good_bodies =
       by bodies (bodies_nested names rows rules.rule_2 rules.rule_3) (bodies_counted names rows rules.short)
       (bodies_sound names rows rules.rule_2 rules.rule_9 rules.rule_15)
-      (bodies_pass is_expression_short (shallow_expressions names) names (IsRowFit names)
-      (row_short names) rows rules.rule_2 fit)
-      (bodies_pass (has_variables (count_of Kind.Var names)) (shallow_variables names) names (IsRowFit names)
-      (row_variables names) rows rules.rule_2 fit)
-      (bodies_pass (has_demand (count_of Kind.Demand names)) (shallow_demand names) names (IsRowFit names)
-      (row_demand names) rows rules.rule_2 fit)
-      (bodies_pass (has_callee (count_of Kind.Mode names) (count_of Kind.Osek names)) (shallow_callee names) names
-      (IsRowFit names) (row_callee names) rows rules.rule_2 fit)
-      ranges (each_every has_statement bodies rules.rule_16)
-      (each_every (is_light c.demands) bodies rules.rule_17) where
+      (passed is_expression_short (row_short names))
+      (passed (has_variables (count_of Kind.Var names)) (row_variables names))
+      (passed (has_demand (count_of Kind.Demand names)) (row_demand names))
+      (passed (has_callee (count_of Kind.Mode names) (count_of Kind.Osek names)) (row_callee names))
+      ranges (each_kept has_statement bodies rules.rule_16)
+      (each_kept (is_light c.demands) bodies rules.rule_17) where
         by : (xs : List (At BodyPart)) → Each (λ (x : At BodyPart). IsNestedInLimit x.part.body) xs
             → Each (λ (x : At BodyPart). IsCountInLimit x.part.body) xs
             → Each (λ (x : At BodyPart). IsBodySound x.part) xs
@@ -295,32 +282,26 @@ module _ (rows : List NumberedRow) (rules : KeepBodyRules rows) where
   good : Each (IsGood c) (parts bodies)
   good = each_map (IsGood c) (λ (x : At BodyPart). x.part) bodies good_bodies
 
+  owned : {D : Type 0} (part_in : BodyPart → List D) (Q : D → Type 0)
+      → ((body : List Stmt) (o : Owner) → IsGood c (record { owner = o; body = body })
+      → Each Q (part_in (record { owner = o; body = body })))
+      → Each Q (flat_map part_in (parts bodies))
+  owned part_in Q gives = each_flat_map part_in (IsGood c) Q (λ b g. gives b.body b.owner g) (parts bodies) good
+
   pub bodies_are_sound : HasSoundBodies c
   bodies_are_sound = record {
-    tasks = All-from_recursion (IsTask c) c.tasks
-        (each_flat_map (task_in c.demands) (IsGood c) (IsTask c) (λ b g. task_good c b.body b.owner g)
-        (parts bodies) good);
-    isrs = All-from_recursion (IsIsr c) c.isrs
-        (each_flat_map (isr_in c.demands) (IsGood c) (IsIsr c) (λ b g. isr_good c b.body b.owner g)
-        (parts bodies) good);
-    oseks = All-from_recursion (IsOsek c) c.oseks
-        (each_flat_map (osek_in c.demands) (IsGood c) (IsOsek c) (λ b g. osek_good c b.body b.owner g)
-        (parts bodies) good);
-    oisrs = All-from_recursion (IsOisr c) c.oisrs
-        (each_flat_map (oisr_in c.demands) (IsGood c) (IsOisr c) (λ b g. oisr_good c b.body b.owner g)
-        (parts bodies) good);
-    error_hook = first_good c _
-        (each_flat_map error_hook_in (IsGood c) (IsBody c kind.Hook) (λ b g. error_good c b.body b.owner g)
-        (parts bodies) good);
-    shutdown_hook = first_good c _
-        (each_flat_map shutdown_hook_in (IsGood c) (IsBody c kind.Hook) (λ b g. shutdown_good c b.body b.owner g)
-        (parts bodies) good);
+    tasks = All-from_recursion (IsTask c) c.tasks (owned (task_in c.demands) (IsTask c) (task_good c));
+    isrs = All-from_recursion (IsIsr c) c.isrs (owned (isr_in c.demands) (IsIsr c) (isr_good c));
+    oseks = All-from_recursion (IsOsek c) c.oseks (owned (osek_in c.demands) (IsOsek c) (osek_good c));
+    oisrs = All-from_recursion (IsOisr c) c.oisrs (owned (oisr_in c.demands) (IsOisr c) (oisr_good c));
+    error_hook = first_good c _ (owned error_hook_in (IsBody c kind.Hook) (error_good c));
+    shutdown_hook = first_good c _ (owned shutdown_hook_in (IsBody c kind.Hook) (shutdown_good c));
   }
 
   -- 2, 3, 9, 17. The numbers of each body's owner fit the widths of those of a configuration.
   pub bodies_fit : AreFit c.demands bodies
   bodies_fit = by bodies (tellable rows rules.short rules.rule_2 rules.rule_3 rules.rule_9) ranges
-      (each_every (is_light c.demands) bodies rules.rule_17) where
+      (each_kept (is_light c.demands) bodies rules.rule_17) where
         by : (xs : List (At BodyPart)) → AreTellable c.demands xs
             → Each (λ (x : At BodyPart). IsInRange x.part.owner) xs
             → Each (λ (x : At BodyPart). is_light c.demands x.part ≡ true) xs → AreFit c.demands xs

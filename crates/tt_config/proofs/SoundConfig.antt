@@ -1,6 +1,6 @@
 -- Sound rows that break no rule give a configuration and a script that keep the rules of theirs.
 use Rattle.std.proofs.Common.{◌≡◌, ℕ, zero, suc, ◌-◌, ◌^◌, ◌<◌, ◌≤◌, Bool, true, List, [], ◌∷◌, All, None, length, arith, ap, subst, sym, ◌∙◌}
-use Rattle.std.specs.Prelude.{◌&&◌, nat_le, nat_lt}
+use Rattle.std.specs.Prelude.{◌&&◌, nat_le, nat_lt, IfSome}
 use Rattle.std.specs.List.{AllByRecursion as Each, list_all}
 use Rattle.std.proofs.lemmas.Bool.{and_parts, and_from, leb-true, lt-ltb}
 use Rattle.std.proofs.lemmas.List.Elements.{All-from_recursion}
@@ -41,7 +41,7 @@ use Rattle.tt_config.proofs.Asked.{none_broken}
 use Rattle.tt_config.proofs.Counted.{few, named}
 use Rattle.tt_config.proofs.Distinct.{levels, osek_priorities, oisr_priorities}
 use Rattle.tt_config.proofs.Known.{number_below}
-use Rattle.tt_config.proofs.Rows.{IsRowFit, IfPart, each_part, rows_fit}
+use Rattle.tt_config.proofs.Rows.{IsRowFit, each_part, rows_fit}
 use Rattle.tt_config.proofs.SoundBodies.{bodies_are_sound, bodies_fit, mosts_in_range, usuals_in_range}
 use Rattle.tt_config.proofs.SoundScript.{rounds_within, script_sound}
 
@@ -67,7 +67,7 @@ module _ (names : List NameEntry) where
       (lt-ltb (number_named names two) (count_of other names)
       (number_below names other two (and_parts (is_declared names (uses other two)) true both.1).0))
 
-  entry_known : (row : Row) → IsRowFit names row → IfPart (λ x. is_known x ≡ true) (entry_in names row)
+  entry_known : (row : Row) → IsRowFit names row → IfSome (entry_in names row) (λ x. is_known x ≡ true)
   entry_known (r.AtStringent offset mode task deadline) fit = both_known Kind.Mode Kind.Task mode task fit.known
   entry_known (r.AtNonstringent offset mode task deadline) fit = both_known Kind.Mode Kind.Task mode task fit.known
   entry_known (r.AtEnable offset mode isr) fit = both_known Kind.Mode Kind.Isr mode isr fit.known

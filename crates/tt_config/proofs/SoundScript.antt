@@ -1,6 +1,6 @@
 -- The script keeps the rules of a script, where no line breaks the rules on it.
 use Rattle.std.proofs.Common.{◌≡◌, ℕ, ◌+◌, ◌^◌, ◌<◌, ◌≤◌, Bool, true, false, List, [], ◌∷◌, length, map, Option, Some, None, refl, sym, subst, ◌∙◌, arith, if◌then◌else◌}
-use Rattle.std.specs.Prelude.{◌==◌, ◌&&◌, nat_le, nat_lt}
+use Rattle.std.specs.Prelude.{◌==◌, ◌&&◌, nat_le, nat_lt, IfSome}
 use Rattle.std.specs.List.{AllByRecursion as Each, list_all}
 use Rattle.std.proofs.lemmas.Bool.{and_parts, and_from, le-leb, leb-true, leb-false, eqb-true, eq-eqb}
 use Rattle.std.proofs.lemmas.List.{length-map}
@@ -39,7 +39,8 @@ use Rattle.tt_config.specs.Lists.{at_number, by_number, given}
 use Rattle.tt_config.specs.Parts.{arrival_by, arrival_place, config_with, first_mode, script_with, value_place}
 use Rattle.tt_config.proofs.Counted.{length-below, named}
 use Rattle.tt_config.proofs.Known.{number_below}
-use Rattle.tt_config.proofs.Rows.{EachRow, IsRowFit, IfPart, each_part, rows_fit}
+use Rattle.tt_rules.proofs.Kept.{EachRow}
+use Rattle.tt_config.proofs.Rows.{IsRowFit, each_part, rows_fit}
 
 -- ---- lists by number
 
@@ -56,19 +57,19 @@ all_lists test f each (k ∷ ks) = and_from (test (f k)) _ (each k) (all_lists t
 
 module _ (names : List NameEntry) where
   start_fits : (row : Row) → IsRowFit names row
-      → IfPart (λ (mode : ModeNo). mode.0 < count_of Kind.Mode names) (start_in names row)
+      → IfSome (start_in names row) (λ (mode : ModeNo). mode.0 < count_of Kind.Mode names)
   start_fits (r.Start mode) fit =
       number_below names Kind.Mode mode (and_parts (is_declared names (uses Kind.Mode mode)) true fit.known).0
   start_fits row fit = tt
 
-  time_fits : (row : Row) → IsRowFit names row → IfPart (λ time. nat_lt time (10 ^ 12) ≡ true) (time_in row)
+  time_fits : (row : Row) → IsRowFit names row → IfSome (time_in row) (λ time. nat_lt time (10 ^ 12) ≡ true)
   time_fits (r.Time global) fit =
       (and_parts (nat_lt global (10 ^ 12)) true
       (and_parts (list_all is_sound_item (items_of (r.Time global))) _ fit.sound).0).0
   time_fits row fit = tt
 
   tick_fits : (row : Row) → IsRowFit names row
-      → IfPart (λ (a : Arrival). nat_lt a.tick (10 ^ 12) ≡ true) (arrival_in names row)
+      → IfSome (arrival_in names row) (λ (a : Arrival). nat_lt a.tick (10 ^ 12) ≡ true)
   tick_fits (r.Arrive source tick) fit =
       (and_parts (nat_lt tick (10 ^ 12)) true
       (and_parts _ _ (and_parts (list_all is_sound_item (items_of (r.Arrive source tick))) _ fit.sound).0).1).0

@@ -5,6 +5,7 @@ use Rattle.std.specs.Cmp.{IsStrictWeakOrder}
 use Rattle.std.specs.List.{AllByRecursion as Each}
 use Rattle.std.specs.List.Sorted.{IsSortedBy, IsStableBy, ties}
 use Rattle.std.proofs.lemmas.Bool.{false_from_ne_true}
+use Rattle.std.proofs.lemmas.List.Elements.{recursion_from_All}
 use Rattle.std.proofs.lemmas.List.Sorted.{sorted_far}
 use Rattle.tt_rules.specs.Order.{inserted, ascending}
 use Rattle.tt_rules.proofs.Each.{Pairs}
@@ -126,15 +127,11 @@ module _ {X : Type 0} (lt : X → X → Bool) (o : IsStrictWeakOrder lt) where
 
   -- ---- a sort
 
-  each_index : (P : X → Type 0) (xs : List X) → ((k : ℕ) (d : X) → k < length xs → P (get_or xs k d)) → Each P xs
-  each_index P [] at = tt
-  each_index P (x ∷ xs) at = (at 0 x (omega arith), each_index P xs (λ k d lt. at (suc k) d (omega arith)))
-
   ascends_sorted : (xs : List X)
       → ((i j : ℕ) (d : X) → i ≤ j → j < length xs → lt (get_or xs j d) (get_or xs i d) ≡ false) → Ascends xs
   ascends_sorted [] up = tt
   ascends_sorted (x ∷ xs) up = (
-    each_index (λ y. lt y x ≡ false) xs (λ k d below. up 0 (suc k) d (omega arith) (omega arith)),
+    recursion_from_All (λ y. lt y x ≡ false) xs (λ k d below. up 0 (suc k) d (omega arith) (omega arith)),
     ascends_sorted xs (λ i j d le below. up (suc i) (suc j) d (omega arith) (omega arith)),
   )
 

@@ -11,27 +11,25 @@ use Rattle.tt_rules.specs.Tables.{activation_in, enable_in, is_earlier, is_enabl
 use Rattle.tt_config.specs.Lists.{at_number, by_number, given}
 use Rattle.tt_config.specs.Tables.{activation_of, enable_of, entry_place, mode_of_entries}
 
+-- an entry gives what it has where it is one of the mode
+if_own : {B : Type 0} (f : Entry → List B) (own : Bool) (x : Entry)
+    → flat_map f (if own then x ∷ [] else []) ≡ (if own then f x ++ [] else [])
+if_own f true x = refl
+if_own f false x = refl
+
+none_own : {B : Type 0} (f : Entry → List B) (own : Bool) (x : Entry) → f x ≡ []
+    → flat_map f (if own then x ∷ [] else []) ≡ []
+none_own f true x none = ap (λ ys. ys ++ []) none
+none_own f false x none = refl
+
 module _ (mode : ℕ) where
   own_activation : (x : Entry) → flat_map activation_of (at_number mode (entry_place x)) ≡ activation_in mode x
-  own_activation (entry.Activates m a) = by (m.0 == mode) where
-    by : (own : Bool) → flat_map activation_of (if own then entry.Activates m a ∷ [] else [])
-        ≡ (if own then a ∷ [] else [])
-    by true = refl
-    by false = refl
-  own_activation (entry.Enables m e) = by (m.0 == mode) where
-    by : (own : Bool) → flat_map activation_of (if own then entry.Enables m e ∷ [] else []) ≡ []
-    by true = refl
-    by false = refl
+  own_activation (entry.Activates m a) = if_own activation_of (m.0 == mode) (entry.Activates m a)
+  own_activation (entry.Enables m e) = none_own activation_of (m.0 == mode) (entry.Enables m e) refl
 
   own_enable : (x : Entry) → flat_map enable_of (at_number mode (entry_place x)) ≡ enable_in mode x
-  own_enable (entry.Activates m a) = by (m.0 == mode) where
-    by : (own : Bool) → flat_map enable_of (if own then entry.Activates m a ∷ [] else []) ≡ []
-    by true = refl
-    by false = refl
-  own_enable (entry.Enables m e) = by (m.0 == mode) where
-    by : (own : Bool) → flat_map enable_of (if own then entry.Enables m e ∷ [] else []) ≡ (if own then e ∷ [] else [])
-    by true = refl
-    by false = refl
+  own_enable (entry.Activates m a) = none_own enable_of (m.0 == mode) (entry.Activates m a) refl
+  own_enable (entry.Enables m e) = if_own enable_of (m.0 == mode) (entry.Enables m e)
 
   own : {B : Type 0} (f g : Entry → List B) → ((x : Entry) → flat_map f (at_number mode (entry_place x)) ≡ g x)
       → (xs : List Entry) → flat_map f (given entry_place xs mode) ≡ flat_map g xs

@@ -1,5 +1,7 @@
 -- What each row gives, with one more row.
 use Rattle.std.proofs.Common.{◌≡◌, ℕ, ◌+◌, ◌<◌, List, [], ◌∷◌, ◌++◌, length, take, get_or, Option, Some, None, refl, ap, sym, ◌∙◌}
+use Rattle.std.specs.Prelude.{IfSome}
+use Rattle.std.specs.List.{AllByRecursion as Each}
 use Rattle.std.proofs.lemmas.List.{take_more}
 use Rattle.tt_base.specs.declared.names.NameEntry.{NameEntry}
 use Rattle.tt_rows.specs.declared.row.Row.{Row}
@@ -65,3 +67,10 @@ pub said_in-more : (names : List NameEntry) (rows : List NumberedRow) (k : ℕ) 
 said_in-more names rows k row before after lt is so_far put =
     put ∙ ap (said_then names row) so_far ∙ sym (said_in-push names (take k rows) row)
     ∙ ap (said_in names) (sym (take-row rows k row lt is))
+
+-- what holds of a part, if there is one, and of others, holds of each
+pub each_then : {A : Type 0} (P : A → Type 0) (line : ℕ) (part : Option A) (others : List (At A)) → IfSome part P
+    → Each (λ (x : At A). P x.part) others
+    → Each (λ (x : At A). P x.part) (at_then line part others)
+each_then P line None others here there = there
+each_then P line (Some part) others here there = (here, there)

@@ -1,8 +1,9 @@
 -- What holds of each element of a list, and of each element with each one after it.
-use Rattle.std.proofs.Common.{◌≡◌, ℕ, zero, suc, ◌<◌, length, get_or, arith, Bool, true, false, List, [], ◌∷◌, ◌++◌, map, refl}
+use Rattle.std.proofs.Common.{◌≡◌, ℕ, ◌<◌, length, get_or, Bool, true, false, List, [], ◌∷◌, ◌++◌, map, refl}
 use Rattle.std.specs.Prelude.{flat_map}
 use Rattle.std.specs.List.{AllByRecursion as Each, list_all, list_any}
 use Rattle.std.proofs.lemmas.Bool.{and_parts, and_from, or_parts, or_from}
+use Rattle.std.proofs.lemmas.List.Elements.{All-from_recursion, All-get_or}
 
 -- R holds of each element and each one after it
 abbrev pub Pairs : {A : Type 0} → (A → A → Type 0) → List A → Type 0
@@ -104,6 +105,4 @@ module _ {X A : Type 0} (f : X → List A) where
 -- what holds of each element holds of the one at a place
 pub each_index : {A : Type 0} (P : A → Type 0) (xs : List A) (k : ℕ) (x : A) → k < length xs → Each P xs
     → P (get_or xs k x)
-each_index P [] k x lt h = absurd (omega arith)
-each_index P (y ∷ xs) zero x lt h = h.0
-each_index P (y ∷ xs) (suc k) x lt h = each_index P xs k x (omega arith) h.1
+each_index P xs k x lt h = All-get_or P xs k x lt (All-from_recursion P xs h)

@@ -1,10 +1,13 @@
 -- No line breaks a rule exactly where the parts keep it.
 use Rattle.std.proofs.Common.{◌≡◌, ℕ, zero, suc, Bool, true, false, List, [], ◌∷◌, ◌++◌, length, drop, refl, ap, sym, ◌∙◌, arith, cond, filter}
 use Rattle.std.specs.Prelude.{nat_le, ◌&&◌}
-use Rattle.std.specs.List.{list_all}
+use Rattle.std.specs.List.{AllByRecursion as Each, list_all}
 use Rattle.std.proofs.lemmas.Bool.{le-leb, lt-leb}
 use Rattle.std.proofs.lemmas.Bool.Decides.{nat_tests}
+use Rattle.tt_rows.specs.declared.row.Row.{Row}
+use Rattle.tt_rows.specs.declared.row.NumberedRow.{NumberedRow}
 use Rattle.tt_parts.specs.declared.located.At.{At}
+use Rattle.tt_rules.specs.Document.{rows_at}
 use Rattle.tt_rules.specs.Lines.{line_unless}
 use Rattle.tt_rules.specs.Shapes.{Shape, Present, AtMost, Every, Differ, Clear, parts, lines, failing, is_new, repeating, is_clear, breaking, breaking_one, differ_from, filter_at, keeps, keeps_each}
 
@@ -90,3 +93,28 @@ filter_at-parts test (x ∷ xs) = by (test x.part) (filter_at-parts test xs) whe
       ≡ cond b (x.part ∷ filter test (parts xs)) (filter test (parts xs))
   by true rest = ap (λ ys. x.part ∷ ys) rest
   by false rest = rest
+
+-- ---- each part, and each row
+
+-- where a test adds no line, it passes
+pub none-here : (test : Bool) (line : ℕ) (lines : List ℕ) → line_unless test line lines ≡ []
+    → (test ≡ true) × (lines ≡ [])
+none-here true line lines is = (refl, is)
+none-here false line lines is = cc
+
+-- where no part breaks a test, each passes it
+pub each_kept : {A : Type 0} (test : A → Bool) (xs : List (At A)) → failing test xs ≡ []
+    → Each (λ (x : At A). test x.part ≡ true) xs
+each_kept test [] is = tt
+each_kept test (x ∷ xs) is =
+    let both = none-here (test x.part) x.line (failing test xs) is in (both.0, each_kept test xs both.1)
+
+-- a fact for each row
+abbrev pub EachRow : (Row → Type 0) → List NumberedRow → Type 0
+EachRow P rows = Each (λ (row : NumberedRow). P row.row) rows
+
+pub each_row : (test : Row → Bool) (rows : List NumberedRow) → failing test (rows_at rows) ≡ []
+    → EachRow (λ row. test row ≡ true) rows
+each_row test [] is = tt
+each_row test (row ∷ rows) is =
+    let both = none-here (test row.row) row.line (failing test (rows_at rows)) is in (both.0, each_row test rows both.1)

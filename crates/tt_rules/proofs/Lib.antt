@@ -8,4 +8,5 @@ pub mod ArrivalLemmas
 pub mod Table
 pub mod SoundDeclarations
 pub mod SoundTables
+pub mod EachBody
 pub mod SoundBodies

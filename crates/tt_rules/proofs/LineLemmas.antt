@@ -1,5 +1,6 @@
 -- The least of some lines.
 use Rattle.std.proofs.Common.{◌≡◌, ℕ, zero, suc, ◌+◌, ◌-◌, ◌<◌, ◌≤◌, min, cond, Bool, true, false, List, [], ◌∷◌, ◌++◌, length, map, drop, get_or, Option, Some, None, refl, ap, sym, ◌∙◌, arith}
+use Rattle.std.proofs.lemmas.Grind.{flat_map-append}
 use Rattle.std.proofs.lemmas.List.{at_drop_more, at_drop_all, append-nil}
 use Rattle.std.specs.Prelude.{flat_map}
 use Rattle.tt_rules.specs.Order.{below}
@@ -130,12 +131,9 @@ flat-end f xs k le found all before =
 
 flat-push : {A : Type 0} (f : A → List ℕ) (xs : List A) (x : A)
     → least_line (flat_map f (xs ++ x ∷ [])) ≡ lesser_of (least_line (flat_map f xs)) (least_line (f x))
-flat-push f [] x = ap least_line (append-nil (f x))
-flat-push f (y ∷ xs) x =
-    least_line-append (f y) (flat_map f (xs ++ x ∷ []))
-    ∙ ap (lesser_of (least_line (f y))) (flat-push f xs x)
-    ∙ sym (lesser_of-assoc (least_line (f y)) (least_line (flat_map f xs)) (least_line (f x)))
-    ∙ ap (λ o. lesser_of o (least_line (f x))) (sym (least_line-append (f y) (flat_map f xs)))
+flat-push f xs x =
+    ap least_line (flat_map-append f xs (x ∷ []) ∙ ap (λ ls. flat_map f xs ++ ls) (append-nil (f x)))
+    ∙ least_line-append (flat_map f xs) (f x)
 
 -- the next of the numbers below one
 pub below-step : (f : ℕ → List ℕ) (n : ℕ) (found more : Option ℕ) → found ≡ least_line (flat_map f (below n))

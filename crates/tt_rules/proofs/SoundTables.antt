@@ -1,8 +1,9 @@
 -- The tables of a configuration keep its rules, where the rows of tables keep the rules on them.
-use Rattle.std.proofs.Common.{◌≡◌, ℕ, zero, suc, ◌+◌, ◌-◌, ◌≤◌, ◌<◌, Bool, true, false, not, List, [], ◌∷◌, ◌++◌, length, filter, refl, ap, sym, subst, ◌∙◌, append_assoc, arith, if◌then◌else◌}
+use Rattle.std.proofs.Common.{◌≡◌, ℕ, zero, suc, ◌+◌, ◌-◌, ◌≤◌, ◌<◌, Bool, true, false, not, List, [], ◌∷◌, ◌++◌, length, filter, refl, ap, sym, subst, ◌∙◌, arith, if◌then◌else◌}
 use Rattle.std.specs.Prelude.{◌==◌, ◌&&◌, ◌||◌, nat_le, nat_lt, flat_map}
 use Rattle.std.specs.List.{AllByRecursion as Each, list_all}
 use Rattle.std.proofs.lemmas.Bool.{and_parts, and_from, both_ways, false_from_ne_true, ltb-true, ltb-false, lt-ltb, le-ltb, le-leb, leb-true, eqb-true, eq-eqb}
+use Rattle.std.proofs.lemmas.Grind.{flat_map-append}
 use Rattle.std.proofs.lemmas.List.{append-nil}
 use Rattle.std.proofs.lemmas.Bool.Decides.{nat_tests}
 use Rattle.tt_world.specs.declared.config.Activation.{Activation}
@@ -202,10 +203,6 @@ ascend (e ∷ rest) h = and_from (list_all (comes_before e) rest) _ (all_from_ea
 
 -- ---- the whole
 
-flat-last : (f : ℕ → List ℕ) (xs : List ℕ) (x : ℕ) → flat_map f (xs ++ x ∷ []) ≡ flat_map f xs ++ f x
-flat-last f [] x = append-nil (f x)
-flat-last f (y ∷ xs) x = ap (λ ls. f y ++ ls) (flat-last f xs x) ∙ sym (append_assoc (f y) (flat_map f xs) (f x))
-
 module _ (c : ConfigParts) (modes : ℕ) (located : List (At Entry))
     (all_known : list_all (is_entry_known modes (length c.tasks) (length c.isrs)) (parts located) ≡ true)
     (kept : AreTablesKept (c.round - c.adjust) modes located) where
@@ -293,7 +290,7 @@ module _ (c : ConfigParts) (modes : ℕ) (located : List (At Entry))
   none_below f zero mode lt is = absurd (omega arith)
   none_below f (suc n) mode lt is = by (mode == n) refl (none_below f n mode) where
     both : flat_map f (below n) ++ f n ≡ []
-    both = sym (flat-last f (below n) n) ∙ is
+    both = sym (flat_map-append f (below n) (n ∷ []) ∙ ap (λ ls. flat_map f (below n) ++ ls) (append-nil (f n))) ∙ is
 
     by : (last : Bool) → (mode == n) ≡ last → (mode < n → flat_map f (below n) ≡ [] → f mode ≡ []) → f mode ≡ []
     by true same rest = ap f (eqb-true mode n same) ∙ none_right (flat_map f (below n)) (f n) both

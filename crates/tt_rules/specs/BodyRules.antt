@@ -8,7 +8,7 @@ use Rattle.tt_base.specs.Names.{find_name, kind_of, is_same_kind}
 use Rattle.task_lang.specs.declared.allowed.OwnerKind.{OwnerKind}
 use Rattle.task_lang.specs.declared.allowed.OwnerKind.TheVariants as kind
 use Rattle.task_lang.specs.declared.demand.Demand.{Demand}
-use Rattle.task_lang.specs.Allowed.{column}
+use Rattle.task_lang.specs.Allowed.{is_allowed}
 use Rattle.task_lang.specs.declared.syntax.Stmt.{Stmt}
 use Rattle.task_lang.specs.Limits.{IsNestedInLimit, IsCountInLimit, AreNumbersInRange, AreMostsInRange}
 use Rattle.task_lang.specs.Worst.{worst_in}
@@ -23,6 +23,7 @@ use Rattle.tt_parts.specs.declared.bodies.Owner.TheVariants as owner
 use Rattle.tt_parts.specs.declared.bodies.BodyPart.{BodyPart}
 use Rattle.tt_parts.specs.declared.structure.Standing.{Standing}
 use Rattle.tt_parts.specs.declared.structure.Standing.TheVariants.{Opener}
+use Rattle.tt_parts.specs.Bodies.{Head, head_of}
 use Rattle.tt_parts.specs.Structure.{standing_of}
 use Rattle.tt_rules.specs.Lines.{line_unless}
 use Rattle.tt_rules.specs.Shapes.{Every, breaking}
@@ -82,20 +83,16 @@ lines_14 names rows = breaking 1 (Every (are_names_declared names)) (rows_at row
 
 -- ---- 15
 
--- whether an owner of this kind may have a row in its body; the columns are task, isr, osek, oisr and hook
+-- whether an owner of this kind may have what a row gives
+abbrev pub is_head_allowed : OwnerKind → Option Head → Bool
+is_head_allowed kind None = true
+is_head_allowed kind (Some head) = is_allowed kind head
+
+-- whether an owner of this kind may have a row in its body: the statement that the row gives, whatever the names in it
+-- are; and an `else` where it may have an `if`
 abbrev pub is_row_allowed : OwnerKind → Row → Bool
-is_row_allowed kind (r.Work ticks) = column kind true true true true false
-is_row_allowed kind (r.Take demand) = column kind true true true true false
-is_row_allowed kind (r.If terms) = column kind true true true true false
-is_row_allowed kind r.Else = column kind true true true true false
-is_row_allowed kind (r.Repeat turns) = column kind true true true true false
-is_row_allowed kind (r.Switch mode) = column kind true true false false false
-is_row_allowed kind r.Sync = column kind true true false false false
-is_row_allowed kind r.Shutdown = column kind true true false false false
-is_row_allowed kind (r.Activate task) = column kind false false true true false
-is_row_allowed kind (r.Chain task) = column kind false false true false false
-is_row_allowed kind r.Terminate = column kind false false true false false
-is_row_allowed kind row = true
+is_row_allowed kind r.Else = is_head_allowed kind (head_of [] (r.If []))
+is_row_allowed kind row = is_head_allowed kind (head_of [] row)
 
 -- the kind of the owner whose body comes after a row
 abbrev pub owner_after : OwnerKind → Standing → OwnerKind
