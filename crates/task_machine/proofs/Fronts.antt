@@ -5,7 +5,7 @@ use Rattle.std.proofs.lemmas.Option.{slice_get_past}
 use Rattle.task_lang.specs.declared.syntax.Expr.{Expr}
 use Rattle.task_lang.specs.declared.syntax.Stmt.{Stmt, out-Stmt}
 use Rattle.task_lang.specs.declared.syntax.Stmt.TheOpen.{Stmt-F}
-use Rattle.task_lang.specs.declared.syntax.Stmt.TheFolds.{fold_out-Stmt, map-Stmt}
+use Rattle.task_lang.specs.declared.syntax.Stmt.TheFolds.{fold_out-Stmt}
 use Rattle.task_lang.specs.Tick.{repeat_then}
 use Rattle.task_machine.specs.Layout.{expr_code, stmt_code, stmt_step, body_code, layer_code, Stands}
 use Rattle.task_machine.specs.Place.{Left, At_end, At_stmt, At_skip, At_again}
@@ -13,17 +13,8 @@ use Rattle.task_machine.specs.declared.instr.Instr.{Instr}
 use Rattle.task_machine.specs.declared.instr.Instr.TheVariants as i
 
 -- the code of a statement, from its level
-layer_same : (d : ℕ) (x : Stmt-F Stmt) → stmt_step (map-Stmt Stmt (ℕ → List Instr) stmt_code x) d ≡ layer_code d x
-layer_same d (Stmt-F.Work n) = refl
-layer_same d (Stmt-F.Take x) = refl
-layer_same d (Stmt-F.Set x e) = refl
-layer_same d (Stmt-F.If e first second) = refl
-layer_same d (Stmt-F.Repeat n inner) = refl
-layer_same d (Stmt-F.Out e) = refl
-layer_same d (Stmt-F.Service call) = refl
-
 pub stmt_layer : (s : Stmt) (d : ℕ) → stmt_code s d ≡ layer_code d (out-Stmt s)
-stmt_layer s d = ap (λ f. f d) (fold_out-Stmt (ℕ → List Instr) stmt_step s) ∙ layer_same d (out-Stmt s)
+stmt_layer s d = ap (λ f. f d) (fold_out-Stmt (ℕ → List Instr) stmt_step s)
 
 pub record Parts (code : List Instr) (p : ℕ) (xs ys : List Instr) (q : ℕ) : Type 0 where
   pub middle : ℕ
@@ -214,12 +205,7 @@ module _ (code : List Instr) (cs : List ℕ) where
   pub none_at : (d p : ℕ) (l : List Stmt) → Left code cs d p l → slice_get code p ≡ None → l ≡ []
   none_at _ _ _ (At_end p past) e = refl
   none_at _ _ _ (At_stmt d p q s (Stmt-F.Work n) rest o h left) e = let g = h.0 in cc
-  none_at _ _ _ (At_stmt d p q s (Stmt-F.Take x) rest o h left) e = let g = h.0 in cc
-  none_at _ _ _ (At_stmt d p q s (Stmt-F.Set x t) rest o h left) e = let g = h.0 in cc
-  none_at _ _ _ (At_stmt d p q s (Stmt-F.If t first second) rest o h left) e = let g = h.0 in cc
-  none_at _ _ _ (At_stmt d p q s (Stmt-F.Repeat n inner) rest o h left) e = let g = h.0 in cc
-  none_at _ _ _ (At_stmt d p q s (Stmt-F.Out t) rest o h left) e = let g = h.0 in cc
-  none_at _ _ _ (At_stmt d p q s (Stmt-F.Service call) rest o h left) e = let g = h.0 in cc
+  none_at _ _ _ (At_stmt d p q s x rest o h left) e = let g = h.0 in cc
   none_at _ _ _ (At_skip d p q second rest g h left) e = cc
   none_at _ _ _ (At_again d p start back inner rest h far body left) e = cc
 

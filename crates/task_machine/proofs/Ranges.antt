@@ -110,7 +110,6 @@ stmt_level : (y : Stmt-F ((stmt : Stmt) × FineStmt stmt)) (depth before after :
 stmt_level (Stmt-F.Work ticks) depth before after deep fits =
     let range = nat_le 1 ticks && nat_le ticks 10000000 in
     (from_nat_le 1 ticks (and_left (nat_le 1 ticks) _ (and_left range _ fits)), tt)
-stmt_level (Stmt-F.Take demand) depth before after deep fits = (tt, tt)
 stmt_level (Stmt-F.Set var expr) depth before after deep fits = (tt, expr_fine expr _ _)
 stmt_level (Stmt-F.If expr first second) depth before after deep fits =
     let one = λ (b a : ℕ). body_fine first depth b a (omega arith)
@@ -126,7 +125,7 @@ stmt_level (Stmt-F.Repeat turns inner) depth before after deep fits =
     repeat_fine before after depth turns (body_code (suc depth) (stmts inner)) some few
     (λ b a. body_fine inner (suc depth) b a (omega arith) (and_right range _ fits))
 stmt_level (Stmt-F.Out expr) depth before after deep fits = (tt, expr_fine expr _ _)
-stmt_level (Stmt-F.Service call) depth before after deep fits = (tt, tt)
+stmt_level y depth before after deep fits = (tt, tt)
 
 stmt_fine : (stmt : Stmt) → FineStmt stmt
 stmt_fine = ind-Stmt FineStmt (λ x y is depth before after deep fits.
@@ -181,15 +180,11 @@ fine_at (x ∷ xs) before after (suc p) instr fine is =
 
 to_range : (len place after : ℕ) (instr : Instr) → after ≤ len → IsFine place instr after → IsInRange len place instr
 to_range len place after (i.Work ticks) few fine = fine
-to_range len place after (i.Take demand) few fine = tt
-to_range len place after (i.Set var) few fine = tt
 to_range len place after (i.If passed) few fine = omega arith
 to_range len place after (i.Skip passed) few fine = omega arith
 to_range len place after (i.Repeat counter turns) few fine = fine
 to_range len place after (i.Again counter back) few fine = fine
-to_range len place after i.Out few fine = tt
-to_range len place after (i.Service call) few fine = tt
-to_range len place after (i.Term term) few fine = tt
+to_range len place after instr few fine = tt
 
 pub code_in_range : (body : List Stmt) → nesting_in body ≤ 4 → each_in is_number_in_range body ≡ true
     → length (body_code 0 body) < 2 ^ 48

@@ -7,7 +7,8 @@ use Rattle.task_lang.specs.declared.syntax.Stmt.TheOpen.{Stmt-F}
 use Rattle.task_lang.specs.declared.syntax.Stmt.TheVariants.{outs-Work, outs-Repeat}
 use Rattle.task_lang.specs.Tick.{State, supply_of, state_of, ticks, repeat_then}
 use Rattle.task_lang.specs.declared.tick.Effect.{Effect}
-use Rattle.task_machine.specs.Place.{Left, Rests, work_in}
+use Rattle.task_machine.specs.Layout.{body_code}
+use Rattle.task_machine.specs.Place.{Left, At_end, At_stmt, At_skip, At_again, Rests, work_in}
 use Rattle.task_machine.specs.Standing.{body_of, code_of, left_of, IsAt, IsSound, StandsFor, work_of, work_in_front}
 use Rattle.task_machine.specs.Ticking.{Advanced, begin}
 use Rattle.task_machine.specs.Stored.{Store}
@@ -15,7 +16,6 @@ use Rattle.task_machine.specs.declared.frame.Frame.{Frame}
 use Rattle.task_machine.specs.declared.instr.Instr.{Instr}
 use Rattle.task_machine.specs.declared.instr.Instr.TheVariants as i
 use Rattle.task_machine.proofs.Ends.{whole}
-use Rattle.task_machine.proofs.Fronts.{Fronts, front_at, none_at}
 use Rattle.task_machine.proofs.OnlyLeft.{rests_is}
 use Rattle.task_machine.proofs.Steps.{rests_left, never_passed, never_done}
 
@@ -52,41 +52,25 @@ codes_grow codes more frame l stands =
 
 -- ---- what is in front
 
-front_is : (code : List Instr) (cs : List ℕ) (l : List Stmt) (x : Stmt-F Stmt) (Then : List Stmt → Type 0)
-    → Fronts code cs l x Then → work_in_front l ≡ work_of x
-front_is code cs l x Then f = ap work_in_front f.is ∙ ap work_of f.front
+again_front : (k : ℕ) (inner rest : List Stmt) → (k ≡ 0 → ⊥) → 0 ≡ work_in_front (repeat_then k inner rest)
+again_front zero inner rest some = absurd (some refl)
+again_front (suc k) inner rest some = sym (ap work_of (outs-Repeat (suc k) inner))
 
-module _ (code : List Instr) (cs : List ℕ) (l : List Stmt) (p : ℕ) (r : Rests code cs l p 0) where
-  again_front : (k : ℕ) (inner rest : List Stmt) → l ≡ repeat_then k inner rest → (k ≡ 0 → ⊥) → 0 ≡ work_in_front l
-  again_front zero inner rest is some = absurd (some refl)
-  again_front (suc k) inner rest is some = sym (ap work_in_front is ∙ ap work_of (outs-Repeat (suc k) inner))
-
-  idle_front : (o : Option Instr) → slice_get code p ≡ o → 0 ≡ work_in_front l
-  idle_front None g = sym (ap work_in_front (none_at code cs r.depth p l (rests_left code cs l p r) g))
-  idle_front (Some (i.Work n)) g =
-      let f = front_at code cs r.depth p l (rests_left code cs l p r) (i.Work n) g in
-      sym (front_is code cs l _ _ f ∙ ap work_in (sym g) ∙ (r.still refl).idle)
-  idle_front (Some (i.Take x)) g =
-      sym (front_is code cs l _ _ (front_at code cs r.depth p l (rests_left code cs l p r) (i.Take x) g))
-  idle_front (Some (i.Set x)) g =
-      sym (front_is code cs l _ _ (front_at code cs r.depth p l (rests_left code cs l p r) (i.Set x) g).fronts)
-  idle_front (Some (i.If n)) g =
-      sym (front_is code cs l _ _ (front_at code cs r.depth p l (rests_left code cs l p r) (i.If n) g).fronts)
-  idle_front (Some (i.Skip n)) g = absurd (never_passed code cs l p (i.Skip n) r g tt)
-  idle_front (Some (i.Repeat c n)) g =
-      sym (front_is code cs l _ _ (front_at code cs r.depth p l (rests_left code cs l p r) (i.Repeat c n) g).fronts)
-  idle_front (Some (i.Again c back)) g =
-      let f = front_at code cs r.depth p l (rests_left code cs l p r) (i.Again c back) g in
-      again_front (slice_index cs c) f.inner f.rest f.is (never_done code cs l p back c r g)
-  idle_front (Some i.Out) g =
-      sym (front_is code cs l _ _ (front_at code cs r.depth p l (rests_left code cs l p r) i.Out g).fronts)
-  idle_front (Some (i.Service call)) g =
-      sym (front_is code cs l _ _ (front_at code cs r.depth p l (rests_left code cs l p r) (i.Service call) g))
-  idle_front (Some (i.Term t)) g = absurd (never_passed code cs l p (i.Term t) r g tt)
+module _ (code : List Instr) (cs : List ℕ) where
+  -- where a frame rests with no work begun, no work is in front
+  idle_front : (d p : ℕ) (l : List Stmt) → Left code cs d p l → Rests code cs l p 0 → 0 ≡ work_in_front l
+  idle_front _ _ _ (At_end p past) r = refl
+  idle_front _ _ _ (At_stmt d p q s (Stmt-F.Work n) rest o h left) r =
+      sym (ap work_of o ∙ ap work_in (sym h.0) ∙ (r.still refl).idle)
+  idle_front _ _ _ (At_stmt d p q s x rest o h left) r = sym (ap work_of o)
+  idle_front _ _ _ (At_skip d p q second rest g h left) r =
+      absurd (never_passed code cs rest p (i.Skip (length (body_code d second))) r g tt)
+  idle_front _ _ _ (At_again d p start back inner rest g far body left) r =
+      again_front (slice_index cs d) inner rest (never_done code cs _ p back d r g)
 
 -- The work that was begun is the `work` at the front.
 front_work : (code : List Instr) (cs : List ℕ) (l : List Stmt) (p w : ℕ) → Rests code cs l p w → w ≡ work_in_front l
-front_work code cs l p zero r = idle_front code cs l p r (slice_get code p) refl
+front_work code cs l p zero r = idle_front code cs r.depth p l (rests_left code cs l p r) r
 front_work code cs l p (suc w) r = sym (ap work_in_front r.is ∙ ap work_of (outs-Work (suc w)))
 
 pub begun_is_front : (codes : List (List Stmt)) (frame : Frame) → IsSound codes frame

@@ -44,7 +44,6 @@ module _ (code : List Instr) (cs : List ℕ) where
 
   pass_by : (d p n : ℕ) (l : List Stmt) (o : Option Instr) → slice_get code p ≡ o → Some n ≡ passes cs o
       → Left code cs d p l → Reaches (p + n) l
-  pass_by d p n l None g e left = cc
   pass_by d p n l (Some (i.Skip m)) g e left =
       let is : n ≡ m + 1 = cc in
       let same : p + 1 + m ≡ p + n = omega arith in
@@ -53,14 +52,7 @@ module _ (code : List Instr) (cs : List ℕ) where
       let z = at_none_zero (slice_index cs c) n e in
       let r = again_done d c back p l (front_at code cs d p l left (i.Again c back) g) z.0 in
       subst (λ k. Reaches (p + k) l) (sym z.1) r
-  pass_by d p n l (Some (i.Work m)) g e left = cc
-  pass_by d p n l (Some (i.Take x)) g e left = cc
-  pass_by d p n l (Some (i.Set x)) g e left = cc
-  pass_by d p n l (Some (i.If m)) g e left = cc
-  pass_by d p n l (Some (i.Repeat c m)) g e left = cc
-  pass_by d p n l (Some i.Out) g e left = cc
-  pass_by d p n l (Some (i.Service call)) g e left = cc
-  pass_by d p n l (Some (i.Term t)) g e left = cc
+  pass_by d p n l o g e left = cc
 
   pub passed : (d p n : ℕ) (l : List Stmt) → Some n ≡ passes cs (slice_get code p) → Left code cs d p l
       → Reaches (p + n) l
@@ -81,19 +73,10 @@ module _ (code : List Instr) (cs : List ℕ) where
 
   work_by : (d p w : ℕ) (l : List Stmt) (o : Option Instr) → slice_get code p ≡ o → w ≡ work_in o → 0 < w
       → Left code cs d p l → Rests code cs l (p + 1) w
-  work_by d p w l None g e some left = absurd (omega arith)
   work_by d p w l (Some (i.Work n)) g e some left =
       subst (λ k. Rests code cs l (p + 1) k) (sym e)
       (begins_work n d (p + 1) l (omega arith) (front_at code cs d p l left (i.Work n) g))
-  work_by d p w l (Some (i.Skip m)) g e some left = absurd (omega arith)
-  work_by d p w l (Some (i.Again c back)) g e some left = absurd (omega arith)
-  work_by d p w l (Some (i.Take x)) g e some left = absurd (omega arith)
-  work_by d p w l (Some (i.Set x)) g e some left = absurd (omega arith)
-  work_by d p w l (Some (i.If m)) g e some left = absurd (omega arith)
-  work_by d p w l (Some (i.Repeat c m)) g e some left = absurd (omega arith)
-  work_by d p w l (Some i.Out) g e some left = absurd (omega arith)
-  work_by d p w l (Some (i.Service call)) g e some left = absurd (omega arith)
-  work_by d p w l (Some (i.Term t)) g e some left = absurd (omega arith)
+  work_by d p w l o g e some left = absurd (omega arith)
 
   pub work_begun : (d p w : ℕ) (l : List Stmt) → w ≡ work_in (slice_get code p) → 0 < w → Left code cs d p l
       → Rests code cs l (p + 1) w
@@ -120,13 +103,7 @@ never_passed code cs l p (i.Work n) r g is = let still = r.still refl in let e :
 never_passed code cs l p (i.Skip n) r g is = let still = r.still refl in let e : Some (n + 1) ≡ None =
     ap (passes cs) (sym g) ∙ still.ticks in cc
 never_passed code cs l p (i.Term t) r g is = front_at code cs r.depth p l (rests_left code cs l p r) (i.Term t) g
-never_passed code cs l p (i.Take x) r g is = is
-never_passed code cs l p (i.Set x) r g is = is
-never_passed code cs l p (i.If n) r g is = is
-never_passed code cs l p (i.Repeat c n) r g is = is
-never_passed code cs l p (i.Again c back) r g is = is
-never_passed code cs l p i.Out r g is = is
-never_passed code cs l p (i.Service call) r g is = is
+never_passed code cs l p j r g is = is
 
 some_none : (n : ℕ) → Some n ≡ None → ⊥
 some_none n e = cc

@@ -5,7 +5,7 @@ use Rattle.task_lang.specs.declared.syntax.Expr.TheOpen.{Expr-F}
 use Rattle.task_lang.specs.declared.syntax.Expr.TheFolds.{fold-Expr}
 use Rattle.task_lang.specs.declared.syntax.Stmt.{Stmt}
 use Rattle.task_lang.specs.declared.syntax.Stmt.TheOpen.{Stmt-F}
-use Rattle.task_lang.specs.declared.syntax.Stmt.TheFolds.{fold-Stmt}
+use Rattle.task_lang.specs.declared.syntax.Stmt.TheFolds.{fold-Stmt, map-Stmt}
 use Rattle.task_machine.specs.declared.instr.Instr.{Instr}
 use Rattle.task_machine.specs.declared.instr.Instr.TheVariants as i
 use Rattle.task_machine.specs.declared.instr.Term.{Term}
@@ -49,16 +49,9 @@ stmt_code = fold-Stmt (ℕ → List Instr) stmt_step
 abbrev pub body_code : ℕ → List Stmt → List Instr
 body_code depth body = joined depth (map stmt_code body)
 
--- the same for one level
+-- the code of an opened statement inside n repetitions
 abbrev pub layer_code : ℕ → Stmt-F Stmt → List Instr
-layer_code depth (Stmt-F.Work ticks) = i.Work ticks ∷ []
-layer_code depth (Stmt-F.Take demand) = i.Take demand ∷ []
-layer_code depth (Stmt-F.Set var expr) = i.Set var ∷ expr_code expr
-layer_code depth (Stmt-F.If expr first second) =
-    if_code (expr_code expr) (body_code depth first) (body_code depth second)
-layer_code depth (Stmt-F.Repeat turns inner) = repeat_code depth turns (body_code (suc depth) inner)
-layer_code depth (Stmt-F.Out expr) = i.Out ∷ expr_code expr
-layer_code depth (Stmt-F.Service call) = i.Service call ∷ []
+layer_code depth stmt = stmt_step (map-Stmt Stmt (ℕ → List Instr) stmt_code stmt) depth
 
 -- These instructions are in the code, from the first place up to the second.
 abbrev pub Stands : List Instr → ℕ → List Instr → ℕ → Type 0
