@@ -1,5 +1,5 @@
 -- What the rules on single rows say of the heads and the parts that rows give.
-use Rattle.std.proofs.Common.{◌≡◌, ℕ, Bool, true, List, [], ◌∷◌, Option, Some, None, refl}
+use Rattle.std.proofs.Common.{◌≡◌, ℕ, true, List, [], ◌∷◌, Option, Some, None, refl}
 use Rattle.std.specs.Prelude.{codes, nat_lt, IfSome}
 use Rattle.std.specs.List.{AllByRecursion as Each, list_all}
 use Rattle.std.proofs.lemmas.Bool.{and_from, and_parts, lt-ltb}
@@ -25,7 +25,7 @@ use Rattle.tt_rules.specs.BodyRules.{are_names_declared, is_declared, lines_14, 
 use Rattle.tt_rules.specs.DeclarationRules.{has_numbers_in_range, lines_9}
 use Rattle.tt_rules.proofs.Each.{each_from_all, each_map, each_weaker, each_both}
 use Rattle.tt_rules.proofs.Kept.{EachRow, each_row}
-use Rattle.tt_rules.proofs.SoundBodies.{Passes, passes}
+use Rattle.tt_rules.proofs.SoundBodies.{Passes}
 use Rattle.tt_config.proofs.Expressions.{last_sound, reads-expression_of, short-last}
 use Rattle.tt_config.proofs.Known.{number_below}
 
