@@ -41,12 +41,7 @@ outs_more at hook vars body i stmt h e =
 not_inside : (front : Stmt-F Stmt) (inside : Stmt → Bool)
     → is_expression_short (map-Stmt Stmt Bool inside front) ≡ is_expression_short front
 not_inside (Stmt-F.Work ticks) inside = refl
-not_inside (Stmt-F.Take demand) inside = refl
-not_inside (Stmt-F.Set var expr) inside = refl
-not_inside (Stmt-F.If expr first second) inside = refl
-not_inside (Stmt-F.Repeat turns body) inside = refl
-not_inside (Stmt-F.Out expr) inside = refl
-not_inside (Stmt-F.Service call) inside = refl
+not_inside front inside = refl
 
 short_front : (stmt : Stmt) → each_of is_expression_short stmt ≡ true → is_expression_short (out-Stmt stmt) ≡ true
 short_front stmt passed =

@@ -60,12 +60,7 @@ module _ (supply : Supply) (vars : List ℤ) (cursors : List ℕ) where
       → tick_by supply (state_of left vars cursors []) x rest
       ≡ state_of (work_then (work_of x - 1) rest) vars cursors []
   by_front left (Stmt-F.Work n) rest l = refl
-  by_front left (Stmt-F.Take demand) rest l = absurd (omega arith)
-  by_front left (Stmt-F.Set var expr) rest l = absurd (omega arith)
-  by_front left (Stmt-F.If expr first second) rest l = absurd (omega arith)
-  by_front left (Stmt-F.Repeat turns body) rest l = absurd (omega arith)
-  by_front left (Stmt-F.Out expr) rest l = absurd (omega arith)
-  by_front left (Stmt-F.Service call) rest l = absurd (omega arith)
+  by_front left front rest l = absurd (omega arith)
 
   -- a tick of work takes it off, and does nothing else
   pub tick_works : (left : List Stmt) → 1 ≤ work_in_front left
