@@ -1,12 +1,11 @@
 -- An expression as it is read term by term.
 use Rattle.std.proofs.Common.{◌≡◌, ℕ, zero, suc, ◌+◌, ◌-◌, ◌≤◌, ◌<◌, List, [], ◌∷◌, ◌++◌, length, Option, Some, None, refl, sym, ap, ◌∙◌, subst, arith}
 use Rattle.std.specs.Prelude.{option_map}
-use Rattle.std.proofs.lemmas.Bool.{cond-true, cond-false}
-use Rattle.std.proofs.lemmas.List.{append-nil, append_assoc}
+use Rattle.std.proofs.lemmas.List.{append_assoc}
 use Rattle.tt_rows.specs.declared.row.Term.{Term}
 use Rattle.tt_rows.specs.declared.row.Term.TheVariants as term
 use Rattle.tt_rows.specs.Sound.{are_expressions}
-use Rattle.tt_read.specs.Reading.{term_of, term_in_front, terms_of, expected_after, expression_of}
+use Rattle.tt_read.specs.Reading.{term_of, term_in_front, terms_of, expected_after}
 
 -- from all the words these terms were read; n expressions are still expected, and these words are left
 pub record Parsed (all : List (List ℕ)) (terms : List Term) (expected : ℕ) (left : List (List ℕ)) : Type 0 where

@@ -9,7 +9,6 @@ use Rattle.tt_doc.specs.Lines.{Line, lines_of, is_plain_byte}
 use Rattle.tt_doc.specs.Words.{is_comment, words_of}
 use Rattle.tt_rows.specs.declared.row.Row.{Row}
 use Rattle.tt_rows.specs.declared.row.NumberedRow.{NumberedRow}
-use Rattle.tt_rows.specs.Spelling.{spelling_of}
 use Rattle.tt_read.specs.declared.form.FormKind.{FormKind}
 use Rattle.tt_read.specs.declared.form.FormKind.TheVariants as kind
 use Rattle.tt_read.specs.Document.{row_of_words, word_fault, fault_by, fault_of_line, Fault, fault_or, first_fault, row_then, rows_of, Rows, Faulty, document_by, document_of}

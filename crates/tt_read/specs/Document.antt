@@ -1,5 +1,5 @@
 -- The rows of a document, or the first fault of its form.
-use Rattle.std.specs.Prelude.{ℕ, ◌+◌, ◌==◌, Bool, true, false, List, [], ◌∷◌, ◌++◌, flat_map, Option, Some, None, if◌then◌else◌, is_some}
+use Rattle.std.specs.Prelude.{ℕ, ◌+◌, List, [], ◌∷◌, ◌++◌, flat_map, Option, Some, None, if◌then◌else◌, is_some}
 use Rattle.tt_doc.specs.declared.lines.LineKind.{LineKind}
 use Rattle.tt_doc.specs.Lines.{Line, lines_of, fault_of}
 use Rattle.tt_doc.specs.Words.{is_comment, words_of}
