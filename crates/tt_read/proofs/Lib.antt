@@ -1,3 +1,4 @@
+pub mod Lengths
 pub mod TermLaws
 pub mod Found
 pub mod Complete

@@ -51,6 +51,10 @@ keywords =
     ∷ k.Arrive ∷ k.Time ∷ k.Work
     ∷ k.Take ∷ k.Set ∷ k.If ∷ k.Else ∷ k.Repeat ∷ k.End ∷ k.Out ∷ k.Switch ∷ k.Sync ∷ k.Chain ∷ k.Terminate ∷ []
 
+-- a text as one of these words
+unfoldable pub keyword_among : List Keyword → List ℕ → Option Keyword
+keyword_among words text = find (λ keyword. bytes_eq text (keyword_text keyword)) words
+
 -- a text as a word of the language
 unfoldable pub keyword_of : List ℕ → Option Keyword
 keyword_of text = find (λ keyword. bytes_eq text (keyword_text keyword)) keywords

@@ -1,7 +1,7 @@
 //! The words of the language.
 
-ghost use Rattle.std.specs.Prelude.{◌≡◌};
-ghost use Rattle.tt_read.specs.Keywords.{keyword_of, keyword_text};
+ghost use Rattle.std.specs.Prelude.{◌≡◌, [], ◌∷◌};
+ghost use Rattle.tt_read.specs.Keywords.{keyword_among, keyword_of, keyword_text};
 
 /// A word of the language: the first word of a row, or one between its fields.
 #[derive(Clone, Copy)]
@@ -46,50 +46,18 @@ pub enum Keyword {
 }
 
 impl Keyword {
-    /// A text as a word of the language.
-    #[tactic(auto, unfolding(crate::specs::Keywords::keyword_of))]
+    /// A text as a word of the language. It is looked for among those of its length.
+    #[tactic(auto, using(crate::proofs::Lengths::keyword_lengths))]
     pub fn new(text: &[u8]) -> Option<Keyword>
         ensures { result ≡ keyword_of text.now }
     {
-        match text {
-            b"osektime" => Some(Keyword::Osektime),
-            b"1" => Some(Keyword::One),
-            b"round" => Some(Keyword::Round),
-            b"adjust" => Some(Keyword::Adjust),
-            b"mode" => Some(Keyword::Mode),
-            b"var" => Some(Keyword::Var),
-            b"demand" => Some(Keyword::Demand),
-            b"task" => Some(Keyword::Task),
-            b"isr" => Some(Keyword::Isr),
-            b"osek" => Some(Keyword::Osek),
-            b"auto" => Some(Keyword::Auto),
-            b"oisr" => Some(Keyword::Oisr),
-            b"hook" => Some(Keyword::Hook),
-            b"error" => Some(Keyword::Error),
-            b"shutdown" => Some(Keyword::Shutdown),
-            b"at" => Some(Keyword::At),
-            b"activate" => Some(Keyword::Activate),
-            b"stringent" => Some(Keyword::Stringent),
-            b"nonstringent" => Some(Keyword::Nonstringent),
-            b"enable" => Some(Keyword::Enable),
-            b"start" => Some(Keyword::Start),
-            b"rounds" => Some(Keyword::Rounds),
-            b"value" => Some(Keyword::Value),
-            b"arrive" => Some(Keyword::Arrive),
-            b"time" => Some(Keyword::Time),
-            b"work" => Some(Keyword::Work),
-            b"take" => Some(Keyword::Take),
-            b"set" => Some(Keyword::Set),
-            b"if" => Some(Keyword::If),
-            b"else" => Some(Keyword::Else),
-            b"repeat" => Some(Keyword::Repeat),
-            b"end" => Some(Keyword::End),
-            b"out" => Some(Keyword::Out),
-            b"switch" => Some(Keyword::Switch),
-            b"sync" => Some(Keyword::Sync),
-            b"chain" => Some(Keyword::Chain),
-            b"terminate" => Some(Keyword::Terminate),
-            _ => None,
+        match text.len() {
+            0..=2 => of_one_or_two(text),
+            3 => of_three(text),
+            4 => of_four(text),
+            5 => of_five(text),
+            6 => of_six(text),
+            _ => of_more(text),
         }
     }
 
@@ -136,5 +104,108 @@ impl Keyword {
             Keyword::Chain => b"chain",
             Keyword::Terminate => b"terminate",
         }
+    }
+}
+
+/// A text of at most two bytes as a word of the language.
+#[tactic(auto, unfolding(crate::specs::Keywords::keyword_among))]
+fn of_one_or_two(text: &[u8]) -> Option<Keyword>
+    ensures { result ≡ keyword_among (Keyword.One ∷ Keyword.At ∷ Keyword.If ∷ []) text.now }
+{
+    match text {
+        b"1" => Some(Keyword::One),
+        b"at" => Some(Keyword::At),
+        b"if" => Some(Keyword::If),
+        _ => None,
+    }
+}
+
+/// A text of three bytes as a word of the language.
+#[tactic(auto, unfolding(crate::specs::Keywords::keyword_among))]
+fn of_three(text: &[u8]) -> Option<Keyword>
+    ensures { result ≡ keyword_among (Keyword.Var ∷ Keyword.Isr ∷ Keyword.Set ∷ Keyword.End ∷
+        Keyword.Out ∷ []) text.now }
+{
+    match text {
+        b"var" => Some(Keyword::Var),
+        b"isr" => Some(Keyword::Isr),
+        b"set" => Some(Keyword::Set),
+        b"end" => Some(Keyword::End),
+        b"out" => Some(Keyword::Out),
+        _ => None,
+    }
+}
+
+/// A text of four bytes as a word of the language.
+#[tactic(auto, unfolding(crate::specs::Keywords::keyword_among))]
+fn of_four(text: &[u8]) -> Option<Keyword>
+    ensures { result ≡ keyword_among (Keyword.Mode ∷ Keyword.Task ∷ Keyword.Osek ∷ Keyword.Auto
+        ∷ Keyword.Oisr ∷ Keyword.Hook ∷ Keyword.Time ∷ Keyword.Work ∷ Keyword.Take ∷
+        Keyword.Else ∷ Keyword.Sync ∷ []) text.now }
+{
+    match text {
+        b"mode" => Some(Keyword::Mode),
+        b"task" => Some(Keyword::Task),
+        b"osek" => Some(Keyword::Osek),
+        b"auto" => Some(Keyword::Auto),
+        b"oisr" => Some(Keyword::Oisr),
+        b"hook" => Some(Keyword::Hook),
+        b"time" => Some(Keyword::Time),
+        b"work" => Some(Keyword::Work),
+        b"take" => Some(Keyword::Take),
+        b"else" => Some(Keyword::Else),
+        b"sync" => Some(Keyword::Sync),
+        _ => None,
+    }
+}
+
+/// A text of five bytes as a word of the language.
+#[tactic(auto, unfolding(crate::specs::Keywords::keyword_among))]
+fn of_five(text: &[u8]) -> Option<Keyword>
+    ensures { result ≡ keyword_among (Keyword.Round ∷ Keyword.Error ∷ Keyword.Start ∷
+        Keyword.Value ∷ Keyword.Chain ∷ []) text.now }
+{
+    match text {
+        b"round" => Some(Keyword::Round),
+        b"error" => Some(Keyword::Error),
+        b"start" => Some(Keyword::Start),
+        b"value" => Some(Keyword::Value),
+        b"chain" => Some(Keyword::Chain),
+        _ => None,
+    }
+}
+
+/// A text of six bytes as a word of the language.
+#[tactic(auto, unfolding(crate::specs::Keywords::keyword_among))]
+fn of_six(text: &[u8]) -> Option<Keyword>
+    ensures { result ≡ keyword_among (Keyword.Adjust ∷ Keyword.Demand ∷ Keyword.Enable ∷
+        Keyword.Rounds ∷ Keyword.Arrive ∷ Keyword.Repeat ∷ Keyword.Switch ∷ []) text.now }
+{
+    match text {
+        b"adjust" => Some(Keyword::Adjust),
+        b"demand" => Some(Keyword::Demand),
+        b"enable" => Some(Keyword::Enable),
+        b"rounds" => Some(Keyword::Rounds),
+        b"arrive" => Some(Keyword::Arrive),
+        b"repeat" => Some(Keyword::Repeat),
+        b"switch" => Some(Keyword::Switch),
+        _ => None,
+    }
+}
+
+/// A text of seven bytes or more as a word of the language.
+#[tactic(auto, unfolding(crate::specs::Keywords::keyword_among))]
+fn of_more(text: &[u8]) -> Option<Keyword>
+    ensures { result ≡ keyword_among (Keyword.Osektime ∷ Keyword.Shutdown ∷ Keyword.Activate ∷
+        Keyword.Stringent ∷ Keyword.Nonstringent ∷ Keyword.Terminate ∷ []) text.now }
+{
+    match text {
+        b"osektime" => Some(Keyword::Osektime),
+        b"shutdown" => Some(Keyword::Shutdown),
+        b"activate" => Some(Keyword::Activate),
+        b"stringent" => Some(Keyword::Stringent),
+        b"nonstringent" => Some(Keyword::Nonstringent),
+        b"terminate" => Some(Keyword::Terminate),
+        _ => None,
     }
 }
