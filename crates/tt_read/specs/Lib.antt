@@ -3,7 +3,6 @@ pub mod Keywords
 pub mod Reading
 pub mod FormKind
 pub mod Document
-pub mod Content
 pub mod FormFault
 pub mod Parts
 pub mod Puts

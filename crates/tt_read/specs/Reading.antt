@@ -1,5 +1,5 @@
 -- The words of a line as a row, read from left to right.
-use Rattle.std.specs.Prelude.{ℕ, ◌+◌, ◌-◌, ℤ, nat_le, List, [], ◌∷◌, length, Option, Some, None, option_map, if◌then◌else◌, find}
+use Rattle.std.specs.Prelude.{ℕ, ◌+◌, ◌-◌, ℤ, nat_le, Bool, true, false, List, [], ◌∷◌, length, Option, Some, None, option_map, if◌then◌else◌, find}
 use Rattle.std.specs.Str.{bytes_eq}
 use Rattle.task_lang.specs.declared.syntax.Op.{Op}
 use Rattle.task_lang.specs.declared.syntax.Op.TheVariants.{Add, Sub, Mul, Less, AtMost, Same, Differ}
@@ -137,6 +137,21 @@ after_one _ = fail
 abbrev pub after_priority : List ℕ → ℕ → Keyword → Reader
 after_priority task priority k.Auto = stop (r.OsekAuto task priority)
 after_priority task priority _ = fail
+
+-- a row has no field after this first word, or a number alone
+abbrev pub begins_short_row : Keyword → Bool
+begins_short_row k.Round = true
+begins_short_row k.Adjust = true
+begins_short_row k.Rounds = true
+begins_short_row k.Time = true
+begins_short_row k.Work = true
+begins_short_row k.Else = true
+begins_short_row k.Repeat = true
+begins_short_row k.End = true
+begins_short_row k.Sync = true
+begins_short_row k.Shutdown = true
+begins_short_row k.Terminate = true
+begins_short_row _ = false
 
 -- what may follow the first word of a row without an expression
 abbrev pub plain_after : Keyword → Reader

@@ -4,7 +4,6 @@ ghost use Rattle.std.specs.Prelude.{◌≡◌, ◌+◌, ◌<◌, ◌≤◌, ◌^
 ghost use Rattle.tt_doc.specs.Span.{text_of};
 ghost use Rattle.tt_doc.specs.Words.{words_of};
 ghost use Rattle.tt_rows.specs.Sound.{AreSound};
-ghost use Rattle.tt_read.specs.Content.{content_of};
 ghost use Rattle.tt_read.specs.Document.{Document, document_of, row_then, row_of_words, word_fault};
 ghost use Rattle.tt_read.specs.FormFault.{IfForm};
 
@@ -14,38 +13,10 @@ use crate::form::{FormFault, FormKind};
 use std::alloc::Global;
 use tt_base::Memory;
 use tt_doc::{LineStep, Span, next_line};
-use tt_rows::{NumberedRow, Row, Rows};
-
-/// What the words of a line mean in a document.
-#[derive(Drop)]
-enum Content {
-    /// No words, or a comment.
-    Nothing,
-    /// A row.
-    OneRow(Row),
-    /// None of these.
-    NoRow,
-}
-
-/// What the words of a line are.
-#[tactic(auto, using(crate::proofs::LineContent::row_of_line))]
-fn content_at(alloc: Global, bytes: &[u8], span: Span) -> Result<Content, Memory>
-    requires ordered { span.start ≤ span.end }
-    requires short { span.end ≤ span.start + 200 }
-    requires inside { span.end ≤ length bytes.now }
-    ensures { IfOk result (λ content. content ≡ content_of (words_of (text_of bytes.now span))) }
-{
-    let mut cursor = Cursor::new(&bytes[span.start..span.end]);
-    if cursor.is_comment() {
-        return Ok(Content::Nothing);
-    }
-    match row_of(alloc, &mut cursor)? {
-        Some(row) => Ok(Content::OneRow(row)),
-        None => Ok(Content::NoRow),
-    }
-}
+use tt_rows::{NumberedRow, Rows};
 
 /// Appends the row of a line that has no fault of its bytes, where it has a row.
+#[tactic(auto, using(crate::proofs::LineContent::row_of_line))]
 fn read_line(
     alloc: Global,
     bytes: &[u8],
@@ -66,10 +37,13 @@ fn read_line(
         (λ fault. IfForm fault (λ form. (form ≡ record { line = line; kind = FormKind.Row })
         × (word_fault (words_of (text_of bytes.now span)) ≡ Some FormKind.Row))) }
 {
-    match content_at(alloc, bytes, span)? {
-        Content::Nothing => Ok(()),
-        Content::OneRow(row) => Ok(rows.push(NumberedRow { line, row })?),
-        Content::NoRow => Err(FormFault::Form {
+    let mut words = Cursor::new(&bytes[span.start..span.end]);
+    if words.is_comment() {
+        return Ok(());
+    }
+    match row_of(alloc, &mut words)? {
+        Some(row) => Ok(rows.push(NumberedRow { line, row })?),
+        None => Err(FormFault::Form {
             line,
             kind: FormKind::Row,
         }),

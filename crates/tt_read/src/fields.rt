@@ -1,8 +1,8 @@
 //! The fields of a row after its first word.
 #![tactic(auto, unfolding(crate::specs::Reading::one, crate::specs::Reading::fail, crate::specs::Reading::stop, crate::specs::Reading::stop_or, crate::specs::Reading::expression))]
 
-ghost use Rattle.std.specs.Prelude.{◌≡◌, ◌≤◌, length, IfOk};
-ghost use Rattle.tt_read.specs.Reading.{finish, stop, plain_after, after_first, after_one, after_priority, after_hook, after_mode, after_deadline, row_by_words};
+ghost use Rattle.std.specs.Prelude.{◌≡◌, ◌≤◌, false, length, IfOk};
+ghost use Rattle.tt_read.specs.Reading.{begins_short_row, finish, stop, plain_after, after_first, after_one, after_priority, after_hook, after_mode, after_deadline, row_by_words};
 
 use crate::cursor::Cursor;
 use crate::expression::expression;
@@ -11,15 +11,36 @@ use std::alloc::Global;
 use tt_base::{Memory, Name};
 use tt_rows::Row;
 
-/// The row that a first word and the fields after it make, if they make one. Words may be left
+/// The row of a first word and at most one number after it, if they make one. Words may be left
 /// after the fields.
 fn plain_row(first: Keyword, words: &mut Cursor) -> Option<Row>
     ensures { finish result words.new ≡ plain_after first words.old }
 {
     match first {
-        Keyword::Osektime => header(words),
         Keyword::Round => Some(Row::Round(words.number()?)),
         Keyword::Adjust => Some(Row::Adjust(words.number()?)),
+        Keyword::Rounds => Some(Row::Rounds(words.number()?)),
+        Keyword::Time => Some(Row::Time(words.number()?)),
+        Keyword::Work => Some(Row::Work(words.number()?)),
+        Keyword::Else => Some(Row::Else),
+        Keyword::Repeat => Some(Row::Repeat(words.number()?)),
+        Keyword::End => Some(Row::End),
+        Keyword::Sync => Some(Row::Sync),
+        Keyword::Shutdown => Some(Row::Shutdown),
+        Keyword::Terminate => Some(Row::Terminate),
+        _ => row_of_fields(first, words),
+    }
+}
+
+/// The row of a first word and other fields after it, if they make one. Words may be left after
+/// the fields. It is no part of its caller, so that a row without a name takes no room for one.
+#[inline(never)]
+fn row_of_fields(first: Keyword, words: &mut Cursor) -> Option<Row>
+    requires { begins_short_row first ≡ false }
+    ensures { finish result words.new ≡ plain_after first words.old }
+{
+    match first {
+        Keyword::Osektime => header(words),
         Keyword::Mode => Some(Row::Mode(words.name()?)),
         Keyword::Var => Some(Row::Var(words.name()?, words.integer()?)),
         Keyword::Demand => Some(Row::Demand(words.name()?, words.number()?, words.number()?)),
@@ -30,21 +51,12 @@ fn plain_row(first: Keyword, words: &mut Cursor) -> Option<Row>
         Keyword::Hook => hook(words),
         Keyword::At => at(words),
         Keyword::Start => Some(Row::Start(words.name()?)),
-        Keyword::Rounds => Some(Row::Rounds(words.number()?)),
         Keyword::Value => Some(Row::Value(words.name()?, words.number()?)),
         Keyword::Arrive => Some(Row::Arrive(words.name()?, words.number()?)),
-        Keyword::Time => Some(Row::Time(words.number()?)),
-        Keyword::Work => Some(Row::Work(words.number()?)),
         Keyword::Take => Some(Row::Take(words.name()?)),
-        Keyword::Else => Some(Row::Else),
-        Keyword::Repeat => Some(Row::Repeat(words.number()?)),
-        Keyword::End => Some(Row::End),
         Keyword::Switch => Some(Row::Switch(words.name()?)),
-        Keyword::Sync => Some(Row::Sync),
-        Keyword::Shutdown => Some(Row::Shutdown),
         Keyword::Activate => Some(Row::Activate(words.name()?)),
         Keyword::Chain => Some(Row::Chain(words.name()?)),
-        Keyword::Terminate => Some(Row::Terminate),
         _ => None,
     }
 }

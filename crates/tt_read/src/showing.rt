@@ -103,6 +103,7 @@ fn put_terms<O: Sink>(terms: &[Term], buffer: &mut Buffer, sink: &mut O) -> Resu
 }
 
 /// Puts a part of a row's line, each word with a space in front.
+#[inline(always)]
 fn put_part<O: Sink>(part: &Part, buffer: &mut Buffer, sink: &mut O) -> Result<(), WriteFault>
     ensures text { Puts result (O.written sink.old) (O.written sink.new) buffer.old buffer.new
         (spaced_part part.now) }
@@ -129,6 +130,17 @@ fn put_parts<O: Sink>(parts: &[Part], buffer: &mut Buffer, sink: &mut O) -> Resu
         put_part(part, buffer, sink)?;
     }
     Ok(())
+}
+
+/// Puts the one part of a row's line after its first word.
+#[inline(always)]
+fn put_one_part<O: Sink>(part: &Part, buffer: &mut Buffer, sink: &mut O) -> Result<(), WriteFault>
+    ensures text { Puts result (O.written sink.old) (O.written sink.new) buffer.old buffer.new
+        (flat_map spaced_part (part.now ∷ [])) }
+    ensures cause { OnErr result (Rose (O.faults sink.old) (O.faults sink.new)) }
+    ensures never_falls { O.faults sink.old ≤ O.faults sink.new }
+{
+    put_part(part, buffer, sink)
 }
 
 /// The first word of a row's line.
@@ -178,9 +190,9 @@ fn put_fields<O: Sink>(row: &Row, buffer: &mut Buffer, sink: &mut O) -> Result<(
     ensures never_falls { O.faults sink.old ≤ O.faults sink.new }
 {
     match row {
-        Row::Header => put_parts(&[Part::Key(Keyword::One)], buffer, sink),
-        Row::HookError => put_parts(&[Part::Key(Keyword::Error)], buffer, sink),
-        Row::HookShutdown => put_parts(&[Part::Key(Keyword::Shutdown)], buffer, sink),
+        Row::Header => put_one_part(&Part::Key(Keyword::One), buffer, sink),
+        Row::HookError => put_one_part(&Part::Key(Keyword::Error), buffer, sink),
+        Row::HookShutdown => put_one_part(&Part::Key(Keyword::Shutdown), buffer, sink),
         Row::Else | Row::End | Row::Sync | Row::Shutdown | Row::Terminate => {
             put_parts(&[], buffer, sink)
         }
@@ -189,21 +201,22 @@ fn put_fields<O: Sink>(row: &Row, buffer: &mut Buffer, sink: &mut O) -> Result<(
         | Row::Rounds(n)
         | Row::Time(n)
         | Row::Work(n)
-        | Row::Repeat(n) => { put_parts(&[Part::Number(*n)], buffer, sink) }
+        | Row::Repeat(n) => { put_one_part(&Part::Number(*n), buffer, sink) }
         Row::Mode(name)
         | Row::Start(name)
         | Row::Take(name)
         | Row::Switch(name)
         | Row::Activate(name)
-        | Row::Chain(name) => { put_parts(&[Part::Named(*name)], buffer, sink) }
+        | Row::Chain(name) => { put_one_part(&Part::Named(*name), buffer, sink) }
         Row::If(terms) | Row::Out(terms) => {
-            put_parts(&[Part::Expression(terms.as_slice())], buffer, sink)
+            put_one_part(&Part::Expression(terms.as_slice()), buffer, sink)
         }
         _ => put_some_fields(row, buffer, sink),
     }
 }
 
 /// Puts the fields of a row's line where there are several.
+#[inline(never)]
 fn put_some_fields<O: Sink>(row: &Row, buffer: &mut Buffer, sink: &mut O) -> Result<(), WriteFault>
     requires { 2 < length (items_of row.now) }
     ensures text { Puts result (O.written sink.old) (O.written sink.new) buffer.old buffer.new
