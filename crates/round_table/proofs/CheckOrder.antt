@@ -1,13 +1,14 @@
 -- The checks of a mode, by entry number and by offset.
-use Rattle.std.proofs.Common.{ℕ, zero, suc, ◌≡◌, ◌+◌, ◌<◌, Bool, true, false, cond, List, [], ◌∷◌, ◌++◌, length, get_or, map, take, refl, sym, ap, ◌∙◌, add-one, arith}
-use Rattle.std.specs.Prelude.{◌&&◌, ◌==◌, not, nat_lt, filter, flat_map}
+use Rattle.std.proofs.Common.{ℕ, ◌≡◌, ◌+◌, ◌<◌, Bool, true, false, cond, List, [], ◌∷◌, ◌++◌, length, get_or, map, take, refl, sym, ap, ◌∙◌, zero-add, arith}
+use Rattle.std.specs.Prelude.{◌&&◌, ◌==◌, not, filter, flat_map}
 use Rattle.std.specs.List.{range_with_len}
 use Rattle.std.specs.List.Sorted.{IsStableByKey, ties}
 use Rattle.std.specs.Ordering.{is_lt, nat_cmp}
 use Rattle.std.proofs.lemmas.Bool.Decides.{nat_tests}
 use Rattle.std.proofs.lemmas.Grind.{flat_map-append}
-use Rattle.std.proofs.lemmas.List.{append-nil, get_or_default, map-append, take_more}
+use Rattle.std.proofs.lemmas.List.{append-nil, get_or_default, map-append, map-id, take_more}
 use Rattle.std.proofs.lemmas.List.Elements.{filter-append, filter_agree}
+use Rattle.std.proofs.lemmas.List.FromFn.{map-range_with_len_more}
 use Rattle.tt_world.specs.declared.config.Activation.{Activation}
 use Rattle.tt_world.specs.declared.config.ModeDef.{ModeDef}
 use Rattle.tt_world.specs.declared.world.Point.{Point}
@@ -19,12 +20,10 @@ use Rattle.round_table.specs.declared.checks.Check.{Check}
 use Rattle.round_table.specs.CheckLists.{check_if, checks_among, ends_among, entries_in}
 use Rattle.round_table.specs.DueRows.{entries_due, entries_of, is_round_end}
 
-range_more : (from n last : ℕ) → from + n ≡ last → range_with_len from (suc n) ≡ range_with_len from n ++ last ∷ []
-range_more from zero last is = let same : from ≡ last = omega arith in ap (λ k. k ∷ []) same
-range_more from (suc n) last is = ap (λ ks. from ∷ ks) (range_more (from + 1) n last (omega arith))
-
 below_more : (n : ℕ) → range_with_len 0 (n + 1) ≡ range_with_len 0 n ++ n ∷ []
-below_more n = ap (range_with_len 0) (add-one n) ∙ range_more 0 n n (omega arith)
+below_more n =
+    sym (map-id (range_with_len 0 (n + 1))) ∙ map-range_with_len_more (λ k. k) 0 n n (zero-add n)
+    ∙ ap (λ ks. ks ++ n ∷ []) (map-id (range_with_len 0 n))
 
 -- the points, the checks and the ends with one more entry
 module _ (mode : ModeDef) (n : ℕ) (within : n < length mode.activations) (p : Point) (d : Activation)

@@ -1,6 +1,6 @@
 -- Cursors in the list of expiry points.
 use Rattle.std.proofs.Common.{ℕ, zero, suc, ◌≡◌, ◌≤◌, ◌<◌, ◌+◌, ◌-◌, Bool, true, false, List, [], ◌∷◌, ◌++◌, length, length-append, Option, None, Some, refl, sym, ap, ◌∙◌, subst, ⊎_elim, add-one, arith}
-use Rattle.std.specs.Prelude.{◌&&◌, ◌==◌, nat_lt, filter, is_none, IfSome, slice_get}
+use Rattle.std.specs.Prelude.{◌==◌, nat_lt, filter, is_none, IfSome, slice_get}
 use Rattle.std.specs.List.{All, AllPairs}
 use Rattle.std.specs.List.Sorted.{IsNonDecreasingBy}
 use Rattle.std.proofs.lemmas.Bool.{and_parts, cases_lt, cases_Bool, cond_both, cond-true, cond-false, eqb-true, le-ltb, lt-ltb}
@@ -8,11 +8,9 @@ use Rattle.std.proofs.lemmas.List.{append-nil, nil_from_length}
 use Rattle.std.proofs.lemmas.List.Elements.{All-cons, All-nil, All-push, All-weaker, filter-append}
 use Rattle.std.proofs.lemmas.List.Quantifiers.{all_pairs_push}
 use Rattle.std.proofs.lemmas.Option.{get_or_from_slice_get, slice_get_past, slice_get_within, IfSome_then}
-use Rattle.tt_base.specs.declared.number.IsrNo.{IsrNo}
-use Rattle.tt_world.specs.declared.config.Enable.{Enable}
 use Rattle.tt_world.specs.declared.config.ModeDef.{ModeDef}
 use Rattle.tt_world.specs.Monitoring.{is_at}
-use Rattle.tt_world.specs.Rows.{enables_at, entry_at}
+use Rattle.tt_world.specs.Rows.{enables_at}
 use Rattle.round_table.specs.declared.due.ExpiryPoint.{ExpiryPoint}
 use Rattle.round_table.specs.Below.{below}
 use Rattle.round_table.specs.Cuts.{IsCut}
@@ -45,8 +43,15 @@ module _ (table : TableRows) where
   abbrev point_at : ℕ → ExpiryPoint
   point_at offset = record { offset = offset; due = due_at offset table }
 
-  pub none_at : (offset : ℕ) → is_free offset table.mode ≡ true → expiry_at table offset ≡ []
+  none_at : (offset : ℕ) → is_free offset table.mode ≡ true → expiry_at table offset ≡ []
   none_at offset e = cond-true (is_free offset table.mode) _ _ e
+
+  -- offsets at which nothing is due have no expiry point
+  pub still_free : (from to : ℕ) → from ≤ to → ((offset : ℕ) → from ≤ offset → offset < to → IsFree offset table.mode)
+      → expiry_below table to ≡ expiry_below table from
+  still_free from to le free =
+      below_still (expiry_at table) from to le
+      (λ offset above under. none_at offset (free_test offset table.mode (free offset above under)))
 
   -- the expiry points of the offsets below a number are at such offsets, and ascend strictly
   points_ascend : (n : ℕ) → All (λ (p : ExpiryPoint). p.offset < n) (expiry_below table n)
@@ -123,8 +128,7 @@ module _ (table : TableRows) where
     unfolding Next
     past_end offset le =
         let all : expiry_below table offset ≡ expiry_points table =
-        below_still (expiry_at table) end offset le
-        (λ j ej jo. none_at j (free_test j table.mode (past j (omega arith)))) in
+        still_free end offset le (λ j ej jo. past j (omega arith)) in
         subst (IsNextPoint table (length (expiry_below table offset)) offset)
         (sym (slice_get_past (expiry_points table) (length (expiry_below table offset))
         (let long = ap length all in omega arith)))
@@ -133,9 +137,7 @@ module _ (table : TableRows) where
           due = tt;
           next = tt;
           free = λ between l b. past between (omega arith);
-          still = λ later l b.
-              sym (ap length (below_still (expiry_at table) offset later l
-              (λ j oj jl. none_at j (free_test j table.mode (past j (omega arith))))));
+          still = λ later l b. sym (ap length (still_free offset later l (λ j oj jl. past j (omega arith))));
         })
 
     here : (offset : ℕ) → offset < end → is_free offset table.mode ≡ false → Next offset
@@ -180,9 +182,8 @@ module _ (table : TableRows) where
     later offset e next =
         let free = free_from_test offset table.mode e in
         let still : expiry_below table (suc offset) ≡ expiry_below table offset =
-        below_still (expiry_at table) offset (suc offset) (omega arith)
-        (λ j oj jo. let same : offset ≡ j = omega arith in
-        none_at j (free_test j table.mode (subst (λ o. IsFree o table.mode) same free))) in
+        still_free offset (suc offset) (omega arith)
+        (λ j oj jo. let same : offset ≡ j = omega arith in subst (λ o. IsFree o table.mode) same free) in
         later_too offset _ _ free refl
         (subst (λ (place : ℕ). IsNextPoint table place (suc offset) (slice_get (expiry_points table) place))
         (ap length still) next)
@@ -201,9 +202,7 @@ module _ (table : TableRows) where
         ∙ ap length
         (⊎_elim (λ (l : offset < end). some_before offset end (omega arith))
         (λ (g : end ≤ offset).
-        all_before offset end g
-        ∙ sym (below_still (expiry_at table) end offset g
-        (λ j ej jo. none_at j (free_test j table.mode (past j (omega arith))))))
+        all_before offset end g ∙ sym (still_free end offset g (λ j ej jo. past j (omega arith))))
         (cases_lt offset end))
 
     pub cursor_next : (place offset : ℕ) → IsCursor table place offset → (found : Option ExpiryPoint)

@@ -1,9 +1,9 @@
 -- Lists that a test cuts in two.
-use Rattle.std.proofs.Common.{ℕ, zero, suc, ◌≡◌, ◌≤◌, ◌<◌, ◌+◌, Bool, true, false, cond, List, [], ◌∷◌, ◌++◌, length, get_or, refl, sym, ap, ◌∙◌, ⊎_elim, arith}
+use Rattle.std.proofs.Common.{ℕ, zero, suc, ◌≡◌, ◌≤◌, ◌<◌, Bool, true, false, cond, List, [], ◌∷◌, ◌++◌, length, get_or, refl, sym, ap, ◌∙◌, arith}
 use Rattle.std.specs.Prelude.{◌||◌, filter}
 use Rattle.std.specs.List.{All}
 use Rattle.std.specs.List.Sorted.{IsPartitionPoint}
-use Rattle.std.proofs.lemmas.Bool.{cases_Bool, cond-true, cond-false, false_from_ne_true}
+use Rattle.std.proofs.lemmas.Bool.{cond-true, cond-false, cond_both, false_from_ne_true}
 use Rattle.std.proofs.lemmas.List.Elements.{All-cons, All-head, All-nil, All-tail}
 use Rattle.round_table.specs.Cuts.{IsCut}
 
@@ -21,16 +21,10 @@ module _ {X : Type 0} (test : X → Bool) where
 
   -- where nothing is kept, nothing passes
   pub filter_empty : (xs : List X) → filter test xs ≡ [] → All (λ x. test x ≡ false) xs
-  filter_empty [] none = All-nil (λ x. test x ≡ false)
-  filter_empty (x ∷ xs) none =
-      ⊎_elim
-      (λ (e : test x ≡ true).
-      let some : x ∷ filter test xs ≡ [] = sym (cond-true (test x) (x ∷ filter test xs) (filter test xs) e) ∙ none in
-      absurd cc)
-      (λ (e : test x ≡ false).
-      All-cons (λ y. test y ≡ false) x xs e
-      (filter_empty xs (sym (cond-false (test x) (x ∷ filter test xs) (filter test xs) e) ∙ none)))
-      (cases_Bool (test x))
+  filter_empty [] = λ none. All-nil (λ x. test x ≡ false)
+  filter_empty (x ∷ xs) =
+      cond_both (test x) (x ∷ filter test xs) (filter test xs) (λ ys. ys ≡ [] → All (λ y. test y ≡ false) (x ∷ xs))
+      (λ _ none. cc) (λ e none. All-cons (λ y. test y ≡ false) x xs e (filter_empty xs none))
 
   pub cut_from : (xs : List X) (place : ℕ) → place ≤ length xs
       → IsPartitionPoint (λ x. test x ≡ true) (λ x. test x ≡ false) xs place → IsCut test xs place

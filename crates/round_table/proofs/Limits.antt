@@ -1,9 +1,9 @@
 -- The monitoring points of a mode whose rows are within a limit: none comes after the limit, and where one is at the
 -- limit, none is the round's end.
-use Rattle.std.proofs.Common.{ℕ, zero, suc, ◌≡◌, ◌≤◌, ◌<◌, ◌+◌, Bool, true, false, List, [], ◌∷◌, ◌++◌, length, get_or, map, Option, None, Some, refl, sym, ap, ◌∙◌, subst, ⊎_elim, arith}
+use Rattle.std.proofs.Common.{ℕ, zero, suc, ◌≡◌, ◌≤◌, ◌<◌, Bool, true, false, List, [], ◌∷◌, ◌++◌, length, get_or, map, Option, None, Some, refl, subst, ⊎_elim, arith}
 use Rattle.std.specs.Prelude.{◌==◌, nat_le, nat_lt, min, flat_map, IfSome}
 use Rattle.std.specs.List.{All}
-use Rattle.std.proofs.lemmas.Bool.{cases_lt, cases_Bool, cond_both, cond-true, cond-false, eqb-true, leb-true, leb-false, ltb-true, ne_eqb}
+use Rattle.std.proofs.lemmas.Bool.{cases_lt, cond_both, eqb-true, leb-true, leb-false, ltb-true, ne_eqb}
 use Rattle.std.proofs.lemmas.List.Elements.{All-append, All-cons, All-head, All-map, All-nil, All-tail, All-weaker}
 use Rattle.std.proofs.lemmas.List.FromFn.{get_or-range_with_len, length-range_with_len}
 use Rattle.tt_world.specs.declared.config.Activation.{Activation}
@@ -61,17 +61,11 @@ module _ (P : ℕ → Type 0) where
 
 -- where there is none, all offsets come before `from`
 pub least_none : (from : ℕ) (xs : List ℕ) → least_from from xs ≡ None → All (λ x. x < from) xs
-least_none from [] e = All-nil (λ x. x < from)
-least_none from (x ∷ xs) e =
-    ⊎_elim
-    (λ (h : nat_le from x ≡ true).
-    let some = sym (cond-true (nat_le from x) (Some (lesser_or x (least_from from xs))) (least_from from xs) h) ∙ e in
-    absurd (let impossible : Some (lesser_or x (least_from from xs)) ≡ None = some in cc))
-    (λ (h : nat_le from x ≡ false).
-    All-cons (λ y. y < from) x xs (leb-false from x h)
-    (least_none from xs (sym (cond-false (nat_le from x) (Some (lesser_or x (least_from from xs)))
-    (least_from from xs) h) ∙ e)))
-    (cases_Bool (nat_le from x))
+least_none from [] = λ none. All-nil (λ x. x < from)
+least_none from (x ∷ xs) =
+    cond_both (nat_le from x) (Some (lesser_or x (least_from from xs))) (least_from from xs)
+    (λ (o : Option ℕ). o ≡ None → All (λ y. y < from) (x ∷ xs)) (λ _ none. cc)
+    (λ h none. All-cons (λ y. y < from) x xs (leb-false from x h) (least_none from xs none))
 
 -- ---- entries
 

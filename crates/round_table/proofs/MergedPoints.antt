@@ -1,15 +1,12 @@
 -- Expiry points, merged from the rows and the checks of a mode.
-use Rattle.std.proofs.Common.{ℕ, zero, suc, ◌≡◌, ◌≤◌, ◌<◌, ◌+◌, ◌-◌, min, Bool, true, false, cond, List, [], ◌∷◌, ◌++◌, length, length-append, get_or, map, Option, None, Some, refl, sym, ap, ◌∙◌, subst, inl, inr, ⊎_elim, arith}
-use Rattle.std.specs.Prelude.{◌⊎◌, ◌==◌, nat_lt, filter, position, slice_get, IfSome}
-use Rattle.std.specs.List.{All}
-use Rattle.std.specs.Option.{option_map}
-use Rattle.std.proofs.lemmas.Bool.{cases_lt, cond-true, cond-false, le-ltb, lt-ltb, ltb-false, false_from_ne_true}
+use Rattle.std.proofs.Common.{ℕ, suc, ◌≡◌, ◌≤◌, ◌<◌, ◌+◌, ◌-◌, min, false, List, [], ◌∷◌, ◌++◌, length, Option, None, Some, refl, sym, ap, ◌∙◌, subst, inl, inr, ⊎_elim, arith}
+use Rattle.std.specs.Prelude.{◌⊎◌, ◌==◌, nat_lt, IfSome}
+use Rattle.std.proofs.lemmas.Bool.{cases_lt, cond-true, cond-false, le-ltb, lt-ltb, false_from_ne_true}
 use Rattle.tt_base.specs.declared.number.IsrNo.{IsrNo}
 use Rattle.tt_world.specs.declared.config.Activation.{Activation}
 use Rattle.tt_world.specs.declared.config.Enable.{Enable}
-use Rattle.tt_world.specs.declared.config.ModeDef.{ModeDef}
 use Rattle.tt_world.specs.Monitoring.{is_at}
-use Rattle.tt_world.specs.Rows.{enables_at, entry_at, no_row}
+use Rattle.tt_world.specs.Rows.{enables_at, no_row}
 use Rattle.round_table.specs.declared.checks.Check.{Check}
 use Rattle.round_table.specs.declared.due.Due.{Due}
 use Rattle.round_table.specs.declared.due.ExpiryPoint.{ExpiryPoint}
@@ -18,13 +15,13 @@ use Rattle.round_table.specs.Below.{below}
 use Rattle.round_table.specs.CheckLists.{entries_in}
 use Rattle.round_table.specs.Cuts.{IsCut}
 use Rattle.round_table.specs.DueRows.{due_at, entries_due, isrs_of}
-use Rattle.round_table.specs.ExpiryPoints.{IsFree, is_free, expiry_at, expiry_below, expiry_points}
+use Rattle.round_table.specs.ExpiryPoints.{IsFree, is_free, expiry_below, expiry_points}
 use Rattle.round_table.specs.Merged.{AreInOrder, ArePlaces, ModeRows, due_between, earlier, next_offset}
 use Rattle.round_table.specs.TableRows.{TableRows}
 use Rattle.round_table.proofs.Ascending.{absent, cut_later, cut_order, first_at, moves, place_is, position_none}
-use Rattle.round_table.proofs.Cursors.{free_from_test, free_test, none_at}
+use Rattle.round_table.proofs.Cursors.{free_from_test, still_free}
 use Rattle.round_table.proofs.Cutting.{filter_none}
-use Rattle.round_table.proofs.Laid.{below_nothing, below_still}
+use Rattle.round_table.proofs.Laid.{below_nothing}
 
 -- ---- the lesser of two offsets
 
@@ -211,10 +208,8 @@ module _ (rows : ModeRows) (order : AreInOrder rows) where
       unfolding below
       one_more limit points is =
           let table : TableRows = record { mode = rows.mode; limit = limit } in
-          let between = below_still (expiry_at table) offset next moved.0
-          (λ j oj jn. none_at table j
-          (free_test j rows.mode (free_before j oj
-          (subst (λ (o : Option ℕ). IfSome o (λ n. j < n)) (sym next_is) jn)))) in
+          let between = still_free table offset next moved.0
+          (λ j oj jn. free_before j oj (subst (λ (o : Option ℕ). IfSome o (λ n. j < n)) (sym next_is) jn)) in
           ap (λ ps. ps ++ record { offset = next; due = due_between places after } ∷ []) (is ∙ sym between)
           ∙ ap (λ due. expiry_below table next ++ record { offset = next; due = due } ∷ []) (due_is limit)
           ∙ ap (λ ps. expiry_below table next ++ ps) (sym (cond-false (is_free next rows.mode) _ _ not_free))
@@ -227,11 +222,8 @@ module _ (rows : ModeRows) (order : AreInOrder rows) where
         let table : TableRows = record { mode = rows.mode; limit = limit } in
         ⊎_elim
         (λ (l : offset < suc limit).
-        sym
-        (below_still (expiry_at table) offset (suc limit) (omega arith)
-        (λ j oj jl. none_at table j
-        (free_test j rows.mode (free_before j oj (subst (λ (o : Option ℕ). IfSome o (λ n. j < n)) none tt))))))
+        sym (still_free table offset (suc limit) (omega arith)
+        (λ j oj jl. free_before j oj (subst (λ (o : Option ℕ). IfSome o (λ n. j < n)) none tt))))
         (λ (g : suc limit ≤ offset).
-        below_still (expiry_at table) (suc limit) offset g
-        (λ j lj jo. none_at table j (free_test j rows.mode (past j (omega arith)))))
+        still_free table (suc limit) offset g (λ j lj jo. past j (omega arith)))
         (cases_lt offset (suc limit))

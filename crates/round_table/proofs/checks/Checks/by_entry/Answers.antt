@@ -1,7 +1,4 @@
-use Rattle.std.proofs.Common.{◌≡◌, ◌<◌, List, length, get_or, ap, ◌∙◌, subst}
-use Rattle.tt_world.specs.declared.config.Activation.{Activation}
-use Rattle.tt_world.specs.declared.config.ModeDef.{ModeDef}
-use Rattle.tt_world.specs.Points.{point_of}
+use Rattle.std.proofs.Common.{◌∙◌}
 use Rattle.round_table.proofs.CheckOrder.{points_more, checks_more, ends_more}
 use Rattle.round_table.proofs.checks.Checks.by_entry.Goals as goal
 
