@@ -1,8 +1,9 @@
 -- A statement that ends was begun: no more statements end than begin.
-use Rattle.std.proofs.Common.{ℕ, zero, suc, add-one, ◌≡◌, ◌≤◌, ◌<◌, ◌+◌, ◌-◌, List, [], ◌∷◌, Bool, true, false, cond, refl, ap, sym, ◌∙◌, subst, arith, length}
+use Rattle.std.proofs.Common.{ℕ, zero, suc, add-one, ◌≡◌, ◌≤◌, ◌<◌, ◌+◌, ◌-◌, List, [], ◌∷◌, Bool, true, false, refl, ap, sym, ◌∙◌, subst, arith, length, ⊎_elim}
 use Rattle.std.specs.Prelude.{◌==◌, ◌&&◌, ◌||◌, nat_le, not, filter, if◌then◌else◌}
 use Rattle.std.specs.List.{list_any}
-use Rattle.std.proofs.lemmas.Bool.{cond_both, le-leb}
+use Rattle.std.proofs.lemmas.Bool.{cases_Bool, cond_both, le-leb, leb-true}
+use Rattle.std.proofs.lemmas.List.Sums.{count_by-le-length, length-filter}
 use Rattle.task_machine.specs.Standing.{work_in_front}
 use Rattle.tt_world.specs.declared.config.ConfigParts.{ConfigParts}
 use Rattle.tt_world.specs.declared.script.ScriptParts.{ScriptParts}
@@ -13,30 +14,19 @@ use Rattle.tt_world.specs.Step.{is_somebody}
 use Rattle.stack_dispatch.specs.Counts.{FewMoves, begins_before, begun_before, due_before, ended_before, ends_at, is_due, is_job, list_at, most_moves, same_runner, still_begun}
 
 fewer_kept : (p : Runner → Bool) (xs : List Runner) → length (filter p xs) ≤ length xs
-fewer_kept p [] = omega arith
-fewer_kept p (x ∷ xs) =
-    let rest = fewer_kept p xs in
-    cond_both (p x) (x ∷ filter p xs) (filter p xs) (λ (ys : List Runner). length ys ≤ length (x ∷ xs))
-    (λ _. omega arith) (λ _. omega arith)
+fewer_kept p xs = omega (arith, length-filter p xs, count_by-le-length p xs)
 
 -- a list without one that is there is shorter
 one_goes : (test : Runner → Bool) (xs : List Runner) → list_any test xs ≡ true
     → length (filter (λ r. not (test r)) xs) < length xs
 one_goes test [] e = cc
 one_goes test (x ∷ xs) e =
-    by_first (test x) refl (λ later. one_goes test xs later)
-  where
-    by_first : (b : Bool) → test x ≡ b
-        → (list_any test xs ≡ true → length (filter (λ r. not (test r)) xs) < length xs)
-        → length (filter (λ r. not (test r)) (x ∷ xs)) < length (x ∷ xs)
-    by_first true is rest =
-        let all = fewer_kept (λ r. not (test r)) xs in
-        subst (λ b. length (cond (not b) (x ∷ filter (λ r. not (test r)) xs) (filter (λ r. not (test r)) xs))
-        < length (x ∷ xs)) (sym is) (omega arith)
-    by_first false is rest =
-        let less = rest (sym (ap (λ b. b || list_any test xs) is) ∙ e) in
-        subst (λ b. length (cond (not b) (x ∷ filter (λ r. not (test r)) xs) (filter (λ r. not (test r)) xs))
-        < length (x ∷ xs)) (sym is) (omega arith)
+    let all = fewer_kept (λ r. not (test r)) xs in
+    ⊎_elim (λ (is : test x ≡ true). rw is (omega arith))
+    (λ (is : test x ≡ false).
+    let less = one_goes test xs (sym (ap (λ b. b || list_any test xs) is) ∙ e) in
+    rw is (omega arith))
+    (cases_Bool (test x))
 
 -- by whether somebody runs, the `work` has at least one or two ticks, and the owner has begun it
 count_more : (somebody one two there : Bool) (r : Runner) (others kept : List Runner) (ended begins : ℕ)
@@ -44,17 +34,22 @@ count_more : (somebody one two there : Bool) (r : Runner) (others kept : List Ru
     → ended + length kept ≤ begins
     → (ended + (if somebody && not two then 1 else 0)) + length (if somebody && two then r ∷ others else others)
     ≤ begins + (if somebody && not (one && there) then 1 else 0)
-count_more false one two there r others kept ended begins w l m h = omega arith
 count_more true true true true r others kept ended begins w l m h = let n = m refl in omega arith
-count_more true true true false r others kept ended begins w l m h = omega arith
 count_more true true false true r others kept ended begins w l m h = let n = m refl in omega arith
-count_more true true false false r others kept ended begins w l m h = omega arith
 count_more true false true there r others kept ended begins w l m h = let both : false ≡ true = w refl in cc
-count_more true false false there r others kept ended begins w l m h = omega arith
+count_more somebody one two there r others kept ended begins w l m h = omega arith
 
 two_one : (n : ℕ) → nat_le 2 n ≡ true → nat_le 1 n ≡ true
-two_one zero e = cc
-two_one (suc n) e = le-leb 1 (suc n) (omega arith)
+two_one n e = let l = leb-true 2 n e in le-leb 1 n (omega arith)
+
+-- what never falls
+rises : (f : ℕ → ℕ) → ((n : ℕ) → f n ≤ f (suc n)) → (m k : ℕ) → f m ≤ f (m + k)
+rises f step m zero = let z : m + 0 ≡ m = omega arith in rw z (omega arith)
+rises f step m (suc k) =
+    let z : m + suc k ≡ suc (m + k) = omega arith in
+    let before = rises f step m k in
+    let next = step (m + k) in
+    rw z (omega arith)
 
 module _ (c : ConfigParts) (s : ScriptParts) where
   kept_fewer : (n : ℕ) (begun : List Runner) → length (still_begun c s n begun) ≤ length begun
@@ -85,19 +80,11 @@ module _ (c : ConfigParts) (s : ScriptParts) where
 
   pub ended_more : (m k : ℕ) → ended_before c s m ≤ ended_before c s (m + k)
   unfolding ended_before
-  ended_more m zero = let z : m + 0 ≡ m = omega arith in rw z (omega arith)
-  ended_more m (suc k) =
-      let z : m + suc k ≡ suc (m + k) = omega arith in
-      let before = ended_more m k in
-      rw z (omega arith)
+  ended_more = rises (ended_before c s) (λ n. omega arith)
 
   pub due_more : (m k : ℕ) → due_before c s m ≤ due_before c s (m + k)
   unfolding due_before
-  due_more m zero = let z : m + 0 ≡ m = omega arith in rw z (omega arith)
-  due_more m (suc k) =
-      let z : m + suc k ≡ suc (m + k) = omega arith in
-      let before = due_more m k in
-      rw z (omega arith)
+  due_more = rises (due_before c s) (λ n. omega arith)
 
   pub one_ended : (n : ℕ) → ends_at c s n ≡ true → ended_before c s (suc n) ≡ ended_before c s n + 1
   unfolding ended_before

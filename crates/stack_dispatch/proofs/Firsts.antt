@@ -1,5 +1,5 @@
 -- The state before tick 0: the codes of all bodies, and the OSEK subsystem.
-use Rattle.std.proofs.Common.{ℕ, ◌≡◌, ◌≢◌, ◌<◌, ◌≤◌, ◌+◌, Bool, true, false, List, [], ◌∷◌, ◌++◌, Option, None, Some, length, get_or, refl, ap, sym, ◌∙◌, subst, arith, append_assoc}
+use Rattle.std.proofs.Common.{◌≡◌, ◌≢◌, ◌<◌, ◌≤◌, ◌+◌, Bool, true, false, List, [], ◌∷◌, ◌++◌, Option, None, Some, length, get_or, refl, ap, sym, ◌∙◌, subst, arith, append_assoc}
 use Rattle.std.specs.Prelude.{map, IfSome, replicate, if◌then◌else◌}
 use Rattle.std.proofs.lemmas.List.Elements.{All-map}
 use Rattle.std.proofs.lemmas.List.{length-append, length-map, get_or-map}
@@ -18,7 +18,6 @@ use Rattle.osek_idle.specs.Standing.{HaveOsek, setup_for}
 use Rattle.tt_world.specs.declared.script.ScriptParts.{ScriptParts}
 use Rattle.tt_world.specs.ScriptRules.{IsScript}
 use Rattle.tt_world.specs.Runners.{isr_levels}
-use Rattle.tt_world.specs.Schedule.{first_world}
 use Rattle.task_machine.specs.Stored.{Store}
 use Rattle.tt_stack.specs.Stacked.{Stacked}
 use Rattle.tt_stack.specs.Words.{Words, all_isr_words, all_row_words}
@@ -151,28 +150,9 @@ view_by round env stack gates setup sub = record {
   };
 }
 
-abbrev env_first : ConfigParts → ScriptParts → Store
-env_first c s = record {
-  vars = c.vars;
-  cursors = replicate (length c.demands) 0;
-  demands = c.demands;
-  values =
-      s.values;
-}
-
 -- the declared words of stack of a configuration, where the first round has this mode
 abbrev pub words_first : ConfigParts → ModeNo → Words
 words_first c mode = record { isrs = all_isr_words c; rows = all_row_words c; mode = mode }
-
-abbrev stack_first : ConfigParts → ModeNo → Stacked
-stack_first c mode = record {
-  codes = bodies_of c;
-  first = length c.tasks;
-  levels = isr_levels c;
-  words = words_first c mode;
-  jobs = [];
-  isrs = replicate (length c.isrs) [];
-}
 
 module _ (c : ConfigParts) (s : ScriptParts) (script : IsScript c s) (round : Round) (env : Store) (stack : Stacked)
     (gates : Window)
@@ -189,39 +169,4 @@ module _ (c : ConfigParts) (s : ScriptParts) (script : IsScript c s) (round : Ro
       } → gates ≡ new_window s.arrivals → setup ≡ setup_for c (length c.tasks + length c.isrs) → sub ≡ first_subsystem c
       → view_by round env stack gates setup sub ≡ first_state c s
   first_view er ee es eg eu eb =
-      ap (λ (r : Round). view_by r env stack gates setup sub) er
-      ∙ ap (λ (e : Store). view_by (first_round c s.start s.rounds s.times) e stack gates setup sub) ee
-      ∙ ap (λ (k : Stacked). view_by (first_round c s.start s.rounds s.times) (env_first c s) k gates setup sub) es
-      ∙ ap (λ (g : Window). view_by (first_round c s.start s.rounds s.times) (env_first c s)
-      (stack_first c s.start) g setup sub) eg
-      ∙ ap (λ (u : Setup). view_by (first_round c s.start s.rounds s.times) (env_first c s) (stack_first c s.start)
-      (new_window s.arrivals) u sub) eu
-      ∙ ap (λ (b : Subsystem). view_by (first_round c s.start s.rounds s.times) (env_first c s) (stack_first c s.start)
-      (new_window s.arrivals)
-      (setup_for c (length c.tasks + length c.isrs)) b) eb
-      ∙ ap (λ (ls : List (List Stmt)). record (first_state c s) {
-        world = record (first_world c s) {
-          isrs_enabled = replicate (length s.arrivals.isrs) true;
-          isrs_held = replicate (length s.arrivals.isrs) false;
-          oisrs_held = replicate (length s.arrivals.oisrs) false;
-          oseks = ls;
-          oisrs = lefts (first_subsystem c).routines;
-        };
-      }) (lefts_first c.oseks)
-      ∙ ap (λ (ls : List (List Stmt)). record (first_state c s) {
-        world = record (first_world c s) {
-          isrs_enabled = replicate (length s.arrivals.isrs) true;
-          isrs_held = replicate (length s.arrivals.isrs) false;
-          oisrs_held = replicate (length s.arrivals.oisrs) false;
-          oisrs = ls;
-        };
-      }) (none_left c.oisrs)
-      ∙ ap (λ (n : ℕ). record (first_state c s) {
-        world = record (first_world c s) {
-          isrs_enabled = replicate n true;
-          isrs_held = replicate n false;
-          oisrs_held = replicate (length s.arrivals.oisrs) false;
-        };
-      }) script.isrs
-      ∙ ap (λ (n : ℕ). record (first_state c s)
-      { world = record (first_world c s) { oisrs_held = replicate n false } }) script.oisrs
+      rw (er, ee, es, eg, eu, eb, lefts_first c.oseks, none_left c.oisrs, script.isrs, script.oisrs) refl

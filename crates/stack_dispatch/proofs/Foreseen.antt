@@ -1,9 +1,10 @@
 -- What the runner sees ahead: at which instants nothing is due.
-use Rattle.std.proofs.Common.{ℕ, zero, suc, ◌≡◌, ◌≢◌, ◌<◌, ◌≤◌, ◌+◌, ◌-◌, List, [], ◌∷◌, Bool, true, false, Option, None, Some, refl, ap, sym, ◌∙◌, subst, arith, length, ⊎_elim}
+use Rattle.std.proofs.Common.{ℕ, ◌≡◌, ◌<◌, ◌≤◌, ◌+◌, ◌-◌, List, [], Bool, true, false, Option, None, Some, refl, ap, sym, ◌∙◌, subst, arith, length, get_or}
 use Rattle.std.specs.Prelude.{filter, IfSome}
 use Rattle.std.specs.List.{range_with_len}
 use Rattle.std.specs.Option.{ForSome}
-use Rattle.std.proofs.lemmas.Bool.{cases_eq, cases_Bool, cond-true, cond-false, false_from_ne_true, eqb-true, true≢false}
+use Rattle.std.proofs.lemmas.Bool.{false_from_ne_true, eqb-true, true≢false}
+use Rattle.std.proofs.lemmas.List.FromFn.{get_or-range_with_len, length-range_with_len}
 use Rattle.tt_base.specs.declared.event.Event.{Event}
 use Rattle.tt_base.specs.declared.number.ModeNo.{ModeNo}
 use Rattle.tt_world.specs.declared.config.ConfigParts.{ConfigParts}
@@ -28,6 +29,7 @@ use Rattle.isr_window.proofs.Acceptances.{acceptances_silent}
 use Rattle.isr_window.proofs.Arrivals.{arrivals_silent, left_jump}
 use Rattle.round_end.specs.Round.{Round, next_own}
 use Rattle.round_table.specs.ExpiryPoints.{IsFree}
+use Rattle.round_table.proofs.Cutting.{filter_empty}
 use Rattle.stack_dispatch.specs.First.{first_state}
 use Rattle.stack_dispatch.specs.Counts.{IsDueAt}
 use Rattle.stack_dispatch.specs.Due.{NoneAccepted}
@@ -38,16 +40,11 @@ use Rattle.stack_dispatch.proofs.Opened.{after}
 -- ---- entries that are not due
 
 none_kept : (p : ℕ → Bool) (n m : ℕ) → filter p (range_with_len n m) ≡ [] → (j : ℕ) → n ≤ j → j < n + m → p j ≡ false
-none_kept p n zero e j l u = absurd (omega arith)
-none_kept p n (suc m) e j l u =
-    ⊎_elim (λ (t : p n ≡ true). let clash = sym (cond-true (p n) (n ∷ filter p (range_with_len (n + 1) m)) _ t) ∙ e in
-    absurd cc)
-    (λ (f : p n ≡ false).
-    ⊎_elim (λ (same : j ≡ n). rw same f)
-    (λ (ne : j ≢ n). none_kept p (n + 1) m
-    (sym (cond-false (p n) (n ∷ filter p (range_with_len (n + 1) m)) _ f) ∙ e) j (omega (arith, ne)) (omega arith))
-    (cases_eq j n))
-    (cases_Bool (p n))
+none_kept p n m e j l u =
+    let long = length-range_with_len n m in
+    let there : get_or (range_with_len n m) (j - n) 0 ≡ j =
+    omega (arith, get_or-range_with_len n m (j - n) 0 (omega arith)) in
+    subst (λ k. p k ≡ false) there (filter_empty p (range_with_len n m) e (j - n) 0 (omega arith))
 
 -- ---- the own ticks of a round
 

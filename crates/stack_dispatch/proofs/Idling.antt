@@ -11,7 +11,7 @@ use Rattle.round_end.specs.Round.{Round}
 use Rattle.osek_idle.specs.Subsystem.{Subsystem, Setup, lefts, finished, owner_left, owner_leaving, IsSettled}
 use Rattle.stack_dispatch.specs.declared.took.Did.{Did}
 use Rattle.stack_dispatch.specs.Effects.{Effected, effected, MayDo, HaveSome, GaveIdle, finished_at, idle_ticks}
-use Rattle.stack_dispatch.proofs.Settling.{settles, tasks_then, routines_then}
+use Rattle.stack_dispatch.proofs.Settling.{end_leaves, settles}
 
 -- an owner that no service has ended, and of which nothing is left
 pub finish_is : (who : Owner) (ended ends : Bool) (sub : Subsystem) → ended ≡ true → ends ≡ false
@@ -24,13 +24,7 @@ finish_is who true true sub e f = cc
 pub parts_are : (e : Effected) (d : Did) (q : Round) (s : Subsystem) (b : Bool) → d ≡ e.did → q ≡ e.round
     → s ≡ e.subsystem → b ≡ e.ends
     → (let x : Effected = record { did = d; round = q; subsystem = s; ends = b } in x) ≡ e
-parts_are e d q s b did round subsystem ends =
-    ap (λ (y : Did). let x : Effected = record { did = y; round = q; subsystem = s; ends = b } in x) did
-    ∙ ap (λ (y : Round). let x : Effected = record { did = e.did; round = y; subsystem = s; ends = b } in x) round
-    ∙ ap (λ (y : Subsystem). let x : Effected = record { did = e.did; round = e.round; subsystem = y; ends = b } in
-    x) subsystem
-    ∙ ap (λ (y : Bool). let x : Effected = record
-    { did = e.did; round = e.round; subsystem = e.subsystem; ends = y } in x) ends
+parts_are e d q s b did round subsystem ends = rw (did, round, subsystem, ends) refl
 
 -- whether nothing is left
 pub done_from : (ended : Bool) (left : List Stmt) → (IsTrue ended ↔ (left ≡ [])) → ended ≡ is_done left
@@ -39,15 +33,20 @@ done_from false [] is = is.1 refl
 done_from false (front ∷ rest) is = refl
 done_from true (front ∷ rest) is = let none : front ∷ rest ≡ [] = is.0 refl in cc
 
-module _ (who : Owner) (k : ℕ) (env : Store) (sub sub1 : Subsystem) (o : Option Owner) (picks : o ≡ Some who)
-    (vars : List ℤ) (cursors : List ℕ) (effects : List Effect)
-    (ticked : state_of (owner_left sub1 o) vars cursors effects
-    ≡ ticks (supply_of env.demands env.values) k (state_of (owner_left sub o) env.vars env.cursors [])) where
+-- k ticks of the owner who is picked
+pub record Ticked (who : Owner) (k : ℕ) (env : Store) (sub sub1 : Subsystem) (o : Option Owner) (vars : List ℤ)
+    (cursors : List ℕ) (effects : List Effect) : Type 0 where
+  pub picks : o ≡ Some who
+  pub ticked : state_of (owner_left sub1 o) vars cursors effects
+      ≡ ticks (supply_of env.demands env.values) k (state_of (owner_left sub o) env.vars env.cursors [])
+
+module _ {who : Owner} {k : ℕ} {env : Store} {sub sub1 : Subsystem} {o : Option Owner} {vars : List ℤ}
+    {cursors : List ℕ} {effects : List Effect} (h : Ticked who k env sub sub1 o vars cursors effects) where
   -- the ticks are those of the owner
   pub tick_is : state_of (owner_left sub1 (Some who)) vars cursors effects ≡ idle_ticks k who env sub
   tick_is =
       subst (λ (x : Option Owner). state_of (owner_left sub1 x) vars cursors effects
-      ≡ ticks (supply_of env.demands env.values) k (state_of (owner_left sub x) env.vars env.cursors [])) picks ticked
+      ≡ ticks (supply_of env.demands env.values) k (state_of (owner_left sub x) env.vars env.cursors [])) h.picks h.ticked
 
   -- so are its effects
   pub effects_are : effects ≡ (idle_ticks k who env sub).effects
@@ -67,7 +66,7 @@ module _ (who : Owner) (k : ℕ) (env : Store) (sub sub1 : Subsystem) (o : Optio
 
     sub_is : sub1 ≡ owner_leaving (Some who) (idle_ticks k who env sub).left sub
     sub_is =
-        subst (λ (x : Option Owner). sub1 ≡ owner_leaving x (owner_left sub1 x) sub) picks others
+        subst (λ (x : Option Owner). sub1 ≡ owner_leaving x (owner_left sub1 x) sub) h.picks others
         ∙ ap (λ (l : List Stmt). owner_leaving (Some who) l sub) left_is
 
     module _ (body body1 : ℕ → List Stmt) (same : body1 ≡ body) (now : ℕ) (r : Round) (ended : Bool)
@@ -93,32 +92,27 @@ module _ (who : Owner) (k : ℕ) (env : Store) (sub sub1 : Subsystem) (o : Optio
       none_left : IsTrue ended ↔ ((idle_ticks k who env sub).left ≡ [])
       none_left =
           let same_left : owner_left sub1 o ≡ (idle_ticks k who env sub).left =
-          ap (owner_left sub1) picks ∙ left_is in
+          ap (owner_left sub1) h.picks ∙ left_is in
           (λ t. sym same_left ∙ ended_is.0 t, λ e. ended_is.1 (same_left ∙ e))
 
-      -- what followed from the effect is what the ticks give
-      pub gave : owner_left sub (Some who) ≢ [] → (over : Bool) → over ≡ (x.ends || ended)
+      -- what followed from the effect is what the ticks give, and the subsystem is settled again
+      pub gave : (setup : Setup) → HaveSome body (length setup.tasks)
+          → MayDo now who (idle_ticks k who env sub).effects r setup → IsSettled sub → owner_left sub (Some who) ≢ []
+          → (over : Bool) → over ≡ (x.ends || ended)
           → GaveIdle body now who (idle_ticks k who env sub) r sub (record { did = x.did; ended = over }) x.round final
+          × IsSettled final
       unfolding E
-      gave some over over_is = record {
-        did = ap (λ (y : Effected). y.did) x_made;
-        ended = over_is ∙ ap (λ (y : Effected). y.ends || ended) x_made
-            ∙ ap (λ (b : Bool). E.ends || b) (done_from ended _ none_left);
-        round_is = ap (λ (y : Effected). y.round) x_made;
-        tasks = ap (λ (y : Subsystem). lefts y.tasks) final_made
-            ∙ tasks_then body now r who (idle_ticks k who env sub).effects sub (idle_ticks k who env sub).left ended
-            none_left some;
-        routines = ap (λ (y : Subsystem). lefts y.routines) final_made
-            ∙ routines_then body now r who (idle_ticks k who env sub).effects sub (idle_ticks k who env sub).left ended
-            none_left some;
-      }
-
-      -- the subsystem is settled again
-      pub settled : (setup : Setup) → HaveSome body (length setup.tasks)
-          → MayDo now who (idle_ticks k who env sub).effects r setup → IsSettled sub
-          → IsSettled final
-      unfolding E
-      settled setup all may h =
-          subst IsSettled (sym final_made)
-          (settles body now r setup all who (idle_ticks k who env sub).effects sub (idle_ticks k who env sub).left ended
-          none_left may h)
+      gave setup all may settled some over over_is =
+          let left = (idle_ticks k who env sub).left in
+          let es = (idle_ticks k who env sub).effects in
+          let then_left = end_leaves body now r setup who es sub left ended none_left may some in (
+            record {
+              did = ap (λ (y : Effected). y.did) x_made;
+              ended = over_is ∙ ap (λ (y : Effected). y.ends || ended) x_made
+                  ∙ ap (λ (b : Bool). E.ends || b) (done_from ended _ none_left);
+              round_is = ap (λ (y : Effected). y.round) x_made;
+              tasks = ap (λ (y : Subsystem). lefts y.tasks) final_made ∙ then_left.tasks;
+              routines = ap (λ (y : Subsystem). lefts y.routines) final_made ∙ then_left.routines;
+            },
+            subst IsSettled (sym final_made) (settles body now r setup all who es sub left ended none_left may settled),
+          )

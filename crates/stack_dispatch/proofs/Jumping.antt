@@ -4,7 +4,6 @@ use Rattle.std.specs.Prelude.{None, ◌&&◌, max, min, nat_le, not}
 use Rattle.std.proofs.lemmas.Bool.{cases_lt, lt-leb}
 use Rattle.task_lang.specs.declared.syntax.Stmt.{Stmt}
 use Rattle.tt_base.specs.declared.event.Event.{Event}
-use Rattle.tt_base.specs.declared.event.Owner.{Owner}
 use Rattle.tt_world.specs.declared.config.ConfigParts.{ConfigParts}
 use Rattle.tt_world.specs.declared.script.ScriptParts.{ScriptParts}
 use Rattle.task_machine.specs.Standing.{work_in_front}
@@ -38,8 +37,9 @@ use Rattle.stack_dispatch.proofs.Foreseen.{ahead_idle, foresees, idle_sources, n
 use Rattle.stack_dispatch.proofs.Opened.{can_pass, can_tick, opened_tick, ticked_sources}
 use Rattle.stack_dispatch.proofs.Peaked.{peaks_next, raised_over}
 use Rattle.stack_dispatch.proofs.Quiet.{can_more, jump_none, jump_some, last_runner, no_line, quiet_goes_on, quiet_step}
+use Rattle.stack_dispatch.proofs.Telling.{outcome_is}
 use Rattle.stack_dispatch.proofs.WorkedOff.{front_worked}
-use Rattle.stack_dispatch.proofs.Working.{fewer, work_depth, work_left, work_more, work_owner, work_runner, work_tick, work_words}
+use Rattle.stack_dispatch.proofs.Working.{fewer, somebody_works, work_left, work_more, work_owner, work_alike, work_tick}
 
 -- the events of the opening after k ticks of work: only the first opening has any; and those of the instants before it
 abbrev opened_then : ℕ → List Event → List Event
@@ -56,31 +56,57 @@ quietly = record { none = λ _. tt; both = λ _ _ _ _ _ _ _. tt }
 
 some_runner : (r : Runner) → (r ≡ runner.Nobody → ⊥) → is_somebody r ≡ true
 some_runner runner.Nobody some = absurd (some refl)
-some_runner (runner.Isr i) some = refl
-some_runner (runner.Job p) some = refl
-some_runner (runner.Oisr i) some = refl
-some_runner (runner.Osek i) some = refl
+some_runner r some = refl
 
-module _ (c : ConfigParts) (s : ScriptParts) (t next : ℕ) (v : World) (b : Beside) (es : List Event) where
-  abbrev line : List Event
-  line = run_line v (owner_of c v (runner_of c v))
+-- the line before the first tick, and none before those after it
+abbrev line_of : ConfigParts → World → List Event
+line_of c v = run_line v (owner_of c v (runner_of c v))
 
-  -- after the opening of instant t + k the one who runs has taken k ticks of work since that of instant t, which left
-  -- the world v and had the events es
-  pub record Reached (k : ℕ) : Type 0 where
-    pub going : GoesOnBefore c s (t + k)
-    pub opens : opening c s (world_at c s (t + k)) ≡ goes_on (at_work c k v) (opened_then k es)
-    pub told : events_between c s t k ≡ told_then k es line
-    pub can : CanTick c s (record { world = at_work c k v; beside = b })
-    pub sources : HasSources c s (t + k + 1) (record { world = at_work c k v; beside = b })
-    pub none : NoneAccepted c (at_work c k v)
-    pub ahead : IsAhead c 1 (record { world = at_work c k v; beside = b }) next
-    pub due : IsDueAt c s (at_work c k v) next
-    pub deepest : most_before depth_of c s (suc (t + k)) ≡ max (most_before depth_of c s t) (depth_of v)
-    pub words : most_before (words_of c) c s (suc (t + k)) ≡ max (most_before (words_of c) c s t) (words_of c v)
+same_line : (c : ConfigParts) (v : World) (es : List Event) (k : ℕ)
+    → CanWork (suc (suc k)) (runner_of c v) (left_of v (runner_of c v))
+    → told_then k es (line_of c v) ++ (opened_then k es ++ line_of c (at_work c k v)) ≡ es ++ line_of c v
+same_line c v es zero can = refl
+same_line c v es (suc k) can =
+    let u = at_work c (suc k) v in
+    let less = fewer (suc (suc k)) (suc (suc (suc k))) (runner_of c v) (left_of v (runner_of c v)) (omega arith) can in
+    let who = ap (owner_of c u) (work_alike c v (suc k) less).runner ∙ work_owner c v (suc k) less in
+    let none = no_line u (owner_of c v (runner_of c v)) (last_runner c v k) in
+    ap (λ xs. (es ++ line_of c v) ++ xs) (ap (run_line u) who ∙ none) ∙ append-nil (es ++ line_of c v)
 
+-- the lines before k ticks of work, as events of the last tick
+abbrev lines : ConfigParts → World → ℕ → List Event
+lines c v zero = []
+lines c v (suc k) = line_of c v
+
+jump_is : (c : ConfigParts) (s : ScriptParts) (v : World) (k : ℕ)
+    → CanWork (suc k) (runner_of c v) (left_of v (runner_of c v))
+    → jump c s k v ≡ preceded (lines c v k) (step c s (at_work c k v))
+jump_is c s v zero can = jump_none c s v
+jump_is c s v (suc k) can = jump_some c s v k can
+
+told_all : (c : ConfigParts) (v : World) (es : List Event) (k : ℕ) (xs : List Event)
+    → es ++ (lines c v k ++ xs) ≡ told_then k es (line_of c v) ++ (opened_then k es ++ xs)
+told_all c v es zero xs = refl
+told_all c v es (suc k) xs = sym (append_assoc es (line_of c v) xs)
+
+-- after the opening of instant t + k the one who runs has taken k ticks of work since that of instant t, which left the
+-- world v and had the events es
+pub record Reached (c : ConfigParts) (s : ScriptParts) (t next : ℕ) (v : World) (b : Beside) (es : List Event) (k : ℕ)
+    : Type 0 where
+  pub going : GoesOnBefore c s (t + k)
+  pub opens : opening c s (world_at c s (t + k)) ≡ goes_on (at_work c k v) (opened_then k es)
+  pub told : events_between c s t k ≡ told_then k es (line_of c v)
+  pub can : CanTick c s (record { world = at_work c k v; beside = b })
+  pub sources : HasSources c s (t + k + 1) (record { world = at_work c k v; beside = b })
+  pub none : NoneAccepted c (at_work c k v)
+  pub ahead : IsAhead c 1 (record { world = at_work c k v; beside = b }) next
+  pub due : IsDueAt c s (at_work c k v) next
+  pub deepest : most_before depth_of c s (suc (t + k)) ≡ max (most_before depth_of c s t) (depth_of v)
+  pub words : most_before (words_of c) c s (suc (t + k)) ≡ max (most_before (words_of c) c s t) (words_of c v)
+
+module _ {c : ConfigParts} {s : ScriptParts} {t next : ℕ} {v : World} {b : Beside} {es : List Event} where
   -- the instant after an opening that goes on
-  module _ (k : ℕ) (h : Reached k) where
+  module _ {k : ℕ} (h : Reached c s t next v b es k) where
     abbrev now : World
     now = at_work c k v
 
@@ -88,23 +114,23 @@ module _ (c : ConfigParts) (s : ScriptParts) (t next : ℕ) (v : World) (b : Bes
     unfolding instant_at instant followed
     instant_is = ap (λ (m : Moved). followed m (step c s)) h.opens
 
-    events_more : events_between c s t (suc k) ≡ told_then k es line ++ (opened_then k es ++ (step c s now).events)
+    events_more : events_between c s t (suc k)
+        ≡ told_then k es (line_of c v) ++ (opened_then k es ++ (step c s now).events)
     unfolding events_between
     events_more =
         ap (λ xs. xs ++ (instant_at c s (t + k)).events) h.told
-        ∙ ap (λ (m : Moved). told_then k es line ++ m.events) instant_is
+        ∙ ap (λ (m : Moved). told_then k es (line_of c v) ++ m.events) instant_is
 
     -- an instant within the jump
     module _ (here : v.tick ≡ t) (can : CanWork (suc (suc k)) (runner_of c v) (left_of v (runner_of c v))) where
       abbrev later : World
       later = at_work c (suc k) v
 
-      steps : step c s now ≡ goes_on later (run_line now (owner_of c now (runner_of c now)))
+      steps : step c s now ≡ goes_on later (line_of c now)
       steps = quiet_step c s now (can_more c s v k can)
-          ∙ ap (λ (u : World). goes_on u (run_line now (owner_of c now (runner_of c now)))) (work_more c v k can)
+          ∙ ap (λ (u : World). goes_on u (line_of c now)) (work_more c v k can)
 
-      passed : instant_at c s (t + k)
-          ≡ goes_on later (opened_then k es ++ run_line now (owner_of c now (runner_of c now)))
+      passed : instant_at c s (t + k) ≡ goes_on later (opened_then k es ++ line_of c now)
       passed = instant_is ∙ ap (preceded (opened_then k es)) steps
 
       number : t + suc k ≡ (t + k) + 1
@@ -171,25 +197,6 @@ module _ (c : ConfigParts) (s : ScriptParts) (t next : ℕ) (v : World) (b : Bes
         silent = opening_accepts c s later (nothing_due quietly c s st_later passes next foreseen.next idle)
             ∙ acceptances_silent c later (foreseen.none refl)
 
-        same_line : told_then k es line ++ (opened_then k es ++ run_line now (owner_of c now (runner_of c now)))
-            ≡ es ++ line
-        same_line = by_first k can refl
-          where
-            by_first : (j : ℕ) → CanWork (suc (suc j)) (runner_of c v) (left_of v (runner_of c v)) → j ≡ k
-                → told_then j es line ++ (opened_then j es
-                ++ run_line (at_work c j v) (owner_of c (at_work c j v) (runner_of c (at_work c j v)))) ≡ es ++ line
-            by_first zero more e = refl
-            by_first (suc j) more e =
-                let u = at_work c (suc j) v in
-                let less = fewer (suc (suc j)) (suc (suc (suc j))) (runner_of c v) (left_of v (runner_of c v))
-                (omega arith) more in
-                let who : owner_of c u (runner_of c u) ≡ owner_of c v (runner_of c v) =
-                ap (owner_of c u) (work_runner c v (suc j) less) ∙ work_owner c v (suc j) less in
-                ap (λ (o : Owner). (es ++ line) ++ run_line u o) who
-                ∙ ap (λ xs. (es ++ line) ++ xs)
-                (no_line u (owner_of c v (runner_of c v)) (last_runner c s v j less))
-                ∙ append-nil (es ++ line)
-
         more_of : (f : World → ℕ) (most : ℕ) → f later ≡ f v
             → most_before f c s (suc (t + k)) ≡ max most (f v)
             → most_before f c s (suc (t + suc k)) ≡ max most (f v)
@@ -204,12 +211,13 @@ module _ (c : ConfigParts) (s : ScriptParts) (t next : ℕ) (v : World) (b : Bes
             ∙ greater
 
         -- one more tick of work
-        pub reached_more : Reached (suc k)
+        reached_more : Reached c s t next v b es (suc k)
         reached_more = record {
           going = going_later;
           opens = ap (opening c s) world_later ∙ silent;
           told = events_more
-              ∙ ap (λ (m : Moved). told_then k es line ++ (opened_then k es ++ m.events)) steps ∙ same_line;
+              ∙ ap (λ (m : Moved). told_then k es (line_of c v) ++ (opened_then k es ++ m.events)) steps
+              ∙ same_line c v es k can;
           can = can_tick quietly c s later later tt tt
               (record {
                 world_is = sym (ap (λ (m : Moved). m.world) silent);
@@ -224,70 +232,52 @@ module _ (c : ConfigParts) (s : ScriptParts) (t next : ℕ) (v : World) (b : Bes
           none = foreseen.none refl;
           ahead = ahead_idle quietly c s st_later next foreseen.next;
           due = foreseen.due idle;
-          deepest = more_of depth_of (most_before depth_of c s t) (work_depth c v (suc k) can) h.deepest;
-          words = more_of (words_of c) (most_before (words_of c) c s t) (work_words c v (suc k) can) h.words;
+          deepest = more_of depth_of (most_before depth_of c s t) (work_alike c v (suc k) can).depth h.deepest;
+          words = more_of (words_of c) (most_before (words_of c) c s t) (work_alike c v (suc k) can).words h.words;
         }
-
-  nothing_told : events_between c s t 0 ≡ []
-  unfolding events_between
-  nothing_told = refl
-
-  first_most : (f : World → ℕ) → opening c s (world_at c s t) ≡ goes_on v es
-      → most_before f c s (suc t) ≡ max (most_before f c s t) (f v)
-  unfolding most_before
-  first_most f opens = ap (λ (m : Moved). max (most_before f c s t) (in_tick f m)) opens
 
   -- the first instant of the jump
   reached_first : GoesOnBefore c s t → opening c s (world_at c s t) ≡ goes_on v es
       → CanTick c s (record { world = v; beside = b }) → HasSources c s (t + 1) (record { world = v; beside = b })
-      → NoneAccepted c v → IsAhead c 1 (record { world = v; beside = b }) next → IsDueAt c s v next → Reached 0
+      → NoneAccepted c v → IsAhead c 1 (record { world = v; beside = b }) next → IsDueAt c s v next
+      → Reached c s t next v b es 0
+  unfolding events_between most_before
   reached_first going opens can sources none ahead due =
       let same : t + 0 ≡ t = omega arith in
       let plus : t + 1 ≡ t + 0 + 1 = omega arith in
       record {
         going = subst (GoesOnBefore c s) (sym same) going;
         opens = ap (λ n. opening c s (world_at c s n)) same ∙ opens;
-        told = nothing_told;
+        told = refl;
         can = can;
         sources = subst (λ n. HasSources c s n (record { world = v; beside = b })) plus sources;
         none = none;
         ahead = ahead;
         due = due;
-        deepest = ap (λ n. most_before depth_of c s (suc n)) same ∙ first_most depth_of opens;
-        words = ap (λ n. most_before (words_of c) c s (suc n)) same ∙ first_most (words_of c) opens;
+        deepest = ap (λ n. most_before depth_of c s (suc n)) same
+            ∙ ap (λ (m : Moved). max (most_before depth_of c s t) (in_tick depth_of m)) opens;
+        words = ap (λ n. most_before (words_of c) c s (suc n)) same
+            ∙ ap (λ (m : Moved). max (most_before (words_of c) c s t) (in_tick (words_of c) m)) opens;
       }
 
   -- up to the last instant of the jump
-  reached_upto : IsConfig c → IsScript c s → IsFor c s b → v.tick ≡ t → Reached 0 → (k : ℕ)
+  reached_upto : IsConfig c → IsScript c s → IsFor c s b → v.tick ≡ t → Reached c s t next v b es 0 → (k : ℕ)
       → CanWork (suc k) (runner_of c v) (left_of v (runner_of c v)) → ((i : ℕ) → 0 < i → i ≤ k → t + i < next)
-      → Reached k
+      → Reached c s t next v b es k
   reached_upto rules script fixed here first zero can soon = first
   reached_upto rules script fixed here first (suc k) can soon =
       let less = fewer (suc k) (suc (suc k)) (runner_of c v) (left_of v (runner_of c v)) (omega arith) can in
-      reached_more k
+      reached_more
       (reached_upto rules script fixed here first k less (λ i some within. soon i some (omega arith)))
       here can rules script fixed (soon (suc k) (omega arith) (omega arith))
 
   -- the last instant of the jump
-  lines : ℕ → List Event
-  lines zero = []
-  lines (suc k) = line
-
-  jump_is : (k : ℕ) → CanWork (suc k) (runner_of c v) (left_of v (runner_of c v))
-      → jump c s k v ≡ preceded (lines k) (step c s (at_work c k v))
-  unfolding lines
-  jump_is zero can = jump_none c s v
-  jump_is (suc k) can = jump_some c s v k can
-
-  told_all : (k : ℕ) (xs : List Event) → es ++ (lines k ++ xs) ≡ told_then k es line ++ (opened_then k es ++ xs)
-  unfolding lines
-  told_all zero xs = refl
-  told_all (suc k) xs = sym (append_assoc es line xs)
-
-  module _ (k : ℕ) (can : CanWork (suc k) (runner_of c v) (left_of v (runner_of c v))) (h : Reached k) where
+  module _ {k : ℕ} (can : CanWork (suc k) (runner_of c v) (left_of v (runner_of c v)))
+      (h : Reached c s t next v b es k) where
     runner_now : runner_at c s (t + k) ≡ runner_of c v
     unfolding runner_at
-    runner_now = ap (λ (m : Moved). runner_if (is_over m.end) (runner_of c m.world)) h.opens ∙ work_runner c v k can
+    runner_now =
+        ap (λ (m : Moved). runner_if (is_over m.end) (runner_of c m.world)) h.opens ∙ (work_alike c v k can).runner
 
     list_now : list_at c s (t + k) ≡ worked_off k (left_of v (runner_of c v))
     list_now =
@@ -304,29 +294,30 @@ module _ (c : ConfigParts) (s : ScriptParts) (t next : ℕ) (v : World) (b : Bes
         ∙ ap (λ (left : List Stmt). not (nat_le 2 (work_in_front left))) list_now
         ∙ ap not (lt-leb 2 (work_in_front (worked_off k (left_of v (runner_of c v)))) (omega arith))
 
-    last_gives : {L : Type 0} {Told : L → List Event → L → Type 0} (a d : L) (u : World) (end : Outcome)
+    last_gives : {L : Type 0} {Told : L → List Event → L → Type 0} {a d : L} {u : World} {end : Outcome}
         → Gives Told a d u end (jump c s k v)
         → Gives {L = Unit {0}} (λ _ _ _. Unit {0}) tt tt u end (step c s (at_work c k v))
-    last_gives a d u end g = record {
-      world_is = g.world_is ∙ ap (λ (m : Moved). m.world) (jump_is k can);
+    last_gives g = record {
+      world_is = g.world_is ∙ ap (λ (m : Moved). m.world) (jump_is c s v k can);
       told = tt;
-      end_is = g.end_is ∙ ap (λ (m : Moved). m.end) (jump_is k can);
+      end_is = g.end_is ∙ ap (λ (m : Moved). m.end) (jump_is c s v k can);
     }
 
-    jump_passes : {L : Type 0} {Told : L → List Event → L → Type 0} → IsTelling Told → (first a d : L) (u : World)
-        (end : Outcome) → Told first es a → Gives Told a d u end (jump c s k v)
+    jump_passes : {L : Type 0} {Told : L → List Event → L → Type 0} {first a d : L} {u : World} {end : Outcome}
+        → IsTelling Told → Told first es a → Gives Told a d u end (jump c s k v)
         → Passes Told c s t (t + k) first d u end
-    jump_passes {Told = Told} telling first a d u end opened g =
+    jump_passes {Told = Told} {first} {a} {d} telling opened g =
         let number : suc (t + k) - t ≡ suc k = omega arith in
         record {
           later = omega arith;
           going = h.going;
           told = subst (λ xs. Told first xs d)
-              (ap (λ (m : Moved). es ++ m.events) (jump_is k can) ∙ told_all k (step c s (at_work c k v)).events
-              ∙ sym (events_more k h) ∙ ap (events_between c s t) (sym number))
+              (ap (λ (m : Moved). es ++ m.events) (jump_is c s v k can)
+              ∙ told_all c v es k (step c s (at_work c k v)).events
+              ∙ sym (events_more h) ∙ ap (events_between c s t) (sym number))
               (telling.both first a d es (jump c s k v).events opened g.told);
-          world_is = (last_gives a d u end g).world_is ∙ sym (ap (λ (m : Moved). m.world) (instant_is k h));
-          end_is = (last_gives a d u end g).end_is ∙ sym (ap (λ (m : Moved). m.end) (instant_is k h));
+          world_is = (last_gives g).world_is ∙ sym (ap (λ (m : Moved). m.world) (instant_is h));
+          end_is = (last_gives g).end_is ∙ sym (ap (λ (m : Moved). m.end) (instant_is h));
         }
 
 -- ---- how many ticks
@@ -341,121 +332,111 @@ jump_numbers free work k l e =
 jump_cases : (r : Runner) (left : List Stmt) (free k : ℕ) → 1 ≤ free → k ≡ jump_of r left free
     → ((r ≡ runner.Nobody → ⊥) × (work_in_front left ≤ k)) ⊎ (CanWork (suc k) r left × (k ≡ free))
 jump_cases runner.Nobody left free k l e = inr (inl refl, omega (arith, l, e))
-jump_cases (runner.Isr i) left free k l e =
-    ⊎_elim (λ ends. inl (λ f. cc, ends)) (λ reaches. inr (inr reaches.0, reaches.1))
-    (jump_numbers free (work_in_front left) k l e)
-jump_cases (runner.Job p) left free k l e =
-    ⊎_elim (λ ends. inl (λ f. cc, ends)) (λ reaches. inr (inr reaches.0, reaches.1))
-    (jump_numbers free (work_in_front left) k l e)
-jump_cases (runner.Oisr i) left free k l e =
-    ⊎_elim (λ ends. inl (λ f. cc, ends)) (λ reaches. inr (inr reaches.0, reaches.1))
-    (jump_numbers free (work_in_front left) k l e)
-jump_cases (runner.Osek i) left free k l e =
+jump_cases r left free k l e =
     ⊎_elim (λ ends. inl (λ f. cc, ends)) (λ reaches. inr (inr reaches.0, reaches.1))
     (jump_numbers free (work_in_front left) k l e)
 
-jump_some_ticks : (r : Runner) (left : List Stmt) (free : ℕ) → 1 ≤ jump_of r left free
-jump_some_ticks runner.Nobody left free = omega arith
-jump_some_ticks (runner.Isr i) left free = omega arith
-jump_some_ticks (runner.Job p) left free = omega arith
-jump_some_ticks (runner.Oisr i) left free = omega arith
-jump_some_ticks (runner.Osek i) left free = omega arith
+-- at least one, no more than the work that is left, and no more than are free
+record JumpFits (r : Runner) (left : List Stmt) (free k : ℕ) : Type 0 where
+  some : 1 ≤ k
+  within : CanWork k r left
+  most : k ≤ max 1 free
 
-jump_within : (r : Runner) (left : List Stmt) (free : ℕ) → CanWork (jump_of r left free) r left
-jump_within runner.Nobody left free = inl refl
-jump_within (runner.Isr i) left free = inr (omega arith)
-jump_within (runner.Job p) left free = inr (omega arith)
-jump_within (runner.Oisr i) left free = inr (omega arith)
-jump_within (runner.Osek i) left free = inr (omega arith)
-
-jump_most : (r : Runner) (left : List Stmt) (free : ℕ) → jump_of r left free ≤ max 1 free
-jump_most runner.Nobody left free = omega arith
-jump_most (runner.Isr i) left free = omega arith
-jump_most (runner.Job p) left free = omega arith
-jump_most (runner.Oisr i) left free = omega arith
-jump_most (runner.Osek i) left free = omega arith
+jump_fits : (r : Runner) (left : List Stmt) (free k : ℕ) → k ≡ jump_of r left free → JumpFits r left free k
+jump_fits runner.Nobody left free k e =
+    record { some = omega (arith, e); within = inl refl; most = omega (arith, e) }
+jump_fits r left free k e =
+    record { some = omega (arith, e); within = inr (omega (arith, e)); most = omega (arith, e) }
 
 -- ---- the instants that are passed at once
 
-module _ {L : Type 0} {Told : L → List Event → L → Type 0} (telling : IsTelling Told) (c : ConfigParts)
-    (s : ScriptParts) (before st : RunState) (first a : L) (next k : ℕ) (can : CanPass c s before)
-    (on : IsOnSchedule c s before.world) (end : Outcome) (going : end ≡ None)
-    (g : Gives Told first a st.world end (opening c s before.world)) (fixed : IsFor c s st.beside)
-    (opened : IsOpened c s before.world.tick st) (ahead : IsAhead c 1 st next) (soon : st.world.tick < next)
-    (due : IsDueAt c s st.world next)
-    (k_is : k ≡ jump_of (runner_of c st.world) (left_of st.world (runner_of c st.world)) (next - st.world.tick)) where
+-- after an opening that goes on, the one who runs takes k ticks at once
+pub record Jumps (c : ConfigParts) (s : ScriptParts) (before st : RunState) (next k : ℕ) : Type 0 where
+  pub can : CanPass c s before
+  pub on : IsOnSchedule c s before.world
+  pub world_is : st.world ≡ (opening c s before.world).world
+  pub goes : None ≡ (opening c s before.world).end
+  pub fixed : IsFor c s st.beside
+  pub opened : IsOpened c s before.world.tick st
+  pub ahead : IsAhead c 1 st next
+  pub soon : st.world.tick < next
+  pub due : IsDueAt c s st.world next
+  pub ticks : k ≡ jump_of (runner_of c st.world) (left_of st.world (runner_of c st.world)) (next - st.world.tick)
+
+module _ {c : ConfigParts} {s : ScriptParts} {before st : RunState} {next k : ℕ}
+    (h : Jumps c s before st next k) where
   t : ℕ
   t = before.world.tick
 
   es : List Event
   es = (opening c s before.world).events
 
-  opening_goes_on : Gives Told first a st.world None (opening c s before.world)
-  opening_goes_on = subst (λ o. Gives Told first a st.world o (opening c s before.world)) going g
+  abbrev who : Runner
+  who = runner_of c st.world
+
+  abbrev left_now : List Stmt
+  left_now = left_of st.world who
+
+  opening_gives : Gives {L = Unit {0}} (λ _ _ _. Unit {0}) tt tt st.world None (opening c s before.world)
+  opening_gives = record { world_is = h.world_is; told = tt; end_is = h.goes }
 
   here : st.world.tick ≡ t
   unfolding t
-  here = opened_tick telling c s before.world st.world first a opening_goes_on can.served can.named
+  here = opened_tick quietly c s before.world st.world tt tt opening_gives h.can.served h.can.named
+
+  fits : JumpFits who left_now (next - st.world.tick) k
+  fits = jump_fits who left_now (next - st.world.tick) k h.ticks
 
   pub some_ticks : 1 ≤ k
-  some_ticks = subst (λ n. 1 ≤ n) (sym k_is)
-      (jump_some_ticks (runner_of c st.world) (left_of st.world (runner_of c st.world)) (next - st.world.tick))
+  some_ticks = fits.some
 
   one_less : k ≡ suc (k - 1)
   one_less = omega (arith, some_ticks)
 
-  pub can_work : CanWork k (runner_of c st.world) (left_of st.world (runner_of c st.world))
-  can_work = subst (λ n. CanWork n (runner_of c st.world) (left_of st.world (runner_of c st.world))) (sym k_is)
-      (jump_within (runner_of c st.world) (left_of st.world (runner_of c st.world)) (next - st.world.tick))
-
-  can_work_all : CanWork (suc (k - 1)) (runner_of c st.world) (left_of st.world (runner_of c st.world))
-  can_work_all = subst (λ n. CanWork n (runner_of c st.world) (left_of st.world (runner_of c st.world)))
-      one_less can_work
+  can_work : CanWork (suc (k - 1)) who left_now
+  can_work = subst (λ n. CanWork n who left_now) one_less fits.within
 
   reached_here : Reached c s t next st.world st.beside es 0
   unfolding t es
   reached_here =
-      reached_first c s before.world.tick next st.world st.beside (opening c s before.world).events on.going
-      (ap (opening c s) (sym on.world)
+      reached_first h.on.going
+      (ap (opening c s) (sym h.on.world)
       ∙ ap (λ (w : World). record {
         world = w;
         events = (opening c s before.world).events;
         end = (opening c s before.world).end;
-      }) (sym opening_goes_on.world_is)
+      }) (sym h.world_is)
       ∙ ap (λ (o : Outcome). record { world = st.world; events = (opening c s before.world).events; end = o })
-      (sym opening_goes_on.end_is))
-      (can_tick telling c s before.world st.world first a opening_goes_on can.served can.named st refl fixed can.tick)
-      opened.sources opened.none ahead due
+      (sym h.goes))
+      (can_tick quietly c s before.world st.world tt tt opening_gives h.can.served h.can.named st refl h.fixed
+      h.can.tick)
+      h.opened.sources h.opened.none h.ahead h.due
 
   reached_last : Reached c s t next st.world st.beside es (k - 1)
   reached_last =
-      reached_upto c s t next st.world st.beside es can.served.rules can.served.script fixed here reached_here (k - 1)
-      can_work_all
+      reached_upto h.can.served.rules h.can.served.script h.fixed here reached_here (k - 1) can_work
       (λ i some within.
-      let most = jump_most (runner_of c st.world) (left_of st.world (runner_of c st.world)) (next - st.world.tick) in
-      omega (arith, most, k_is, here, some, within))
+      let most = fits.most in let soon = h.soon in omega (arith, most, soon, here, some, within))
 
   -- the one who runs can take them
   pub can_jump : CanJump c s k st
-  can_jump = record { can = reached_here.can; last = reached_last.can; within = can_work }
+  can_jump = record { can = reached_here.can; last = reached_last.can; within = fits.within }
 
-  module _ (d : L) (u : World) (over : Outcome) (last : ℕ) (last_is : last ≡ st.world.tick + (k - 1))
-      (gives : Gives Told a d u over (jump c s (k - 1) st.world)) where
+  module _ {L : Type 0} {Told : L → List Event → L → Type 0} {a d : L} {u : World} {over : Outcome} {last : ℕ}
+      (last_is : last ≡ st.world.tick + (k - 1)) (gives : Gives Told a d u over (jump c s (k - 1) st.world)) where
     last_number : t + (k - 1) ≡ last
     last_number = ap (λ n. n + (k - 1)) (sym here) ∙ sym last_is
 
     -- they are passed
-    pub passes_all : Passes Told c s before.world.tick last first d u over
+    pub passes_all : IsTelling Told → {first : L} → Told first (opening c s before.world).events a
+        → Passes Told c s before.world.tick last first d u over
     unfolding t es
-    passes_all = subst (λ n. Passes Told c s before.world.tick n first d u over) last_number
-        (jump_passes c s t next st.world st.beside es (k - 1) can_work_all reached_last telling first a d u over
-        opening_goes_on.told gives)
+    passes_all telling {first} told = subst (λ n. Passes Told c s before.world.tick n first d u over) last_number
+        (jump_passes can_work reached_last telling told gives)
 
     module _ (goes : over ≡ None) where
       last_goes_on : Gives {L = Unit {0}} (λ _ _ _. Unit {0}) tt tt u None (step c s (at_work c (k - 1) st.world))
-      last_goes_on = subst (λ o. Gives {L = Unit {0}} (λ _ _ _. Unit {0}) tt tt u o
-          (step c s (at_work c (k - 1) st.world))) goes
-          (last_gives c s t next st.world st.beside es (k - 1) can_work_all reached_last a d u over gives)
+      last_goes_on = outcome_is (last_gives can_work reached_last gives) goes
 
       -- the sources are those from the next tick on
       pub jump_sources : (after : RunState) → after.world ≡ u → after.beside ≡ st.beside
@@ -483,21 +464,16 @@ module _ {L : Type 0} {Told : L → List Event → L → Type 0} (telling : IsTe
     pub jump_few : (moves moved : ℕ) → moved ≡ moves + 1 → FewMoves c s before.world.tick last moves moved
     unfolding t es
     jump_few moves moved counted =
-        let r = runner_of c st.world in
-        let left = left_of st.world r in
         ⊎_elim
-        (λ (h : (r ≡ runner.Nobody → ⊥) × (work_in_front left ≤ k)).
+        (λ (ends : (who ≡ runner.Nobody → ⊥) × (work_in_front left_now ≤ k)).
         few_by_end c s before.world.tick (k - 1) last moves moved (sym last_number) counted
-        (last_ends c s before.world.tick next st.world st.beside (opening c s before.world).events (k - 1) can_work_all
-        reached_last h.0
-        (⊎_elim (λ (e : r ≡ runner.Nobody). absurd (h.0 e))
-        (λ (l : suc (k - 1) ≤ max 1 (work_in_front left)). l) can_work_all) (let m = h.1 in omega arith)))
-        (λ (h : CanWork (suc k) r left × (k ≡ next - st.world.tick)).
+        (last_ends can_work reached_last ends.0 (somebody_works (suc (k - 1)) who left_now ends.0 can_work)
+        (let m = ends.1 in omega arith)))
+        (λ (reaches : CanWork (suc k) who left_now × (k ≡ next - st.world.tick)).
         few_by_due c s before.world.tick (k - 1) last moves moved (sym last_number) counted
-        (due_there c s before.world.tick next st.world st.beside (opening c s before.world).events (k - 1) reached_last
-        here (subst (λ n. CanWork (suc n) r left) one_less h.0)
-        (let free = h.1 in omega (arith, here, free, soon, some_ticks))))
-        (jump_cases r left (next - st.world.tick) k (omega arith) k_is)
+        (due_there reached_last here (subst (λ n. CanWork (suc n) who left_now) one_less reaches.0)
+        (let free = reaches.1 in let soon = h.soon in omega (arith, here, free, soon, some_ticks))))
+        (jump_cases who left_now (next - st.world.tick) k (let soon = h.soon in omega arith) h.ticks)
 
     -- the peaks are those of the instants so far
     pub jump_peaks : (p q : Peaks) → p ≡ peaks_before c s before.world.tick
@@ -554,7 +530,4 @@ is_jump r w c next k runs is = is ∙ ap (λ (q : Runner). jump_of q (left_of w 
 pub somebody_jump : (r : Runner) (left : List Stmt) (free k : ℕ) → (r ≡ runner.Nobody → ⊥)
     → k ≡ max (min free (work_in_front left)) 1 → k ≡ jump_of r left free
 somebody_jump runner.Nobody left free k some is = absurd (some refl)
-somebody_jump (runner.Isr i) left free k some is = is
-somebody_jump (runner.Job p) left free k some is = is
-somebody_jump (runner.Oisr i) left free k some is = is
-somebody_jump (runner.Osek i) left free k some is = is
+somebody_jump r left free k some is = is

@@ -26,10 +26,7 @@ use Rattle.stack_dispatch.specs.Reports.{Benched, IsNotMissed, IsWithinBounds, K
 pub ran_on : {S : Type 0} (r : Ghosts S) (b : Benched) (c p : ConfigParts) (s q : ScriptParts) (before after : S)
     (run : Run) → p ≡ c → q ≡ s → record { config = c; script = s } ≡ b
     → Ran r (record { config = p; script = q }) before after run → Ran r b before after run
-ran_on r b c p s q before after run config script is ran =
-    subst (λ (x : Benched). Ran r x before after run) is
-    (subst (λ (x : ScriptParts). Ran r (record { config = c; script = x }) before after run) script
-    (subst (λ (x : ConfigParts). Ran r (record { config = x; script = q }) before after run) config ran))
+ran_on r b c p s q before after run config script is ran = rw (← is, ← script, ← config) ran
 
 module _ (c : ConfigParts) (s : ScriptParts) (rules : IsConfig c) (script : IsScript c s) where
   -- the laws that are read from events

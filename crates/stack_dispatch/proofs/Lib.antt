@@ -6,15 +6,14 @@ pub mod Checking
 pub mod Enabling
 pub mod Firsts
 pub mod Foreseen
-pub mod Fronts
 pub mod Idling
 pub mod Jumping
 pub mod Laws
 pub mod Marks
 pub mod NextDue
 pub mod Opened
-pub mod OsekTasks
 pub mod Peaked
+pub mod Performing
 pub mod Playing
 pub mod ProgramBodies
 pub mod Quiet

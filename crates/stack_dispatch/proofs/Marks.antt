@@ -2,7 +2,7 @@
 use Rattle.std.proofs.Common.{◌≡◌, ◌≢◌, ℕ, zero, suc, ◌<◌, ◌≤◌, ◌+◌, List, [], Bool, true, false, refl, ap, sym, ◌∙◌, subst, length, arith, get_or, set, get_or-set_same, get_or-set_other, ⊎_elim}
 use Rattle.std.specs.Prelude.{◌&&◌, not, find, option_map, replicate, Option, None, Some}
 use Rattle.std.proofs.lemmas.List.{get_or_past, length-set}
-use Rattle.std.proofs.lemmas.Bool.{and_parts, cases_eq}
+use Rattle.std.proofs.lemmas.Bool.{and_parts, cases_eq, not-false, not-true}
 use Rattle.task_lang.specs.declared.syntax.Stmt.{Stmt}
 use Rattle.tt_world.specs.Runners.{is_done}
 use Rattle.tt_base.specs.declared.event.Owner.{Owner}
@@ -67,19 +67,11 @@ not_marked n lefts flags d m = record {
 -- where one is ready something is left, and else nothing
 pub left_where : (states : List (Option (List Stmt))) (n : ℕ) → AreSettled states → is_ready_at states n ≡ true
     → is_done (get_or (lefts states) n []) ≡ false
-left_where states n settled e = not_true _ (sym (ready_at states n settled) ∙ e)
-  where
-    not_true : (b : Bool) → not b ≡ true → b ≡ false
-    not_true false e = refl
-    not_true true e = cc
+left_where states n settled e = not-true _ (sym (ready_at states n settled) ∙ e)
 
 pub none_where : (states : List (Option (List Stmt))) (n : ℕ) → AreSettled states → is_ready_at states n ≡ false
     → is_done (get_or (lefts states) n []) ≡ true
-none_where states n settled e = not_false _ (sym (ready_at states n settled) ∙ e)
-  where
-    not_false : (b : Bool) → not b ≡ false → b ≡ true
-    not_false true e = refl
-    not_false false e = cc
+none_where states n settled e = not-false _ (sym (ready_at states n settled) ∙ e)
 
 -- the sources that are marked are those whose routine is unfinished
 pub are_unfinished : (c : ConfigParts) (busy : BusySources) (w : World) (g : Window)

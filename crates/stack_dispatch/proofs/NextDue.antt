@@ -1,10 +1,11 @@
 -- At the next due tick something is due, and it comes after the present one.
-use Rattle.std.proofs.Common.{ℕ, zero, suc, ◌≡◌, ◌<◌, ◌≤◌, ◌+◌, ◌-◌, List, [], ◌∷◌, Bool, true, false, Option, None, Some, refl, ap, sym, ◌∙◌, subst, arith, length, eqb, ◌⊎◌, inl, inr, ⊎_elim}
+use Rattle.std.proofs.Common.{ℕ, suc, ◌≡◌, ◌<◌, ◌≤◌, ◌+◌, ◌-◌, List, [], ◌∷◌, Bool, true, false, Option, None, Some, refl, ap, sym, ◌∙◌, subst, arith, length, eqb, ◌⊎◌, inl, inr, ⊎_elim}
 use Rattle.std.specs.Prelude.{IfSome, ◌||◌, ◌==◌, min, nat_le, not, slice_get, slice_index_or}
 use Rattle.std.specs.List.{All, list_any}
 use Rattle.std.specs.Option.{option_map}
-use Rattle.std.proofs.lemmas.Bool.{cases_Bool, cases_lt, cond-false, cond_both, eq-eqb}
+use Rattle.std.proofs.lemmas.Bool.{both_ways, cases_Bool, cases_lt, cond-false, cond_both, eq-eqb, false_from_ne_true, or_parts, or_right}
 use Rattle.std.proofs.lemmas.List.Elements.{All-cons, All-nil}
+use Rattle.std.proofs.lemmas.List.Folds.{list_any_at}
 use Rattle.tt_base.specs.declared.number.ModeNo.{ModeNo}
 use Rattle.tt_world.specs.declared.config.ConfigParts.{ConfigParts}
 use Rattle.tt_world.specs.declared.script.ScriptParts.{ScriptParts}
@@ -35,29 +36,20 @@ use Rattle.stack_dispatch.specs.Served.{round_in}
 use Rattle.stack_dispatch.specs.State.{RunState}
 use Rattle.stack_dispatch.proofs.Foreseen.{own_is}
 
-or_none : (a b : Bool) → (a || b) ≡ false → (a ≡ false) × (b ≡ false)
-or_none true b e = cc
-or_none false b e = (refl, e)
-
-or_right : (a b : Bool) → b ≡ true → (a || b) ≡ true
-or_right true b e = refl
-or_right false b e = e
-
 -- ---- arrivals
 
 not_first : (now a : ℕ) (ticks : List ℕ) → list_any (λ (tick : ℕ). tick == a) ticks ≡ false
     → is_next a (ticks_from now ticks) ≡ false
 not_first now a [] e = refl
 not_first now a (tick ∷ rest) e =
-    let both = or_none (tick == a) (list_any (λ (other : ℕ). other == a) rest) e in
+    let both = or_parts (tick == a) (list_any (λ (other : ℕ). other == a) rest) e in
     cond_both (nat_le now tick) (tick ∷ rest) (ticks_from now rest) (λ (ts : List ℕ). is_next a ts ≡ false)
     (λ _. both.0) (λ _. not_first now a rest both.1)
 
 none_there : {X : Type 0} (p : X → Bool) (xs : List X) (d : X) → list_any p xs ≡ false → (k : ℕ) → k < length xs
     → p (slice_index_or xs k d) ≡ false
-none_there p [] d e k l = absurd (omega arith)
-none_there p (x ∷ xs) d e zero l = (or_none (p x) (list_any p xs) e).0
-none_there p (x ∷ xs) d e (suc k) l = none_there p xs d (or_none (p x) (list_any p xs) e).1 k (omega arith)
+none_there p xs d e k l =
+    false_from_ne_true _ (λ there. both_ways (list_any p xs) e (list_any_at p xs k d l there))
 
 -- where the next arrival at each source is not before a tick, the least of them is not
 next_from : (c : ConfigParts) (now : ℕ) (g : Window) → AreSourcesOf c g

@@ -1,12 +1,11 @@
 -- What is known of a state after the parts of an opening, and after the tick.
 use Rattle.std.proofs.Common.{ℕ, ◌≡◌, ◌<◌, ◌+◌, ◌-◌, ◌^◌, List, [], false, Option, None, Some, refl, ap, sym, ◌∙◌, subst, eqb, length, get_or}
-use Rattle.std.specs.Prelude.{map, slice_range}
+use Rattle.std.specs.Prelude.{slice_range}
 use Rattle.std.proofs.lemmas.List.{length-replicate}
 use Rattle.std.proofs.lemmas.Bool.{cond_both, cond-true, cond-false, eqb-true, false_from_ne_true}
 use Rattle.tt_base.specs.declared.event.Event.{Event}
 use Rattle.tt_base.specs.declared.number.IsrNo.{IsrNo}
 use Rattle.tt_world.specs.declared.config.ConfigParts.{ConfigParts}
-use Rattle.tt_world.specs.declared.config.Enable.{Enable}
 use Rattle.tt_world.specs.declared.config.ModeDef.{ModeDef}
 use Rattle.tt_world.specs.declared.script.ScriptParts.{ScriptParts}
 use Rattle.tt_world.specs.declared.world.RunEnd.{RunEnd}
@@ -28,8 +27,8 @@ use Rattle.tt_world.proofs.Keeps.{Holds, IgnoresGates, monitored_holds, enables_
 use Rattle.tt_world.proofs.Late.{Late, late_at}
 use Rattle.tt_world.proofs.Modes.{Named, has_mode, opening_named, run_named}
 use Rattle.tt_world.proofs.Moves.{gives_first, gives_over, gives_done, gives_stop}
-use Rattle.tt_world.proofs.Openings.{activated_in, due_same}
-use Rattle.tt_world.proofs.Parts.{Before, Latched, Begun, Alone, Anything, Leads, followed_leads, chain_each, led_on}
+use Rattle.tt_world.proofs.Openings.{activated_in, due_same, enables_from}
+use Rattle.tt_world.proofs.Parts.{Phase, Before, Latched, Begun, Alone, Anything, Leads, followed_leads, chain_each, led_on}
 use Rattle.tt_world.proofs.Points.{Ahead, latch_ahead, round_end_ahead, checks_ahead, ahead_at}
 use Rattle.tt_world.proofs.Places.{Placed, latch_placed, opening_placed, round_end_placed, placed_at}
 use Rattle.tt_world.proofs.Stamps.{AtTick as AtStamp, EndsAtTick, opening_at_tick}
@@ -51,6 +50,7 @@ use Rattle.stack_dispatch.specs.Ticking.{CanTick}
 use Rattle.stack_dispatch.proofs.Enabling.{enables_are}
 use Rattle.stack_dispatch.proofs.Running.{has_number}
 use Rattle.stack_dispatch.proofs.Served.{due_given, checked_same}
+use Rattle.stack_dispatch.proofs.Telling.{outcome_is}
 
 -- ---- the sources
 
@@ -100,7 +100,7 @@ module _ {L : Type 0} {Told : L → List Event → L → Type 0} (telling : IsTe
     }
 
     module _ (w : World) where
-      pub latch_kept : Holds (Kept w) [] (latch c w)
+      latch_kept : Holds (Kept w) [] (latch c w)
       unfolding latch
       latch_kept =
           cond_both (eqb (offset_of w) (c.round - c.adjust)) _ _ (Holds (Kept w) [])
@@ -113,7 +113,7 @@ module _ {L : Type 0} {Told : L → List Event → L → Type 0} (telling : IsTe
           cond_both (eqb v.number s.rounds) _ _ (Holds (Kept w) es) (λ _. tt)
           (λ _. record { tick = p.tick; held = p.held; oheld = p.oheld })
 
-      pub round_end_kept : Holds (Kept w) [] (round_end c s w)
+      round_end_kept : Holds (Kept w) [] (round_end c s w)
       unfolding round_end
       round_end_kept =
           cond_both (is_length w.latched (offset_of w)) _ _ (Holds (Kept w) [])
@@ -121,6 +121,13 @@ module _ {L : Type 0} {Told : L → List Event → L → Type 0} (telling : IsTe
           (next_round s)
           (monitored_holds (Kept w) c _ w [] (λ _. record { tick = refl; held = refl; oheld = refl })) next_kept)
           (λ _. record { tick = refl; held = refl; oheld = refl })
+
+      -- the latch and the round's end leave the tick and the sources
+      pub latched_kept : {a b : L} {v : World} → Gives Told a b v None (latch c w) → Kept w v
+      latched_kept {a} {b} {v} g = after (Kept w) (latch c w) a b v g latch_kept
+
+      pub ended_kept : {a b : L} {v : World} → Gives Told a b v None (round_end c s w) → Kept w v
+      ended_kept {a} {b} {v} g = after (Kept w) (round_end c s w) a b v g round_end_kept
 
     pub enables_kept : (isrs : List IsrNo) (w : World) → Holds (Kept w) [] (enables_by isrs w)
     unfolding enable
@@ -173,61 +180,53 @@ module _ {L : Type 0} {Told : L → List Event → L → Type 0} (telling : IsTe
       mode = p.mode;
     }
 
-    module _ (table : TableRows) (w : World) (served : IsServed Begun c s w) (is_table : IsTableOf c table w) (d : Due)
+    module _ {table : TableRows} {w : World} {d : Due} (served : IsServed Begun c s w) (is_table : IsTableOf c table w)
         (stands : StandsAt table (offset_of w) d) where
-      checks_part : (a b : L) (v : World) (end : Outcome)
+      checks_part : {a b : L} {v : World} {end next : Outcome}
           → Gives Told a b v end (monitored_entries c table.mode
-          (slice_range (checks_of table) d.checks_from d.checks_to) w)
-          → Gives Told a b v end (monitored c (is_at (offset_of w)) w)
-      checks_part a b v end g = due_given telling Begun c s table w served is_table a b v end _ g stands.checks
+          (slice_range (checks_of table) d.checks_from d.checks_to) w) → end ≡ next
+          → Gives Told a b v next (monitored c (is_at (offset_of w)) w)
+      checks_part {a} {b} {v} {end} g is =
+          outcome_is (due_given telling Begun c s table w served is_table a b v end _ g stands.checks) is
+
+      -- the enables of the code are those of the definitions
+      enables_part : {a b : L} {v : World} (u : World)
+          → Gives Told a b v None (enables_by (slice_range (enables_of table) d.enables_from d.enables_to) u)
+          → Gives Told a b v None (enables_from (offset_of w) (mode_of c w) u)
+      enables_part {a} {b} {v} u g =
+          let rows = λ (m : ModeDef). enables_at (offset_of w) m.enables in
+          subst (Gives Told a b v None)
+          (ap (λ isrs. enables_by isrs u) (stands.enables ∙ ap (λ (t : TableRows). isrs_of (rows t.mode)) is_table)
+          ∙ sym (enables_are (rows (mode_of c w)) u)) g
 
       -- after the checks and the enables the tick and the sources are as they were
-      pub enabled : (v u : World) (a b e : L) (end : Outcome) (isrs : List IsrNo)
+      pub enabled : {v u : World} {a b e : L} {end : Outcome} (isrs : List IsrNo)
           → Gives Told a b v end (monitored_entries c table.mode
           (slice_range (checks_of table) d.checks_from d.checks_to) w) → end ≡ None
           → Gives Told b e u None (enables_by isrs v) → Kept w u
-      enabled v u a b e end isrs g on h =
-          let checks = subst (λ o. Gives Told a b v o (monitored c (is_at (offset_of w)) w)) on
-          (checks_part a b v end g) in
-          subst (λ x. Kept x u) (checked_same telling c (is_at (offset_of w)) w v a b checks)
+      enabled {v} {u} {a} {b} {e} isrs g on h =
+          subst (λ x. Kept x u) (checked_same telling c (is_at (offset_of w)) w v a b (checks_part g on))
           (after (Kept v) _ b e u h (enables_kept isrs v))
 
       -- a check was missed
-      pub due_over : (a b : L) (v : World) (end : Outcome) (last : RunEnd)
+      pub due_over : {a b : L} {v : World} {end : Outcome} {last : RunEnd}
           → Gives Told a b v end (monitored_entries c table.mode
           (slice_range (checks_of table) d.checks_from d.checks_to) w) → end ≡ Some last
           → Gives Told a b v (Some last) (chain (due c s) w)
-      due_over a b v end last g is =
+      due_over {a} {b} {v} {last = last} g is =
           subst (Gives Told a b v (Some last)) (sym (due_same c s w))
-          (gives_over a b v (Some last) _ _ w refl
-          (subst (λ o. Gives Told a b v o (monitored c (is_at (offset_of w)) w)) is (checks_part a b v end g)))
-
-      -- the enables of the code are those of the definitions
-      enables_part : (a b : L) (u v : World) → u ≡ w
-          → Gives Told a b v None (enables_by (slice_range (enables_of table) d.enables_from d.enables_to) u)
-          → Gives Told a b v None (enables c u)
-      unfolding enables
-      enables_part a b u v is g =
-          let same : table.mode ≡ mode_of c w = ap (λ (t : TableRows). t.mode) is_table in
-          let rows = λ (m : ModeDef). enables_at (offset_of w) m.enables in
-          let here : enables_at (offset_of w) (mode_of c w).enables ≡ enables_at (offset_of u) (mode_of c u).enables =
-          ap (λ (x : World). enables_at (offset_of x) (mode_of c x).enables) (sym is) in
-          subst (Gives Told a b v None)
-          (ap (λ isrs. enables_by isrs u) (stands.enables ∙ ap (λ (m : ModeDef). isrs_of (rows m)) same)
-          ∙ sym (enables_are (rows (mode_of c w)) u)
-          ∙ ap (λ (es : List Enable). chain (map enable es) u) here) g
+          (gives_over a b v (Some last) _ _ w refl (checks_part g is))
 
       -- after the acceptances the activations are as before, and no point of an unfinished activation was passed
-      pub before_activation : (e0 e1 e2 e3 e4 : L) (w1 w2 w3 w4 : World) (end : Outcome)
+      pub before_activation : {e0 e1 e2 e3 e4 : L} {w1 w2 w3 w4 : World} {end : Outcome}
           → Gives Told e0 e1 w1 end (monitored_entries c table.mode
           (slice_range (checks_of table) d.checks_from d.checks_to) w) → end ≡ None
           → Gives Told e1 e2 w2 None (enables_by (slice_range (enables_of table) d.enables_from d.enables_to) w1)
           → Gives Told e2 e3 w3 None (arrivals c s w2) → Gives Told e3 e4 w4 None (acceptances c w3)
           → BeforeActivation c w w4
-      unfolding checks
-      before_activation e0 e1 e2 e3 e4 w1 w2 w3 w4 end g1 on g2 g3 g4 =
-          let checked = subst (λ o. Gives Told e0 e1 w1 o (monitored c (is_at (offset_of w)) w)) on
-          (checks_part e0 e1 w1 end g1) in
+      unfolding checks enables
+      before_activation {e0} {e1} {e2} {e3} {e4} {w1} {w2} {w3} {w4} g1 on g2 g3 g4 =
+          let checked = checks_part g1 on in
           let same1 = checked_same telling c (is_at (offset_of w)) w w1 e0 e1 checked in
           let first : BeforeActivation c w w1 = record {
             ahead = after (Ahead c 1) (monitored c (is_at (offset_of w)) w) e0 e1 w1 checked
@@ -236,71 +235,66 @@ module _ {L : Type 0} {Told : L → List Event → L → Type 0} (telling : IsTe
             offset = ap offset_of same1;
             mode = ap (λ (x : World). x.mode) same1;
           } in
-          let second = after (BeforeActivation c w) (enables c w1) e1 e2 w2 (enables_part e1 e2 w1 w2 same1 g2)
+          let second = after (BeforeActivation c w) (enables c w1) e1 e2 w2
+          (subst (λ (x : World). Gives Told e1 e2 w2 None (enables_from (offset_of x) (mode_of c x) w1)) (sym same1)
+          (enables_part w1 g2))
           (enables_hold (BeforeActivation c w) (ignores_gates w) c w1 [] first) in
           let third = after (BeforeActivation c w) (arrivals c s w2) e2 e3 w3 g3
           (arrivals_hold (BeforeActivation c w) (ignores_gates w) c s w2 [] second) in
           after (BeforeActivation c w) (acceptances c w3) e3 e4 w4 g4
           (acceptances_hold (BeforeActivation c w) (ignores_gates w) c w3 [] third)
 
-      pub due_all : (e0 e1 e2 e3 e4 e5 : L) (w1 w2 w3 w4 w5 : World) (end : Outcome)
+      pub due_all : {e0 e1 e2 e3 e4 e5 : L} {w1 w2 w3 w4 w5 : World} {end : Outcome}
           → Gives Told e0 e1 w1 end (monitored_entries c table.mode
           (slice_range (checks_of table) d.checks_from d.checks_to) w) → end ≡ None
           → Gives Told e1 e2 w2 None (enables_by (slice_range (enables_of table) d.enables_from d.enables_to) w1)
           → Gives Told e2 e3 w3 None (arrivals c s w2) → Gives Told e3 e4 w4 None (acceptances c w3)
           → Gives Told e4 e5 w5 None (activated_in c table.mode d.activation w4)
           → Gives Told e0 e5 w5 None (chain (due c s) w)
-      due_all e0 e1 e2 e3 e4 e5 w1 w2 w3 w4 w5 end g1 on g2 g3 g4 g5 =
+      due_all {e0} {e1} {e2} {e3} {e4} {e5} {w1} {w2} {w3} {w4} {w5} g1 on g2 g3 g4 g5 =
           let same : table.mode ≡ mode_of c w = ap (λ (t : TableRows). t.mode) is_table in
-          let checks = subst (λ o. Gives Told e0 e1 w1 o (monitored c (is_at (offset_of w)) w)) on
-          (checks_part e0 e1 w1 end g1) in
-          let rows = λ (m : ModeDef). enables_at (offset_of w) m.enables in
-          let enables = subst (Gives Told e1 e2 w2 None)
-          (ap (λ isrs. enables_by isrs w1) (stands.enables ∙ ap (λ (m : ModeDef). isrs_of (rows m)) same)
-          ∙ sym (enables_are (rows (mode_of c w)) w1)) g2 in
           let activation = subst (Gives Told e4 e5 w5 None)
           (ap (λ (found : Option ℕ). activated_in c table.mode found w4) stands.activation
           ∙ ap (λ (m : ModeDef). activated_in c m (entry_at (offset_of w) m.activations) w4) same) g5 in
           subst (Gives Told e0 e5 w5 None) (sym (due_same c s w))
-          (gives_first telling e0 e1 e5 w1 w5 None _ _ w checks (gives_first telling e1 e2 e5 w2 w5 None _ _ w1 enables
+          (gives_first telling e0 e1 e5 w1 w5 None _ _ w (checks_part g1 on)
+          (gives_first telling e1 e2 e5 w2 w5 None _ _ w1 (enables_part w1 g2)
           (gives_first telling e2 e3 e5 w3 w5 None _ _ w2 g3 (gives_first telling e3 e4 e5 w4 w5 None _ _ w3 g4
           (gives_first telling e4 e5 e5 w5 w5 None _ [] w4 activation (gives_done telling e5 w5))))))
 
     -- ---- the parts of a round
 
+    -- what is served after a part
+    served_then : {a b : L} {v : World} {phase : Phase} (m : Moved) → Gives Told a b v None m → IsConfig c → IsScript c s
+        → Holds (Timed phase c s) [] m → Holds (Placed c 0) [] m → Holds (Ahead c 0) [] m → IsServed phase c s v
+    served_then {a} {b} {v} {phase} m g rules script timed placed ahead = record {
+      rules = rules;
+      script = script;
+      timed = after (Timed phase c s) m a b v g timed;
+      placed = after (Placed c 0) m a b v g placed;
+      ahead = after (Ahead c 0) m a b v g ahead;
+    }
+
     module _ (w : World) where
       pub latched_served : (a b : L) (v : World) → Gives Told a b v None (latch c w) → IsServed Before c s w
           → IsServed Latched c s v
-      latched_served a b v g h = record {
-        rules = h.rules;
-        script = h.script;
-        timed = after (Timed Latched c s) (latch c w) a b v g
-            (latch_timed c s (are_bounded c s h.rules h.script) w [] h.timed);
-        placed = after (Placed c 0) (latch c w) a b v g (latch_placed c s h.rules w [] h.placed);
-        ahead = after (Ahead c 0) (latch c w) a b v g (latch_ahead c s h.rules w [] h.ahead);
-      }
+      latched_served a b v g h =
+          served_then (latch c w) g h.rules h.script (latch_timed c s (are_bounded c s h.rules h.script) w [] h.timed)
+          (latch_placed c s h.rules w [] h.placed) (latch_ahead c s h.rules w [] h.ahead)
 
       pub begun_served : (a b : L) (v : World) → Gives Told a b v None (round_end c s w) → IsServed Latched c s w
           → IsServed Begun c s v
-      begun_served a b v g h = record {
-        rules = h.rules;
-        script = h.script;
-        timed = after (Timed Begun c s) (round_end c s w) a b v g
-            (round_end_timed c s (are_bounded c s h.rules h.script) w [] h.timed);
-        placed = after (Placed c 0) (round_end c s w) a b v g (round_end_placed c s h.rules w [] h.placed);
-        ahead = after (Ahead c 0) (round_end c s w) a b v g (round_end_ahead c s h.rules w [] h.ahead);
-      }
+      begun_served a b v g h =
+          served_then (round_end c s w) g h.rules h.script
+          (round_end_timed c s (are_bounded c s h.rules h.script) w [] h.timed)
+          (round_end_placed c s h.rules w [] h.placed) (round_end_ahead c s h.rules w [] h.ahead)
 
       pub first_served : (a b : L) → w.tick ≡ 0 → Gives Told a b w None (head s w) → IsServed Before c s w
           → IsServed Begun c s w
-      first_served a b z g h = record {
-        rules = h.rules;
-        script = h.script;
-        timed = after (Timed Begun c s) (head s w) a b w g
-            ((opening_keeps c s (are_bounded c s h.rules h.script)).head_is w [] z h.timed);
-        placed = h.placed;
-        ahead = h.ahead;
-      }
+      unfolding head
+      first_served a b z g h =
+          served_then (head s w) g h.rules h.script
+          ((opening_keeps c s (are_bounded c s h.rules h.script)).head_is w [] z h.timed) h.placed h.ahead
 
       -- the opening of tick 0, and that of a later tick
       pub opens_first : (a b d : L) (v : World) (end : Outcome) → w.tick ≡ 0 → Gives Told a b w None (head s w)
@@ -361,8 +355,7 @@ module _ {L : Type 0} {Told : L → List Event → L → Type 0} (telling : IsTe
         → Gives Told a b v (Some last) (instant c s w)
     unfolding instant
     instant_over w v a b end last g is =
-        gives_stop a b v (Some last) (opening c s w) (step c s) refl
-        (subst (λ o. Gives Told a b v o (opening c s w)) is g)
+        gives_stop a b v (Some last) (opening c s w) (step c s) refl (outcome_is g is)
 
     -- after the tick the arrivals to come are those from the next tick on
     pub ticked_sources : (t : ℕ) (st next : RunState) (a b : L) → Gives Told a b next.world None (step c s st.world)

@@ -1,7 +1,7 @@
 -- A tick of work, and a tick of idle time: it takes the tick, and nothing else changes.
 use Rattle.std.proofs.Common.{ℕ, suc, ◌≡◌, ◌≤◌, ◌+◌, List, [], ◌++◌, Bool, true, false, Option, Some, refl, ap, sym, ◌∙◌, subst, arith, append_assoc, append-nil, inl, inr, ⊎_elim}
 use Rattle.std.specs.Prelude.{◌&&◌, max, not}
-use Rattle.std.proofs.lemmas.Bool.{eq-eqb}
+use Rattle.std.proofs.lemmas.Bool.{and_right, eq-eqb}
 use Rattle.task_lang.specs.Tick.{State, supply_of, state_of, tick}
 use Rattle.task_lang.specs.declared.syntax.Stmt.{Stmt}
 use Rattle.task_machine.specs.Standing.{work_in_front}
@@ -20,7 +20,7 @@ use Rattle.tt_world.specs.World.{World}
 use Rattle.tt_world.proofs.Still.{owner_ends}
 use Rattle.stack_dispatch.specs.Jumps.{CanWork, at_work, jump, lessened, waited, worked_off}
 use Rattle.stack_dispatch.proofs.WorkedOff.{front_worked, tick_works, undone_worked}
-use Rattle.stack_dispatch.proofs.Working.{fewer, leaving_last, some_left, wait_lessened, work_left, work_owner, work_runner}
+use Rattle.stack_dispatch.proofs.Working.{fewer, leaving_last, some_left, wait_lessened, work_left, work_owner, work_alike}
 
 -- ---- a line before a tick
 
@@ -45,6 +45,11 @@ line_first true line m next = refl
 line_first false line m next =
     ap (λ (es : List Event). record { world = (next m.world).world; events = es; end = (next m.world).end })
     (append_assoc line m.events (next m.world).events)
+
+-- after ticks of work the one who runs ran before
+pub last_runner : (c : ConfigParts) (w : World) (k : ℕ)
+    → (at_work c (suc k) w).last ≡ Some (owner_of c w (runner_of c w))
+last_runner c w k = leaving_last (waited (suc k) (owner_of c w (runner_of c w)) w) (runner_of c w) _
 
 -- ---- a tick of work
 
@@ -76,11 +81,7 @@ module _ (c : ConfigParts) (s : ScriptParts) (w : World) where
       undone = undone_worked 1 (left_of w r) l ∙ some_left (left_of w r) l
 
       not_ended : (is_somebody r && is_done (worked_off 1 (left_of w r))) ≡ false
-      not_ended = ap (λ b. is_somebody r && b) undone ∙ and_false (is_somebody r)
-        where
-          and_false : (b : Bool) → (b && false) ≡ false
-          and_false true = refl
-          and_false false = refl
+      not_ended = and_right (is_somebody r) _ undone
 
       works_on : whole ≡ goes_on (later who (leaving w r (worked_off 1 (left_of w r)))) (run_line w who)
       works_on =
@@ -139,9 +140,6 @@ module _ (c : ConfigParts) (s : ScriptParts) (w : World) where
     abbrev now : World
     now = at_work c (suc k) w
 
-    pub last_runner : (now).last ≡ Some (owner_of c w (runner_of c w))
-    last_runner = leaving_last (waited (suc k) (owner_of c w (runner_of c w)) w) (runner_of c w) _
-
     -- the tick after work has no line of its own
     pub jump_some : jump c s (suc k) w
         ≡ preceded (run_line w (owner_of c w (runner_of c w))) (step c s (at_work c (suc k) w))
@@ -153,21 +151,21 @@ module _ (c : ConfigParts) (s : ScriptParts) (w : World) where
         let next = tick_over who (is_somebody r && (runner_tick c s r who now).ended) in
         line_first (is_over m.end) (run_line w who) m next
         ∙ ap (λ (line : List Event). preceded (run_line w who) (continued (is_over m.end) (preceded line m) next))
-        (sym (no_line now who last_runner))
+        (sym (no_line now who (last_runner c w k)))
         ∙ ap (λ (o : Owner). preceded (run_line w who) (followed
         (preceded (run_line now o) (runner_tick c s r o now).move)
         (tick_over o (is_somebody r && (runner_tick c s r o now).ended)))) (sym (work_owner c w (suc k) can))
         ∙ ap (λ (q : Runner). preceded (run_line w who) (followed
         (preceded (run_line now (owner_of c now q)) (runner_tick c s q (owner_of c now q) now).move)
         (tick_over (owner_of c now q) (is_somebody q && (runner_tick c s q (owner_of c now q) now).ended))))
-        (sym (work_runner c w (suc k) can))
+        (sym (work_alike c w (suc k) can).runner)
 
     -- the tick between is quiet too
     pub can_more : CanWork 2 (runner_of c (at_work c k w)) (left_of (at_work c k w) (runner_of c (at_work c k w)))
     can_more =
         let r = runner_of c w in
         let less = fewer (suc k) (suc (suc k)) r (left_of w r) (omega arith) can in
-        subst (λ (q : Runner). CanWork 2 q (left_of (at_work c k w) q)) (sym (work_runner c w k less))
+        subst (λ (q : Runner). CanWork 2 q (left_of (at_work c k w) q)) (sym (work_alike c w k less).runner)
         (subst (λ (left : List Stmt). CanWork 2 r left) (sym (work_left c w k less))
         (⊎_elim (λ (e : r ≡ runner.Nobody). inl e)
         (λ (l : suc (suc k) ≤ max 1 (work_in_front (left_of w r))).

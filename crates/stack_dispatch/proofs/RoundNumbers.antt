@@ -142,10 +142,7 @@ module _ (c : ConfigParts) (s : ScriptParts) where
 
   leaving_number : (w : World) (r : Runner) (left : List Stmt) → w.number ≡ (leaving w r left).number
   leaving_number w (runner.Isr i) left = refl
-  leaving_number w (runner.Job q) left = refl
-  leaving_number w (runner.Oisr i) left = refl
-  leaving_number w (runner.Osek i) left = refl
-  leaving_number w runner.Nobody left = refl
+  leaving_number w r left = refl
 
   effected_number : (r : Runner) (who : Owner) (effects : List Effect) (left : List Stmt) (w : World)
       → w.number ≡ (effected c s r who effects left w).move.world.number

@@ -88,9 +88,8 @@ module _ {L : Type 0} {Told : L → List Event → L → Type 0} (telling : IsTe
 
   -- ---- some instants after others, of which the last is n
 
-  module _ (c : ConfigParts) (s : ScriptParts) (first : L) (v w : World) (n : ℕ) (now next : L) (end : Outcome)
-      (a : AtTick Told c s first v now)
-      (g : Passes Told c s v.tick n now next w end) where
+  module _ {c : ConfigParts} {s : ScriptParts} {first : L} {v w : World} {n : ℕ} {now next : L} {end : Outcome}
+      (a : AtTick Told c s first v now) (g : Passes Told c s v.tick n now next w end) where
     ends_is : is_over end ≡ ends_at c s n
     ends_is = ap is_over g.end_is
 
@@ -126,7 +125,7 @@ module _ {L : Type 0} {Told : L → List Event → L → Type 0} (telling : IsTe
       }
 
     -- where it has ended
-    module _ (last : RunEnd) (is : end ≡ Some last) (bounded : IsBounded c s) where
+    module _ {last : RunEnd} (is : end ≡ Some last) (bounded : IsBounded c s) where
       over : ends_at c s n ≡ true
       over = sym ends_is ∙ ap is_over is
 

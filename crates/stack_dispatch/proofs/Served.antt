@@ -28,6 +28,7 @@ use Rattle.round_table.specs.TableRows.{TableRows}
 use Rattle.stack_dispatch.specs.Checking.{monitored_entries}
 use Rattle.stack_dispatch.specs.Served.{IsServed, IsTableOf}
 use Rattle.stack_dispatch.proofs.Checking.{checked_by_entry}
+use Rattle.stack_dispatch.proofs.Telling.{outcome_is}
 
 -- a correction that is not 0 is a change
 pub no_change : (by : ℤ) → (by ≡ pos 0 → ⊥) → is_no_change by ≡ false
@@ -127,8 +128,7 @@ module _ {L : Type 0} {Told : L → List Event → L → Type 0} (telling : IsTe
           → Gives Told a d u last (round_end c s w)
       ended_next on d u last h =
           subst (Gives Told a d u last) (sym over_parts)
-          (gives_next telling a b d v u last _ (next_round s)
-          (subst (λ o. Gives Told a b v o (monitored c (is_at_end (offset_of w)) w)) on g) h)
+          (gives_next telling a b d v u last _ (next_round s) (outcome_is g on) h)
 
   -- checks after which the run goes on leave the world as it was
   pub checked_same : (c : ConfigParts) (is_due : Point → Bool) (w v : World) (a b : L)

@@ -1,21 +1,20 @@
 -- The OSEK subsystem over a tick of an owner: what is left of each, and that it settles again.
 use Rattle.std.proofs.Common.{ℕ, zero, suc, ◌≡◌, ◌≢◌, List, [], ◌∷◌, Bool, true, false, Option, None, Some, IfSome, refl, ap, sym, ◌∙◌, subst, length, ⊎_elim}
-use Rattle.std.specs.Prelude.{not, ◌==◌, ◌↔◌, IsTrue, slice_index_or, slice_set, if◌then◌else◌}
+use Rattle.std.specs.Prelude.{not, ◌↔◌, IsTrue, slice_index_or, slice_set}
 use Rattle.std.specs.Option.{is_some}
-use Rattle.std.proofs.lemmas.Bool.{cond_both, cases_eq, eqb-true, false≢true}
+use Rattle.std.proofs.lemmas.Bool.{cases_eq, false≢true}
 use Rattle.std.proofs.lemmas.List.{map-set, set-set, set_comm, set-get_or, get_or-set_other}
 use Rattle.std.proofs.lemmas.List.Elements.{All-set}
-use Rattle.tt_base.specs.declared.event.Call.TheVariants as call
 use Rattle.tt_base.specs.declared.event.Owner.{Owner}
 use Rattle.tt_base.specs.declared.event.Owner.TheVariants as owner
 use Rattle.task_lang.specs.declared.syntax.Stmt.{Stmt}
 use Rattle.task_lang.specs.declared.tick.Effect.{Effect}
-use Rattle.task_lang.specs.declared.tick.Effect.TheVariants as effect
 use Rattle.tt_world.specs.Runners.{is_done}
 use Rattle.round_end.specs.Round.{Round}
-use Rattle.osek_idle.specs.Subsystem.{Subsystem, Setup, left_in, lefts, is_ready, owner_left, owner_leaving, readied, suspended, finished, result_of, IsSettled}
+use Rattle.osek_idle.specs.Subsystem.{Subsystem, Setup, left_in, lefts, is_ready, owner_left, owner_leaving, readied, suspended, finished, IsSettled}
 use Rattle.osek_idle.proofs.Picking.{AreSettled, left_at, ready_at}
-use Rattle.stack_dispatch.specs.Effects.{Effected, effected, MayDo, HaveSome, finished_at}
+use Rattle.stack_dispatch.specs.Effects.{effected, MayDo, HaveSome, finished_at}
+use Rattle.stack_dispatch.proofs.Performing.{Makes, Nothing, Readies, Ends, Chains, Restarts, effect_makes}
 
 abbrev States : Type 0
 States = List (Option (List Stmt))
@@ -83,32 +82,20 @@ Readied _ sub = Unit {0}
 pub owner_ready : (who : Owner) (sub : Subsystem) → owner_left sub (Some who) ≢ [] → Readied who sub
 owner_ready (owner.Osek task) sub some = some_ready sub.tasks task.0 some
 owner_ready (owner.Oisr oisr) sub some = some_ready sub.routines oisr.0 some
-owner_ready (owner.Task t) sub some = tt
-owner_ready (owner.Isr t) sub some = tt
-owner_ready owner.ErrorHook sub some = tt
-owner_ready owner.ShutdownHook sub some = tt
-owner_ready owner.Idle sub some = tt
+owner_ready who sub some = tt
 
 -- it is still ready after a tick of it
 pub owner_stays : (who : Owner) (sub : Subsystem) (left : List Stmt) → Readied who sub
     → Readied who (owner_leaving (Some who) left sub)
 owner_stays (owner.Osek task) sub left h = ready_set sub.tasks task.0 task.0 left h ∙ h
 owner_stays (owner.Oisr oisr) sub left h = ready_set sub.routines oisr.0 oisr.0 left h ∙ h
-owner_stays (owner.Task t) sub left h = tt
-owner_stays (owner.Isr t) sub left h = tt
-owner_stays owner.ErrorHook sub left h = tt
-owner_stays owner.ShutdownHook sub left h = tt
-owner_stays owner.Idle sub left h = tt
+owner_stays who sub left h = tt
 
 owner_left_then : (who : Owner) (sub : Subsystem) (left : List Stmt) → Readied who sub → owner_left sub (Some who) ≢ []
     → owner_left (owner_leaving (Some who) left sub) (Some who) ≡ left
 owner_left_then (owner.Osek task) sub left h some = left_set sub.tasks task.0 left h
 owner_left_then (owner.Oisr oisr) sub left h some = left_set sub.routines oisr.0 left h
-owner_left_then (owner.Task t) sub left h some = absurd (some refl)
-owner_left_then (owner.Isr t) sub left h some = absurd (some refl)
-owner_left_then owner.ErrorHook sub left h some = absurd (some refl)
-owner_left_then owner.ShutdownHook sub left h some = absurd (some refl)
-owner_left_then owner.Idle sub left h some = absurd (some refl)
+owner_left_then who sub left h some = absurd (some refl)
 
 -- one of which something is left stays settled
 pub leaving_settled : (who : Owner) (sub : Subsystem) (left : List Stmt) → left ≢ [] → IsSettled sub
@@ -117,11 +104,7 @@ leaving_settled (owner.Osek task) sub left some h = record
     { tasks = set_settled sub.tasks task.0 (Some left) some h.tasks; routines = h.routines }
 leaving_settled (owner.Oisr oisr) sub left some h = record
     { tasks = h.tasks; routines = set_settled sub.routines oisr.0 (Some left) some h.routines }
-leaving_settled (owner.Task t) sub left some h = h
-leaving_settled (owner.Isr t) sub left some h = h
-leaving_settled owner.ErrorHook sub left some h = h
-leaving_settled owner.ShutdownHook sub left some h = h
-leaving_settled owner.Idle sub left some h = h
+leaving_settled who sub left some h = h
 
 -- all but the owner stay settled
 finished_settled : (who : Owner) (sub : Subsystem) (left : List Stmt) → IsSettled sub
@@ -137,10 +120,7 @@ finished_settled (owner.Oisr oisr) sub left h = record {
       (set_settled sub.routines oisr.0 None tt h.routines);
 }
 finished_settled (owner.Task t) sub left h = h
-finished_settled (owner.Isr t) sub left h = h
-finished_settled owner.ErrorHook sub left h = h
-finished_settled owner.ShutdownHook sub left h = h
-finished_settled owner.Idle sub left h = h
+finished_settled who sub left h = h
 
 -- ---- services
 
@@ -169,11 +149,7 @@ finished_readied (owner.Osek p) sub t body some h = record
     { tasks = ready_but_one sub.tasks p.0 t body some h.tasks; routines = h.routines }
 finished_readied (owner.Oisr p) sub t body some h = record
     { tasks = set_settled sub.tasks t (Some body) some h.tasks; routines = h.routines }
-finished_readied (owner.Task p) sub t body some h = readied_settled body t sub some h
-finished_readied (owner.Isr p) sub t body some h = readied_settled body t sub some h
-finished_readied owner.ErrorHook sub t body some h = readied_settled body t sub some h
-finished_readied owner.ShutdownHook sub t body some h = readied_settled body t sub some h
-finished_readied owner.Idle sub t body some h = readied_settled body t sub some h
+finished_readied who sub t body some h = readied_settled body t sub some h
 
 -- a caller that chains to itself is ready again
 self_readied : (p t : ℕ) (sub : Subsystem) (body : List Stmt) → p ≡ t → body ≢ [] → IsSettled (suspended p sub)
@@ -185,89 +161,27 @@ self_readied p t sub body e some h = record {
   routines = h.routines;
 }
 
--- a chain, by whether it is to the caller itself, and whether the task is ready
-abbrev chain_of : (same ready : Bool) → (body : List Stmt) → (p t : ℕ) → Subsystem → Subsystem
-chain_of same ready body p t sub = if same then readied body t sub else
-    (if ready then sub else suspended p (readied body t sub))
-
-abbrev ends_of : (same ready : Bool) → Bool
-ends_of same ready = (if same then 0 else result_of ready) == 0
-
-chain_settled : (same ready : Bool) (body : List Stmt) (p t : ℕ) (sub : Subsystem) → body ≢ [] → IsSettled sub
-    → IsSettled (chain_of same ready body p t sub)
-chain_settled true ready body p t sub some h = readied_settled body t sub some h
-chain_settled false true body p t sub some h = h
-chain_settled false false body p t sub some h = suspended_settled p (readied body t sub)
-    (readied_settled body t sub some h)
-
-module _ (body : ℕ → List Stmt) (now : ℕ) (r : Round) (setup : Setup) (all : HaveSome body (length setup.tasks)) where
-  -- where all are settled, they are so after the effect
-  pub effect_settled : (who : Owner) (es : List Effect) (sub : Subsystem) → MayDo now who es r setup → IsSettled sub
-      → IsSettled (effected body now who es r sub).subsystem
-  effect_settled who [] sub may h = h
-  effect_settled who (effect.Out value ∷ rest) sub may h = h
-  effect_settled who (effect.Service (call.Switch mode) ∷ rest) sub may h = h
-  effect_settled who (effect.Service call.Sync ∷ rest) sub may h = h
-  effect_settled who (effect.Service call.Shutdown ∷ rest) sub may h = h
-  effect_settled who (effect.Service (call.Activate task) ∷ rest) sub may h =
-      cond_both (is_ready sub.tasks task.0) sub (readied (body task.0) task.0 sub) IsSettled (λ _. h)
-      (λ _. readied_settled (body task.0) task.0 sub (all task.0 may) h)
-  effect_settled (owner.Osek p) (effect.Service (call.Chain task) ∷ rest) sub may h =
-      chain_settled (p.0 == task.0) (is_ready sub.tasks task.0) (body task.0) p.0 task.0 sub (all task.0 may.1) h
-  effect_settled (owner.Oisr p) (effect.Service (call.Chain task) ∷ rest) sub may h = absurd may.0
-  effect_settled (owner.Task p) (effect.Service (call.Chain task) ∷ rest) sub may h = absurd may.0
-  effect_settled (owner.Isr p) (effect.Service (call.Chain task) ∷ rest) sub may h = absurd may.0
-  effect_settled owner.ErrorHook (effect.Service (call.Chain task) ∷ rest) sub may h = absurd may.0
-  effect_settled owner.ShutdownHook (effect.Service (call.Chain task) ∷ rest) sub may h = absurd may.0
-  effect_settled owner.Idle (effect.Service (call.Chain task) ∷ rest) sub may h = absurd may.0
-  effect_settled (owner.Osek p) (effect.Service call.Terminate ∷ rest) sub may h = suspended_settled p.0 sub h
-  effect_settled (owner.Oisr p) (effect.Service call.Terminate ∷ rest) sub may h = absurd may
-  effect_settled (owner.Task p) (effect.Service call.Terminate ∷ rest) sub may h = absurd may
-  effect_settled (owner.Isr p) (effect.Service call.Terminate ∷ rest) sub may h = absurd may
-  effect_settled owner.ErrorHook (effect.Service call.Terminate ∷ rest) sub may h = absurd may
-  effect_settled owner.ShutdownHook (effect.Service call.Terminate ∷ rest) sub may h = absurd may
-  effect_settled owner.Idle (effect.Service call.Terminate ∷ rest) sub may h = absurd may
-
-  chain_ends : (same ready : Bool) (p : Owner) (n t : ℕ) (sub : Subsystem) → body t ≢ [] → (same ≡ true → n ≡ t)
-      → ((x : Subsystem) → finished p x ≡ suspended n x) → IsSettled (finished p sub)
-      → IsSettled (finished_at p true (ends_of same ready) (chain_of same ready (body t) n t sub))
-  chain_ends true ready p n t sub some to_same is h = self_readied n t sub (body t) (to_same refl) some
-      (subst IsSettled (is sub) h)
-  chain_ends false true p n t sub some to_same is h = h
-  chain_ends false false p n t sub some to_same is h =
-      subst IsSettled (is (readied (body t) t sub)) (finished_readied p sub t (body t) some h)
+module _ {body : ℕ → List Stmt} {count : ℕ} (all : HaveSome body count) {sub : Subsystem} where
+  -- where all are settled, they are so after an effect
+  pub made_settled : {who : Owner} {after : Subsystem} {ends : Bool} → Makes body count sub who after ends
+      → IsSettled sub → IsSettled after
+  made_settled (Nothing who) h = h
+  made_settled (Readies who task l idle) h = readied_settled (body task) task sub (all task l) h
+  made_settled (Ends task) h = suspended_settled task.0 sub h
+  made_settled (Chains task next l) h =
+      suspended_settled task.0 (readied (body next) next sub) (readied_settled (body next) next sub (all next l) h)
+  made_settled (Restarts task next l same) h = readied_settled (body next) next sub (all next l) h
 
   -- where all but the owner are settled, and nothing is left of it, all are so after its end
-  pub end_settled : (who : Owner) (es : List Effect) (sub : Subsystem) → MayDo now who es r setup
-      → IsSettled (finished who sub)
-      → IsSettled (finished_at who true (effected body now who es r sub).ends
-      (effected body now who es r sub).subsystem)
-  end_settled who [] sub may h = h
-  end_settled who (effect.Out value ∷ rest) sub may h = h
-  end_settled who (effect.Service (call.Switch mode) ∷ rest) sub may h = h
-  end_settled who (effect.Service call.Sync ∷ rest) sub may h = h
-  end_settled who (effect.Service call.Shutdown ∷ rest) sub may h = h
-  end_settled who (effect.Service (call.Activate task) ∷ rest) sub may h =
-      cond_both (is_ready sub.tasks task.0) sub (readied (body task.0) task.0 sub) (λ x. IsSettled (finished who x))
-      (λ _. h)
-      (λ _. finished_readied who sub task.0 (body task.0) (all task.0 may) h)
-  end_settled (owner.Osek p) (effect.Service (call.Chain task) ∷ rest) sub may h =
-      chain_ends (p.0 == task.0) (is_ready sub.tasks task.0) (owner.Osek p) p.0 task.0 sub (all task.0 may.1)
-      (eqb-true p.0 task.0) (λ x. refl) h
-  end_settled (owner.Oisr p) (effect.Service (call.Chain task) ∷ rest) sub may h = absurd may.0
-  end_settled (owner.Task p) (effect.Service (call.Chain task) ∷ rest) sub may h = absurd may.0
-  end_settled (owner.Isr p) (effect.Service (call.Chain task) ∷ rest) sub may h = absurd may.0
-  end_settled owner.ErrorHook (effect.Service (call.Chain task) ∷ rest) sub may h = absurd may.0
-  end_settled owner.ShutdownHook (effect.Service (call.Chain task) ∷ rest) sub may h = absurd may.0
-  end_settled owner.Idle (effect.Service (call.Chain task) ∷ rest) sub may h = absurd may.0
-  end_settled (owner.Osek p) (effect.Service call.Terminate ∷ rest) sub may h = h
-  end_settled (owner.Oisr p) (effect.Service call.Terminate ∷ rest) sub may h = absurd may
-  end_settled (owner.Task p) (effect.Service call.Terminate ∷ rest) sub may h = absurd may
-  end_settled (owner.Isr p) (effect.Service call.Terminate ∷ rest) sub may h = absurd may
-  end_settled owner.ErrorHook (effect.Service call.Terminate ∷ rest) sub may h = absurd may
-  end_settled owner.ShutdownHook (effect.Service call.Terminate ∷ rest) sub may h = absurd may
-  end_settled owner.Idle (effect.Service call.Terminate ∷ rest) sub may h = absurd may
+  made_end : {who : Owner} {after : Subsystem} {ends : Bool} → Makes body count sub who after ends
+      → IsSettled (finished who sub) → IsSettled (finished_at who true ends after)
+  made_end (Nothing who) h = h
+  made_end (Readies who task l idle) h = finished_readied who sub task (body task) (all task l) h
+  made_end (Ends task) h = h
+  made_end (Chains task next l) h = finished_readied (owner.Osek task) sub next (body next) (all next l) h
+  made_end (Restarts task next l same) h = self_readied task.0 next sub (body next) same (all next l) h
 
+module _ (body : ℕ → List Stmt) (now : ℕ) (r : Round) (setup : Setup) (all : HaveSome body (length setup.tasks)) where
   not_ended : (who : Owner) (ends : Bool) (sub : Subsystem) → finished_at who false ends sub ≡ sub
   not_ended who true sub = refl
   not_ended who false sub = refl
@@ -278,12 +192,13 @@ module _ (body : ℕ → List Stmt) (now : ℕ) (r : Round) (setup : Setup) (all
       → MayDo now who es r setup → IsSettled sub
       → IsSettled (finished_at who ended (effected body now who es r (owner_leaving (Some who) left sub)).ends
       (effected body now who es r (owner_leaving (Some who) left sub)).subsystem)
-  settles who es sub left true is may h = end_settled who es (owner_leaving (Some who) left sub) may
+  settles who es sub left true is may h =
+      made_end all (effect_makes body now r setup (owner_leaving (Some who) left sub) who es may)
       (finished_settled who sub left h)
   settles who es sub left false is may h =
       let x = effected body now who es r (owner_leaving (Some who) left sub) in
       subst IsSettled (sym (not_ended who x.ends x.subsystem))
-      (effect_settled who es (owner_leaving (Some who) left sub) may
+      (made_settled all (effect_makes body now r setup (owner_leaving (Some who) left sub) who es may)
       (leaving_settled who sub left (λ none. false≢true (is.1 none)) h))
 
 -- ---- what is left after the end of an owner of which nothing is left
@@ -297,91 +212,45 @@ other_task xs p t body ready idle =
 ready_left : (who : Owner) (sub : Subsystem) (t : ℕ) (body : List Stmt) → Readied who sub → is_ready sub.tasks t ≡ false
     → owner_left (readied body t sub) (Some who) ≡ owner_left sub (Some who)
 ready_left (owner.Osek p) sub t body ready idle = other_task sub.tasks p.0 t body ready idle
-ready_left (owner.Oisr p) sub t body ready idle = refl
-ready_left (owner.Task p) sub t body ready idle = refl
-ready_left (owner.Isr p) sub t body ready idle = refl
-ready_left owner.ErrorHook sub t body ready idle = refl
-ready_left owner.ShutdownHook sub t body ready idle = refl
-ready_left owner.Idle sub t body ready idle = refl
+ready_left who sub t body ready idle = refl
 
-chain_left : (same ready : Bool) (body : List Stmt) (n t : ℕ) (who : Owner) (sub : Subsystem)
-    → ends_of same ready ≡ false
-    → owner_left (chain_of same ready body n t sub) (Some who) ≡ owner_left sub (Some who)
-chain_left true ready body n t who sub e = cc
-chain_left false true body n t who sub e = refl
-chain_left false false body n t who sub e = cc
+-- an effect that does not end its owner leaves it as it is
+made_left : {body : ℕ → List Stmt} {count : ℕ} {sub after : Subsystem} {who : Owner} {ends : Bool}
+    → Makes body count sub who after ends → Readied who sub → ends ≡ false
+    → owner_left after (Some who) ≡ owner_left sub (Some who)
+made_left (Nothing who) ready e = refl
+made_left {body} {sub = sub} (Readies who task l idle) ready e = ready_left who sub task (body task) ready idle
+made_left makes ready e = cc
 
-module _ (body : ℕ → List Stmt) (now : ℕ) (r : Round) where
-  -- a service that does not end its caller leaves it as it is
-  stays_left : (who : Owner) (es : List Effect) (sub : Subsystem) → Readied who sub
-      → (effected body now who es r sub).ends ≡ false
-      → owner_left (effected body now who es r sub).subsystem (Some who) ≡ owner_left sub (Some who)
-  stays_left who [] sub ready e = refl
-  stays_left who (effect.Out value ∷ rest) sub ready e = refl
-  stays_left who (effect.Service (call.Switch mode) ∷ rest) sub ready e = refl
-  stays_left who (effect.Service call.Sync ∷ rest) sub ready e = refl
-  stays_left who (effect.Service call.Shutdown ∷ rest) sub ready e = refl
-  stays_left who (effect.Service (call.Activate task) ∷ rest) sub ready e =
-      cond_both (is_ready sub.tasks task.0) sub (readied (body task.0) task.0 sub)
-      (λ x. owner_left x (Some who) ≡ owner_left sub (Some who)) (λ _. refl)
-      (λ idle. ready_left who sub task.0 (body task.0) ready idle)
-  stays_left who (effect.Service (call.Chain task) ∷ rest) sub ready e = chain_left _ _ (body task.0) _ task.0 who sub e
-  stays_left who (effect.Service call.Terminate ∷ rest) sub ready e = cc
+-- the same is left of each task and of each routine
+pub record SameLefts (after before : Subsystem) : Type 0 where
+  pub tasks : lefts after.tasks ≡ lefts before.tasks
+  pub routines : lefts after.routines ≡ lefts before.routines
 
-  spent_tasks : (who : Owner) (sub : Subsystem) → owner_left sub (Some who) ≡ []
-      → lefts (finished who sub).tasks ≡ lefts sub.tasks
-  spent_tasks (owner.Osek p) sub none = spent sub.tasks p.0 none
-  spent_tasks (owner.Oisr p) sub none = refl
-  spent_tasks (owner.Task p) sub none = refl
-  spent_tasks (owner.Isr p) sub none = refl
-  spent_tasks owner.ErrorHook sub none = refl
-  spent_tasks owner.ShutdownHook sub none = refl
-  spent_tasks owner.Idle sub none = refl
+-- the end of an owner of which nothing is left changes nothing of what is left
+spent_end : (who : Owner) (sub : Subsystem) → owner_left sub (Some who) ≡ [] → SameLefts (finished who sub) sub
+spent_end (owner.Osek p) sub none = record { tasks = spent sub.tasks p.0 none; routines = refl }
+spent_end (owner.Oisr p) sub none = record { tasks = refl; routines = spent sub.routines p.0 none }
+spent_end who sub none = record { tasks = refl; routines = refl }
 
-  spent_routines : (who : Owner) (sub : Subsystem) → owner_left sub (Some who) ≡ []
-      → lefts (finished who sub).routines ≡ lefts sub.routines
-  spent_routines (owner.Osek p) sub none = refl
-  spent_routines (owner.Oisr p) sub none = spent sub.routines p.0 none
-  spent_routines (owner.Task p) sub none = refl
-  spent_routines (owner.Isr p) sub none = refl
-  spent_routines owner.ErrorHook sub none = refl
-  spent_routines owner.ShutdownHook sub none = refl
-  spent_routines owner.Idle sub none = refl
+end_at : (who : Owner) (ended ends : Bool) (sub : Subsystem)
+    → (ended ≡ true → ends ≡ false → owner_left sub (Some who) ≡ [])
+    → SameLefts (finished_at who ended ends sub) sub
+end_at who ended true sub h = record { tasks = refl; routines = refl }
+end_at who true false sub h = spent_end who sub (h refl refl)
+end_at who false false sub h = record { tasks = refl; routines = refl }
 
-  -- the end of an owner of which nothing is left changes nothing of what is left
-  same_at : (F : Subsystem → List (List Stmt))
-      → ((who : Owner) (sub : Subsystem) → owner_left sub (Some who) ≡ [] → F (finished who sub) ≡ F sub)
-      → (who : Owner) (ended ends : Bool) (sub : Subsystem)
-      → (ended ≡ true → ends ≡ false → owner_left sub (Some who) ≡ [])
-      → F (finished_at who ended ends sub) ≡ F sub
-  same_at F same who ended true sub h = refl
-  same_at F same who true false sub h = same who sub (h refl refl)
-  same_at F same who false false sub h = refl
-
-  module _ (who : Owner) (es : List Effect) (sub : Subsystem) (left : List Stmt) (ended : Bool)
-      (is : IsTrue ended ↔ (left ≡ []))
-      (some : owner_left sub (Some who) ≢ []) where
-    after : Effected
-    after = effected body now who es r (owner_leaving (Some who) left sub)
-
-    none_then : ended ≡ true → after.ends ≡ false → owner_left after.subsystem (Some who) ≡ []
-    unfolding after
-    none_then e f =
-        stays_left who es (owner_leaving (Some who) left sub) (owner_stays who sub left (owner_ready who sub some)) f
-        ∙ owner_left_then who sub left (owner_ready who sub some) some ∙ is.0 e
-
-    -- what is left of the tasks is what the effect left
-    pub tasks_then : lefts (finished_at who ended (effected body now who es r (owner_leaving (Some who) left sub)).ends
-        (effected body now who es r (owner_leaving (Some who) left sub)).subsystem).tasks
-        ≡ lefts (effected body now who es r (owner_leaving (Some who) left sub)).subsystem.tasks
-    unfolding after
-    tasks_then = same_at (λ (x : Subsystem). lefts x.tasks) spent_tasks who ended after.ends after.subsystem none_then
-
-    -- so it is of the routines
-    pub routines_then : lefts (finished_at who ended
-        (effected body now who es r (owner_leaving (Some who) left sub)).ends
-        (effected body now who es r (owner_leaving (Some who) left sub)).subsystem).routines
-        ≡ lefts (effected body now who es r (owner_leaving (Some who) left sub)).subsystem.routines
-    unfolding after
-    routines_then = same_at (λ (x : Subsystem). lefts x.routines) spent_routines who ended after.ends after.subsystem
-        none_then
+module _ (body : ℕ → List Stmt) (now : ℕ) (r : Round) (setup : Setup) (who : Owner) (es : List Effect) (sub : Subsystem)
+    (left : List Stmt) (ended : Bool) (is : IsTrue ended ↔ (left ≡ [])) (may : MayDo now who es r setup)
+    (some : owner_left sub (Some who) ≢ []) where
+  -- what is left of the tasks and the routines after the end of the owner is what the effect left
+  pub end_leaves : SameLefts
+      (finished_at who ended (effected body now who es r (owner_leaving (Some who) left sub)).ends
+      (effected body now who es r (owner_leaving (Some who) left sub)).subsystem)
+      (effected body now who es r (owner_leaving (Some who) left sub)).subsystem
+  end_leaves =
+      let ready = owner_ready who sub some in
+      end_at who ended _ _
+      (λ e f. made_left (effect_makes body now r setup (owner_leaving (Some who) left sub) who es may)
+      (owner_stays who sub left ready) f
+      ∙ owner_left_then who sub left ready some ∙ is.0 e)

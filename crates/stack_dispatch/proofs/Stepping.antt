@@ -23,18 +23,16 @@ use Rattle.tt_world.specs.declared.world.RunEnd.TheVariants as ending
 use Rattle.tt_world.specs.Step.{state_after, effected, runner_tick, is_somebody, run_line, tick_over}
 use Rattle.tt_world.proofs.Forward.{effected_mid}
 use Rattle.tt_world.proofs.Moves.{gives_next, gives_stop}
+use Rattle.tt_world.proofs.Stamps.{leaving_tick}
 use Rattle.tt_world.proofs.Still.{owner_ends}
 use Rattle.stack_dispatch.specs.declared.took.Did.{Did}
 use Rattle.stack_dispatch.specs.declared.took.Did.TheVariants as did
 use Rattle.stack_dispatch.specs.declared.took.Taken.{Taken}
 use Rattle.stack_dispatch.specs.Jumps.{CanJump, CanWork, at_work, jump, lessened, lessened_in, waited}
 use Rattle.stack_dispatch.specs.State.{Beside, RunState}
-use Rattle.stack_dispatch.proofs.Working.{left_waited, owner_waited, runner_waited, tick_lessened, tick_waited, work_owner, work_runner, work_tick}
+use Rattle.stack_dispatch.proofs.Telling.{outcome_is}
+use Rattle.stack_dispatch.proofs.Working.{left_waited, owner_waited, waited_alike, tick_lessened, tick_waited, work_owner, work_alike, work_tick}
 use Rattle.stack_dispatch.specs.Ticking.{CanTick, IsTick, Took, TookBy, follows}
-
-leaving_tick : (w : World) (r : Runner) (left : List Stmt) → (leaving w r left).tick ≡ w.tick
-leaving_tick w (runner.Isr i) left = refl
-leaving_tick w r left = refl
 
 -- nobody's ticks do nothing
 pub took_nobody : (c : ConfigParts) (s : ScriptParts) (k : ℕ) (w : World)
@@ -42,6 +40,15 @@ pub took_nobody : (c : ConfigParts) (s : ScriptParts) (k : ℕ) (w : World)
 unfolding tick
 took_nobody c s zero w = record { did = refl; ended_is = refl; world_is = refl }
 took_nobody c s (suc k) w = record { did = refl; ended_is = refl; world_is = refl }
+
+-- the ticks that the one who runs takes at once, up to what follows from what the last one did
+pub record Stepped {L : Type 0} (Told : L → List Event → L → Type 0) (c : ConfigParts) (s : ScriptParts) (k : ℕ)
+    (w : World) (r : Runner) (who : Owner) (a d : L) (v : World) (end : Outcome) (ended : Bool) : Type 0 where
+  pub runs : r ≡ runner_of c w
+  pub owns : who ≡ owner_of c w r
+  pub between : L
+  pub line : Told a (run_line w who) between
+  pub tick : IsTick Told between d v end ended (runner_tick c s r who (lessened k r (waited k who w)))
 
 module _ {L : Type 0} {Told : L → List Event → L → Type 0} (telling : IsTelling Told) where
   module _ (c : ConfigParts) (s : ScriptParts) (r : Runner) (who : Owner) (a b : L) (v : World) (end : Outcome)
@@ -116,19 +123,17 @@ module _ {L : Type 0} {Told : L → List Event → L → Type 0} (telling : IsTe
       refl refl refl refl
       (ap is_over (sym g.end_is))).tick
 
-  module _ (c : ConfigParts) (s : ScriptParts) (k : ℕ) (w : World) (r : Runner) (who : Owner)
-      (runs : r ≡ runner_of c w) (owns : who ≡ owner_of c w r)
-      (a b d : L) (line : Told a (run_line w who) b) (v : World) (end : Outcome) (ended : Bool)
-      (t : IsTick Told b d v end ended (runner_tick c s r who (lessened k r (waited k who w)))) where
+  module _ {c : ConfigParts} {s : ScriptParts} {k : ℕ} {w : World} {r : Runner} {who : Owner} {a d : L} {v : World}
+      {end : Outcome} {ended : Bool} (h : Stepped Told c s k w r who a d v end ended) where
     jump_as : jump c s k w ≡ followed (preceded (run_line w who)
         (runner_tick c s r who (lessened k r (waited k who w))).move)
         (tick_over who (is_somebody r && (runner_tick c s r who (lessened k r (waited k who w))).ended))
     unfolding jump
-    jump_as = rw (owns, runs) refl
+    jump_as = rw (h.owns, h.runs) refl
 
     first : Gives Told a d v end
         (preceded (run_line w who) (runner_tick c s r who (lessened k r (waited k who w))).move)
-    first = gives_after a b d (run_line w who) v end _ line t.gives
+    first = gives_after a h.between d (run_line w who) v end _ h.line h.tick.gives
 
     -- where what follows ends the run, the ticks end
     pub step_ends : is_over end ≡ true → Gives Told a d v end (jump c s k w)
@@ -142,14 +147,13 @@ module _ {L : Type 0} {Told : L → List Event → L → Type 0} (telling : IsTe
         (gives_next telling a d f v u None
         (preceded (run_line w who) (runner_tick c s r who (lessened k r (waited k who w))).move)
         (tick_over who (is_somebody r && (runner_tick c s r who (lessened k r (waited k who w))).ended))
-        (subst (λ o. Gives Told a d v o
-        (preceded (run_line w who) (runner_tick c s r who (lessened k r (waited k who w))).move)) e first)
-        (subst (λ x. Gives Told d f u None (tick_over who (is_somebody r && x) v)) t.ended_is g))
+        (outcome_is first e)
+        (subst (λ x. Gives Told d f u None (tick_over who (is_somebody r && x) v)) h.tick.ended_is g))
 
     -- and the present tick was not raised before
     pub step_room : end ≡ None → v.tick ≡ w.tick + k
-    step_room e = tick_stays c s r who (lessened k r (waited k who w)) v b d
-        (subst (λ o. Gives Told b d v o (runner_tick c s r who (lessened k r (waited k who w))).move) e t.gives)
+    step_room e = tick_stays c s r who (lessened k r (waited k who w)) v h.between d
+        (outcome_is h.tick.gives e)
         ∙ tick_lessened k r (waited k who w) ∙ tick_waited k who w
 
     -- whether the owner has ended
@@ -159,11 +163,11 @@ module _ {L : Type 0} {Told : L → List Event → L → Type 0} (telling : IsTe
         let u = at_work c k w in
         let q = runner_of c w in
         let same : (is_somebody r && (runner_tick c s r who (lessened k r (waited k who w))).ended)
-        ≡ (is_somebody q && (runner_tick c s q (owner_of c w q) u).ended) = rw (owns, runs) refl in
-        e ∙ ap (λ x. is_somebody r && x) t.ended_is ∙ same
+        ≡ (is_somebody q && (runner_tick c s q (owner_of c w q) u).ended) = rw (h.owns, h.runs) refl in
+        e ∙ ap (λ x. is_somebody r && x) h.tick.ended_is ∙ same
         ∙ ap (λ (o : Owner). is_somebody q && (runner_tick c s q o u).ended) (sym (work_owner c w k can))
         ∙ ap (λ (p : Runner). is_somebody p && (runner_tick c s p (owner_of c u p) u).ended)
-        (sym (work_runner c w k can))
+        (sym (work_alike c w k can).runner)
 
 -- ---- while all ticks but the last are over
 
@@ -172,44 +176,49 @@ pub waits_number : (c : ConfigParts) (s : ScriptParts) (k : ℕ) → 1 ≤ k →
     → st.world.tick + k < 2 ^ 64
 waits_number c s k some st can = let last = can.last.tick in omega (arith, some, last, work_tick c st.world (k - 1))
 
-module _ (c : ConfigParts) (s : ScriptParts) (k : ℕ) (some : 1 ≤ k) (st after : RunState) (r : Runner) (who : Owner)
-    (runs : r ≡ runner_of c st.world) (owns : who ≡ owner_of c st.world r)
-    (is : after.world ≡ waited (k - 1) who st.world) (beside : after.beside ≡ st.beside)
-    (can : CanJump c s k st) where
+-- the one who runs waits for the last of its ticks
+pub record Waits (c : ConfigParts) (s : ScriptParts) (k : ℕ) (st after : RunState) (r : Runner) (who : Owner)
+    : Type 0 where
+  pub some : 1 ≤ k
+  pub can : CanJump c s k st
+  pub runs : r ≡ runner_of c st.world
+  pub owns : who ≡ owner_of c st.world r
+  pub is : after.world ≡ waited (k - 1) who st.world
+  pub beside : after.beside ≡ st.beside
+
+module _ {c : ConfigParts} {s : ScriptParts} {k : ℕ} {st after : RunState} {r : Runner} {who : Owner}
+    (h : Waits c s k st after r who) where
   -- the same one runs, and can take k ticks
   pub waits_within : CanWork k r (left_of after.world r)
   waits_within =
-      subst (λ (w : World). CanWork k r (left_of w r)) (sym is)
+      subst (λ (w : World). CanWork k r (left_of w r)) (sym h.is)
       (subst (λ (left : List Stmt). CanWork k r left) (sym (left_waited (k - 1) who st.world r))
-      (subst (λ (q : Runner). CanWork k q (left_of st.world q)) (sym runs) can.within))
+      (subst (λ (q : Runner). CanWork k q (left_of st.world q)) (sym h.runs) h.can.within))
 
   pub waits_runs : r ≡ runner_of c after.world
-  waits_runs = runs ∙ sym (runner_waited c (k - 1) who st.world) ∙ ap (runner_of c) (sym is)
+  waits_runs = h.runs ∙ sym (waited_alike c (k - 1) who st.world).runner ∙ ap (runner_of c) (sym h.is)
 
   pub waits_owns : who ≡ owner_of c after.world r
-  waits_owns = owns ∙ sym (owner_waited c (k - 1) who st.world r) ∙ ap (λ (w : World). owner_of c w r) (sym is)
+  waits_owns = h.owns ∙ sym (owner_waited c (k - 1) who st.world r) ∙ ap (λ (w : World). owner_of c w r) (sym h.is)
 
   pub waits_can : CanTick c s (lessened_in (k - 1) r after)
   waits_can =
       let j = k - 1 in
-      subst (λ (b : Beside). CanTick c s (record { world = lessened j r after.world; beside = b })) (sym beside)
-      (subst (λ (w : World). CanTick c s (record { world = lessened j r w; beside = st.beside })) (sym is)
+      subst (λ (b : Beside). CanTick c s (record { world = lessened j r after.world; beside = b })) (sym h.beside)
+      (subst (λ (w : World). CanTick c s (record { world = lessened j r w; beside = st.beside })) (sym h.is)
       (subst (λ (o : Owner). CanTick c s (record { world = lessened j r (waited j o st.world); beside = st.beside }))
-      (sym owns)
+      (sym h.owns)
       (subst (λ (q : Runner). CanTick c s (record {
         world = lessened j q (waited j (owner_of c st.world q) st.world);
         beside = st.beside;
-      })) (sym runs) can.last)))
+      })) (sym h.runs) h.can.last)))
 
   -- k - 1 ticks later
   pub waits_last : (last : ℕ) → last ≡ after.world.tick → last ≡ st.world.tick + (k - 1)
-  waits_last last e = e ∙ ap (λ (w : World). w.tick) is ∙ tick_waited (k - 1) who st.world
-
-  pub waits_took : (taken : Taken) (now : World) → Took c s r (lessened (k - 1) r after.world) taken now
-      → Took c s r (lessened (k - 1) r (waited (k - 1) who st.world)) taken now
-  waits_took taken now t = subst (λ (w : World). Took c s r (lessened (k - 1) r w) taken now) is t
+  waits_last last e = e ∙ ap (λ (w : World). w.tick) h.is ∙ tick_waited (k - 1) who st.world
 
   pub waits_work : CanWork (suc (k - 1)) (runner_of c st.world) (left_of st.world (runner_of c st.world))
   waits_work =
+      let some = h.some in
       let one : k ≡ suc (k - 1) = omega (arith, some) in
-      subst (λ n. CanWork n (runner_of c st.world) (left_of st.world (runner_of c st.world))) one can.within
+      subst (λ n. CanWork n (runner_of c st.world) (left_of st.world (runner_of c st.world))) one h.can.within

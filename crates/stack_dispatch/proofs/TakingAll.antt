@@ -1,6 +1,6 @@
 -- Ticks of the one who runs that are taken at once: those of work are taken off, and the last is a tick of what is
 -- left.
-use Rattle.std.proofs.Common.{ℕ, zero, suc, ◌≡◌, ◌≢◌, ◌≤◌, ◌-◌, List, [], Bool, true, false, Option, Some, refl, ap, sym, ◌∙◌, subst, arith, length, ⊎_elim}
+use Rattle.std.proofs.Common.{ℕ, zero, suc, ◌≡◌, ◌≢◌, ◌≤◌, ◌-◌, List, [], Bool, true, false, Option, Some, refl, ap, sym, ◌∙◌, subst, arith, length}
 use Rattle.std.specs.Prelude.{ℤ, ◌↔◌, ◌||◌, IsSome, IsTrue, max, unwrap_or}
 use Rattle.std.proofs.lemmas.List.{set-set}
 use Rattle.task_lang.specs.Tick.{State, supply_of, state_of, tick, ticks}
@@ -13,7 +13,7 @@ use Rattle.tt_world.specs.declared.config.ConfigParts.{ConfigParts}
 use Rattle.tt_world.specs.declared.script.ScriptParts.{ScriptParts}
 use Rattle.tt_world.specs.declared.world.Runner.{Runner}
 use Rattle.tt_world.specs.declared.world.Runner.TheVariants as runner
-use Rattle.tt_world.specs.World.{World, Job}
+use Rattle.tt_world.specs.World.{World}
 use Rattle.tt_world.specs.Runners.{is_done, left_of, leaving, runner_of, owner_of}
 use Rattle.tt_world.specs.Step.{state_after}
 use Rattle.round_end.specs.Round.{Round}
@@ -27,14 +27,14 @@ use Rattle.stack_dispatch.specs.Served.{round_in}
 use Rattle.stack_dispatch.specs.State.{RunState}
 use Rattle.stack_dispatch.specs.Ticking.{CanTick, IsOnStack, IsInIdleTime, Took}
 use Rattle.stack_dispatch.proofs.Settling.{leaving_settled}
-use Rattle.stack_dispatch.proofs.Taking.{store_of, stack_left, stack_oisrs, stack_oseks, stack_may, stack_settled, stack_took, state_is, may_now, some_bodies, idle_left, idle_oseks, idle_oisrs, idle_jobs, idle_isrs, idle_took}
+use Rattle.stack_dispatch.proofs.Taking.{IsRunning, store_of, stack_alone, stack_leaving, stack_left, stack_may, stack_settled, stack_took, state_is, may_now, some_bodies, idle_alone, idle_left, idle_leaving, idle_took}
 use Rattle.stack_dispatch.proofs.Ticks.{built, idle_some, served}
-use Rattle.stack_dispatch.proofs.WhoRuns.{stack_of, is_of, on_stack_runs, idle_picks}
+use Rattle.stack_dispatch.proofs.WhoRuns.{HasLefts, stack_of, is_of, on_stack_runs, idle_picks}
 use Rattle.stack_dispatch.proofs.WorkedOff.{last_tick, undone_worked}
-use Rattle.stack_dispatch.proofs.Working.{leave_lessened, left_lessened, owner_lessened, runner_lessened, some_left}
+use Rattle.stack_dispatch.proofs.Working.{leave_lessened, left_lessened, owner_lessened, lessened_alike, some_left, somebody_works}
 use Rattle.tt_stack.specs.Stacked.{Stacked, runner_in, running, left_in, leaving_in}
 
--- contracts see of a state what its fields give
+-- contracts see of a state what its fields give: of one after the ticks
 pub took_seen : (c : ConfigParts) (s : ScriptParts) (k : ℕ) (r : Runner) (v st : RunState) (taken : Taken) (now : World)
     → v ≡ st → Took c s r (lessened k r v.world) taken now → Took c s r (lessened k r st.world) taken now
 took_seen c s k r v st taken now seen t = subst (λ (x : RunState). Took c s r (lessened k r x.world) taken now) seen t
@@ -51,34 +51,18 @@ less_world k r w = record w {
 less_is : (k : ℕ) (r : Runner) (w : World) → lessened k r w ≡ less_world k r w
 less_is zero r w = refl
 less_is (suc k) (runner.Isr i) w = refl
-less_is (suc k) (runner.Job p) w = refl
-less_is (suc k) (runner.Oisr i) w = refl
-less_is (suc k) (runner.Osek i) w = refl
-less_is (suc k) runner.Nobody w = refl
+less_is (suc k) r w = refl
 
-stack_leaving : (st : RunState) (r : Runner) (left : List Stmt) → IsOnStack r
-    → leaving_in (stack_of st) r left ≡ stack_of (record st { world = leaving st.world r left })
-stack_leaving st (runner.Isr i) left on = refl
-stack_leaving st (runner.Job p) left on = refl
-stack_leaving st (runner.Oisr i) left on = absurd on
-stack_leaving st (runner.Osek t) left on = absurd on
-stack_leaving st runner.Nobody left on = absurd on
+-- of one on the stack, and of one in idle time
+less_on_stack : (k : ℕ) (r : Runner) (w : World) → IsOnStack r
+    → lessened k r w ≡ record w { jobs = (lessened k r w).jobs; isrs = (lessened k r w).isrs }
+less_on_stack zero r w on = refl
+less_on_stack (suc k) r w on = stack_alone w r (worked_off (suc k) (left_of w r)) on
 
-less_oseks : (k : ℕ) (r : Runner) (w : World) → IsOnStack r → (lessened k r w).oseks ≡ w.oseks
-less_oseks zero r w on = refl
-less_oseks (suc k) r w on = stack_oseks w r (worked_off (suc k) (left_of w r)) on
-
-less_oisrs : (k : ℕ) (r : Runner) (w : World) → IsOnStack r → (lessened k r w).oisrs ≡ w.oisrs
-less_oisrs zero r w on = refl
-less_oisrs (suc k) r w on = sym (stack_oisrs w r (worked_off (suc k) (left_of w r)) on)
-
-less_jobs : (k : ℕ) (r : Runner) (w : World) → IsInIdleTime r → (lessened k r w).jobs ≡ w.jobs
-less_jobs zero r w on = refl
-less_jobs (suc k) r w on = sym (idle_jobs w r (worked_off (suc k) (left_of w r)) on)
-
-less_isrs : (k : ℕ) (r : Runner) (w : World) → IsInIdleTime r → (lessened k r w).isrs ≡ w.isrs
-less_isrs zero r w on = refl
-less_isrs (suc k) r w on = sym (idle_isrs w r (worked_off (suc k) (left_of w r)) on)
+less_idle : (k : ℕ) (r : Runner) (w : World) → IsInIdleTime r
+    → lessened k r w ≡ record w { oisrs = (lessened k r w).oisrs; oseks = (lessened k r w).oseks }
+less_idle zero r w on = refl
+less_idle (suc k) r w on = idle_alone w r (worked_off (suc k) (left_of w r)) on
 
 -- ---- the subsystem with less left of an owner
 
@@ -92,11 +76,7 @@ leave_again (owner.Osek t) sub a b =
     ap (λ xs. record { tasks = xs; routines = sub.routines }) (set-set sub.tasks t.0 (Some a) (Some b))
 leave_again (owner.Oisr i) sub a b =
     ap (λ xs. record { tasks = sub.tasks; routines = xs }) (set-set sub.routines i.0 (Some a) (Some b))
-leave_again (owner.Task t) sub a b = refl
-leave_again (owner.Isr t) sub a b = refl
-leave_again owner.ErrorHook sub a b = refl
-leave_again owner.ShutdownHook sub a b = refl
-leave_again owner.Idle sub a b = refl
+leave_again who sub a b = refl
 
 leave_less : (k : ℕ) (who : Owner) (sub : Subsystem) (left : List Stmt)
     → owner_leaving (Some who) left (less_sub k who sub) ≡ owner_leaving (Some who) left sub
@@ -116,45 +96,74 @@ less_settled (suc k) who sub l h =
 
 module _ (c : ConfigParts) (w : World) (sub : Subsystem) (r : Runner) (who : Owner) (on : IsInIdleTime r)
     (owns : who ≡ owner_of c w r) (here : left_of w r ≡ owner_left sub (Some who)) where
-  less_tasks : (k : ℕ) → w.oseks ≡ lefts sub.tasks → (lessened k r w).oseks ≡ lefts (less_sub k who sub).tasks
-  less_tasks zero tasks = tasks
-  less_tasks (suc k) tasks =
-      idle_oseks c w w sub r (worked_off (suc k) (left_of w r)) on tasks
-      ∙ ap (λ (o : Owner). lefts (owner_leaving (Some o) (worked_off (suc k) (left_of w r)) sub).tasks) (sym owns)
-      ∙ ap (λ (left : List Stmt). lefts (owner_leaving (Some who) (worked_off (suc k) left) sub).tasks) here
-
-  less_routines : (k : ℕ) → w.oisrs ≡ lefts sub.routines → (lessened k r w).oisrs ≡ lefts (less_sub k who sub).routines
-  less_routines zero routines = routines
-  less_routines (suc k) routines =
-      idle_oisrs c w w sub r (worked_off (suc k) (left_of w r)) on routines
-      ∙ ap (λ (o : Owner). lefts (owner_leaving (Some o) (worked_off (suc k) (left_of w r)) sub).routines) (sym owns)
-      ∙ ap (λ (left : List Stmt). lefts (owner_leaving (Some who) (worked_off (suc k) left) sub).routines) here
+  less_lefts : (k : ℕ) → HasLefts w sub → HasLefts (lessened k r w) (less_sub k who sub)
+  less_lefts zero h = h
+  less_lefts (suc k) h =
+      let then_left = worked_off (suc k) (left_of w r) in
+      subst (λ (left : List Stmt). HasLefts (leaving w r then_left)
+      (owner_leaving (Some who) (worked_off (suc k) left) sub)) here
+      (subst (λ (o : Owner). HasLefts (leaving w r then_left) (owner_leaving (Some o) then_left sub)) (sym owns)
+      (idle_leaving c w w sub r then_left on h))
 
 -- ---- the ticks, of which all but the last are work
 
-module _ (c : ConfigParts) (s : ScriptParts) (st : RunState) (r : Runner) (who : Owner) (k : ℕ) (some : 1 ≤ k)
-    (within : CanWork k r (left_of st.world r)) (can : CanTick c s (lessened_in (k - 1) r st))
-    (runs : r ≡ runner_of c st.world) (owns : who ≡ owner_of c st.world r) where
+-- the one who runs takes k ticks at once
+pub record Takes (c : ConfigParts) (s : ScriptParts) (r : Runner) (who : Owner) (k : ℕ) (st : RunState) : Type 0 where
+  pub some : 1 ≤ k
+  pub within : CanWork k r (left_of st.world r)
+  pub can : CanTick c s (lessened_in (k - 1) r st)
+  pub runs : r ≡ runner_of c st.world
+  pub owns : who ≡ owner_of c st.world r
+
+-- the world after ticks on the stack, by the parts of the state
+abbrev after_stack : RunState → Stacked → List ℤ → List ℕ → Subsystem → Effected → World
+after_stack st stack vars cursors sub x =
+    built (served (record st.world { vars = vars; cursors = cursors }) x.round.wanted x.round.pending
+    x.round.times_used (lefts sub.tasks)) x.round stack.jobs stack.isrs (lefts sub.routines)
+
+-- what they gave: the subsystem is settled, and the last tick is the one of the definition
+pub record StackGave (c : ConfigParts) (s : ScriptParts) (r : Runner) (k : ℕ) (st : RunState) (stack : Stacked)
+    (vars : List ℤ) (cursors : List ℕ) (sub : Subsystem) (x : Effected) : Type 0 where
+  pub settled : IsSettled sub
+  pub took : (ended : Bool) → (IsTrue ended ↔ (left_in stack (running (stack_of st)) ≡ []))
+      → Took c s r (lessened (k - 1) r st.world) (record { did = x.did; ended = ended })
+      (after_stack st stack vars cursors sub x)
+
+-- an owner in idle time takes them, and what is left of the OSEK subsystem is that of the state
+pub record TakesIdle (c : ConfigParts) (s : ScriptParts) (r : Runner) (who : Owner) (k : ℕ) (st : RunState)
+    (osek : Osek) (codes : List (List Stmt)) : Type 0 where
+  pub takes : Takes c s r who k st
+  pub idle : IsInIdleTime r
+  pub setup_same : setup_of osek ≡ st.beside.setup
+  pub left : HasLefts st.world (subsystem_of st.beside.codes osek)
+  pub settled : IsSettled (subsystem_of st.beside.codes osek)
+  pub codes_is : codes ≡ st.beside.codes
+
+-- contracts see of a state what its fields give
+pub takes_seen : {c : ConfigParts} {s : ScriptParts} {r : Runner} {who : Owner} {k : ℕ} {v st : RunState} → v ≡ st
+    → Takes c s r who k st → Takes c s r who k v
+takes_seen {c} {s} {r} {who} {k} seen h = subst (Takes c s r who k) (sym seen) h
+
+module _ {c : ConfigParts} {s : ScriptParts} {r : Runner} {who : Owner} {k : ℕ} {st : RunState}
+    (takes : Takes c s r who k st) where
   abbrev less : RunState
   less = record st { world = less_world (k - 1) r st.world }
 
   one_less : k ≡ suc (k - 1)
-  one_less = omega (arith, some)
+  one_less = let some = takes.some in omega (arith, some)
 
   works : CanWork (suc (k - 1)) r (left_of st.world r)
-  works = subst (λ n. CanWork n r (left_of st.world r)) one_less within
+  works = subst (λ n. CanWork n r (left_of st.world r)) one_less takes.within
 
   same : lessened (k - 1) r st.world ≡ less_world (k - 1) r st.world
   same = less_is (k - 1) r st.world
 
-  can_less : CanTick c s (record st { world = less_world (k - 1) r st.world })
-  can_less = subst (λ (w : World). CanTick c s (record st { world = w })) same can
-
-  runs_less : r ≡ runner_of c (less).world
-  runs_less = runs ∙ sym (runner_lessened c (k - 1) r st.world works) ∙ ap (runner_of c) same
-
-  owns_less : who ≡ owner_of c (less).world r
-  owns_less = owns ∙ sym (owner_lessened c (k - 1) r st.world) ∙ ap (λ (w : World). owner_of c w r) same
+  now : IsRunning c s (record st { world = less_world (k - 1) r st.world }) r who
+  now = record {
+    can = subst (λ (w : World). CanTick c s (record st { world = w })) same takes.can;
+    runs = takes.runs ∙ sym (lessened_alike c (k - 1) r st.world works).runner ∙ ap (runner_of c) same;
+    owns = takes.owns ∙ sym (owner_lessened c (k - 1) r st.world) ∙ ap (λ (w : World). owner_of c w r) same;
+  }
 
   left_less : left_of (less).world r ≡ worked_off (k - 1) (left_of st.world r)
   left_less = ap (λ (w : World). left_of w r) (sym same) ∙ left_lessened (k - 1) r st.world works
@@ -169,13 +178,13 @@ module _ (c : ConfigParts) (s : ScriptParts) (st : RunState) (r : Runner) (who :
       ∙ ap (λ n. ticks supply n (state_of (left_of st.world r) st.world.vars st.world.cursors [])) one_less
       ∙ last_tick supply st.world.vars st.world.cursors (k - 1) (left_of st.world r) l
       ∙ ap (λ (x : List Stmt). tick supply (state_of x st.world.vars st.world.cursors [])) (sym left_less)
-      ∙ state_is c s less r who can_less runs_less owns_less (left_of (less).world r)
+      ∙ state_is now (left_of (less).world r)
 
   -- ---- on the stack
 
   module _ (on : IsOnStack r) where
     stack_runs : runner_in (stack_of st) ≡ Some r
-    stack_runs = on_stack_runs c s st can.kept r runs on
+    stack_runs = on_stack_runs c s st takes.can.kept r takes.runs on
 
     -- one runs on the stack
     pub stack_is_running : IsSome (runner_in (stack_of st))
@@ -188,8 +197,7 @@ module _ (c : ConfigParts) (s : ScriptParts) (st : RunState) (r : Runner) (who :
     somebody e = subst IsOnStack e on
 
     stack_works : k ≤ max 1 (work_in_front (left_of st.world r))
-    stack_works = ⊎_elim (λ (e : r ≡ runner.Nobody). absurd (somebody e))
-        (λ (l : k ≤ max 1 (work_in_front (left_of st.world r))). l) within
+    stack_works = somebody_works k r (left_of st.world r) somebody takes.within
 
     -- it has work left for k ticks, or k is at most 1
     pub stack_within : k ≤ max 1 (work_in_front (left_in (stack_of st) (running (stack_of st))))
@@ -216,176 +224,162 @@ module _ (c : ConfigParts) (s : ScriptParts) (st : RunState) (r : Runner) (who :
           subst (λ (q : Runner). state_of (left_in stack q) vars cursors es
           ≡ ticks (supply_of st.beside.demands st.beside.values) k
           (state_of (left_in (stack_of st) q) st.world.vars st.world.cursors [])) running_is ticked
-          ∙ ticks_as (left_in (stack_of st) r) (stack_left st r on) (omega (arith, stack_works, some))
+          ∙ ticks_as (left_in (stack_of st) r) (stack_left st r on) (let some = takes.some in omega (arith, stack_works, some))
 
       -- it may make the call of its last tick
       pub all_may : MayDo st.world.tick who es (round_in st) st.beside.setup
-      all_may = stack_may c s less r who can_less runs_less owns_less on stack vars cursors es others_less ticked_less
+      all_may = stack_may now on stack vars cursors es others_less ticked_less
 
       module _ (osek osek1 : Osek) (setup_same : setup_of osek ≡ st.beside.setup)
-          (tasks : st.world.oseks ≡ lefts (subsystem_of st.beside.codes osek).tasks)
-          (routines : st.world.oisrs ≡ lefts (subsystem_of st.beside.codes osek).routines)
+          (left : HasLefts st.world (subsystem_of st.beside.codes osek))
           (settled : IsSettled (subsystem_of st.beside.codes osek))
           (codes : List (List Stmt)) (codes_is : codes ≡ stack.codes) (x : Effected)
           (x_is : x ≡ effected (task_body codes (setup_of osek)) st.world.tick who es (round_in st)
           (subsystem_of codes osek))
           (sub_is : subsystem_of codes osek1 ≡ x.subsystem) where
-        tasks_less : (less).world.oseks ≡ lefts (subsystem_of st.beside.codes osek).tasks
-        tasks_less = less_oseks (k - 1) r st.world on ∙ tasks
+        lefts_less : HasLefts (less).world (subsystem_of st.beside.codes osek)
+        lefts_less =
+            let alone = less_on_stack (k - 1) r st.world on in
+            record {
+              tasks = ap (λ (w : World). w.oseks) alone ∙ left.tasks;
+              routines = ap (λ (w : World). w.oisrs) alone ∙ left.routines;
+            }
 
-        routines_less : (less).world.oisrs ≡ lefts (subsystem_of st.beside.codes osek).routines
-        routines_less = less_oisrs (k - 1) r st.world on ∙ routines
+        -- what the ticks gave
+        pub all_gave : StackGave c s r k st stack vars cursors (subsystem_of stack.codes osek1) x
+        all_gave = record {
+          settled = stack_settled now on stack vars cursors es others_less ticked_less osek osek1 setup_same lefts_less
+              settled codes codes_is x x_is sub_is;
+          took = λ ended ended_is.
+              subst (λ (w : World). Took c s r w (record { did = x.did; ended = ended })
+              (after_stack st stack vars cursors (subsystem_of stack.codes osek1) x)) (sym same)
+              (stack_took now on stack vars cursors es others_less ticked_less osek osek1 setup_same lefts_less
+              settled codes codes_is x x_is sub_is ended
+              (subst (λ (q : Runner). IsTrue ended ↔ (left_in stack q ≡ [])) running_is ended_is));
+        }
 
-        -- the subsystem is settled after the effect
-        pub all_settled : IsSettled (subsystem_of stack.codes osek1)
-        all_settled =
-            stack_settled c s less r who can_less runs_less owns_less on stack vars cursors es others_less ticked_less
-            osek osek1 setup_same tasks_less routines_less settled codes codes_is x x_is sub_is
+-- ---- in idle time
 
-        -- the last tick is the one of the definition
-        pub all_took : (ended : Bool) → (IsTrue ended ↔ (left_in stack (running (stack_of st)) ≡ []))
-            → Took c s r (lessened (k - 1) r st.world) (record { did = x.did; ended = ended })
-            (built (served (record st.world { vars = vars; cursors = cursors }) x.round.wanted x.round.pending
-            x.round.times_used
-            (lefts (subsystem_of stack.codes osek1).tasks)) x.round stack.jobs stack.isrs
-            (lefts (subsystem_of stack.codes osek1).routines))
-        all_took ended ended_is =
-            subst (λ (w : World). Took c s r w (record { did = x.did; ended = ended })
-            (built (served (record st.world { vars = vars; cursors = cursors }) x.round.wanted x.round.pending
-            x.round.times_used
-            (lefts (subsystem_of stack.codes osek1).tasks)) x.round stack.jobs stack.isrs
-            (lefts (subsystem_of stack.codes osek1).routines))) (sym same)
-            (stack_took c s less r who can_less runs_less owns_less on stack vars cursors es others_less ticked_less
-            osek osek1 setup_same tasks_less routines_less settled codes codes_is x x_is sub_is ended
-            (subst (λ (q : Runner). IsTrue ended ↔ (left_in stack q ≡ [])) running_is ended_is))
+module _ {c : ConfigParts} {s : ScriptParts} {r : Runner} {who : Owner} {k : ℕ} {st : RunState} {osek : Osek}
+    {codes : List (List Stmt)} (h : TakesIdle c s r who k st osek codes) where
+  abbrev here : Subsystem
+  here = subsystem_of st.beside.codes osek
 
-  -- ---- in idle time
+  there : subsystem_of codes osek ≡ here
+  there = ap (λ (x : List (List Stmt)). subsystem_of x osek) h.codes_is
 
-  module _ (on : IsInIdleTime r) (osek : Osek) (setup_same : setup_of osek ≡ st.beside.setup)
-      (tasks : st.world.oseks ≡ lefts (subsystem_of st.beside.codes osek).tasks)
-      (routines : st.world.oisrs ≡ lefts (subsystem_of st.beside.codes osek).routines)
-      (settled : IsSettled (subsystem_of st.beside.codes osek))
-      (codes : List (List Stmt)) (codes_is : codes ≡ st.beside.codes) where
-    abbrev here : Subsystem
-    here = subsystem_of st.beside.codes osek
+  -- each body of an OSEK task has a statement
+  pub idle_bodies : HaveSome (task_body codes (setup_of osek)) (length (setup_of osek).tasks)
+  idle_bodies =
+      subst (λ (x : List (List Stmt)). HaveSome (task_body x (setup_of osek)) (length (setup_of osek).tasks))
+      (sym h.codes_is)
+      (subst (λ (x : Setup). HaveSome (task_body st.beside.codes x) (length x.tasks)) (sym h.setup_same)
+      (some_bodies (now h.takes)))
 
-    there : subsystem_of codes osek ≡ here
-    there = ap (λ (x : List (List Stmt)). subsystem_of x osek) codes_is
+  -- the owner is the one who is picked
+  pub idle_picked : picked (setup_of osek) (subsystem_of codes osek) ≡ Some who
+  idle_picked =
+      ap (picked (setup_of osek)) there
+      ∙ idle_picks c s st h.takes.can.kept (setup_of osek) here r h.takes.runs h.idle
+      (is_of c s st h.takes.can.kept (setup_of osek) here h.left (sym h.setup_same) h.settled)
+      ∙ ap (λ (o : Owner). Some o) (sym h.takes.owns)
 
-    -- each body of an OSEK task has a statement
-    pub idle_bodies : HaveSome (task_body codes (setup_of osek)) (length (setup_of osek).tasks)
-    idle_bodies =
-        subst (λ (x : List (List Stmt)). HaveSome (task_body x (setup_of osek)) (length (setup_of osek).tasks))
-        (sym codes_is)
-        (subst (λ (x : Setup). HaveSome (task_body st.beside.codes x) (length x.tasks)) (sym setup_same)
-        (some_bodies c s less r who can_less runs_less owns_less))
+  left_here : left_of st.world r ≡ owner_left here (Some who)
+  left_here = idle_left c st.world here r h.idle h.left ∙ ap (λ (o : Owner). owner_left here (Some o)) (sym h.takes.owns)
 
-    -- the owner is the one who is picked
-    pub idle_picked : picked (setup_of osek) (subsystem_of codes osek) ≡ Some who
-    idle_picked =
-        ap (picked (setup_of osek)) there
-        ∙ idle_picks c s st can.kept (setup_of osek) here r runs on
-        (is_of c s st can.kept (setup_of osek) here tasks routines (sym setup_same) settled)
-        ∙ ap (λ (o : Owner). Some o) (sym owns)
+  left_there : left_of st.world r ≡ owner_left (subsystem_of codes osek) (Some who)
+  left_there = left_here ∙ ap (λ (x : Subsystem). owner_left x (Some who)) (sym there)
 
-    left_here : left_of st.world r ≡ owner_left here (Some who)
-    left_here = idle_left c st.world here r on tasks routines ∙ ap (λ (o : Owner). owner_left here (Some o)) (sym owns)
+  -- something is left of it
+  pub idle_left_some : owner_left (subsystem_of codes osek) (Some who) ≢ []
+  idle_left_some none = idle_some c st.world r h.takes.runs h.idle (left_there ∙ none)
 
-    left_there : left_of st.world r ≡ owner_left (subsystem_of codes osek) (Some who)
-    left_there = left_here ∙ ap (λ (x : Subsystem). owner_left x (Some who)) (sym there)
+  idle_works : k ≤ max 1 (work_in_front (left_of st.world r))
+  idle_works = somebody_works k r (left_of st.world r) (λ e. subst IsInIdleTime e h.idle) h.takes.within
 
-    -- something is left of it
-    pub idle_left_some : owner_left (subsystem_of codes osek) (Some who) ≢ []
-    idle_left_some none = idle_some c st.world r runs on (left_there ∙ none)
+  -- it has work left for k ticks, or k is at most 1
+  pub idle_within : k ≤ max 1 (work_in_front (owner_left (subsystem_of codes osek) (Some who)))
+  idle_within = subst (λ (left : List Stmt). k ≤ max 1 (work_in_front left)) left_there idle_works
 
-    idle_works : k ≤ max 1 (work_in_front (left_of st.world r))
-    idle_works = ⊎_elim (λ (e : r ≡ runner.Nobody). absurd (subst IsInIdleTime e on))
-        (λ (l : k ≤ max 1 (work_in_front (left_of st.world r))). l) within
+  idle_state : idle_ticks k who (store_of st) (subsystem_of codes osek)
+      ≡ state_after c s (less h.takes).world (left_of (less h.takes).world r)
+  idle_state =
+      ticks_as h.takes (owner_left (subsystem_of codes osek) (Some who)) (sym left_there)
+      (let some = h.takes.some in omega (arith, idle_works, some))
 
-    -- it has work left for k ticks, or k is at most 1
-    pub idle_within : k ≤ max 1 (work_in_front (owner_left (subsystem_of codes osek) (Some who)))
-    idle_within = subst (λ (left : List Stmt). k ≤ max 1 (work_in_front left)) left_there idle_works
+  -- it may make the call of its last tick
+  pub idle_may : MayDo st.world.tick who (idle_ticks k who (store_of st) (subsystem_of codes osek)).effects
+      (round_in st) (setup_of osek)
+  idle_may =
+      subst (λ (x : Setup). MayDo st.world.tick who (idle_ticks k who (store_of st) (subsystem_of codes osek)).effects
+      (round_in st) x) (sym h.setup_same)
+      (subst (λ (x : State). MayDo st.world.tick who x.effects (round_in st) st.beside.setup) (sym idle_state)
+      (may_now (now h.takes)))
 
-    idle_state : idle_ticks k who (store_of st) (subsystem_of codes osek)
-        ≡ state_after c s (less).world (left_of (less).world r)
-    idle_state =
-        ticks_as (owner_left (subsystem_of codes osek) (Some who)) (sym left_there) (omega (arith, idle_works, some))
+  module _ (vars : List ℤ) (cursors : List ℕ)
+      (vars_are : vars ≡ (idle_ticks k who (store_of st) (subsystem_of codes osek)).vars)
+      (cursors_are : cursors ≡ (idle_ticks k who (store_of st) (subsystem_of codes osek)).cursors) (taken : Taken)
+      (round : Round) (osek1 : Osek)
+      (gave : GaveIdle (task_body codes (setup_of osek)) st.world.tick who
+      (idle_ticks k who (store_of st) (subsystem_of codes osek)) (round_in st)
+      (subsystem_of codes osek) taken round (subsystem_of codes osek1)) where
+    abbrev after : State
+    after = state_after c s (less h.takes).world (left_of (less h.takes).world r)
 
-    -- it may make the call of its last tick
-    pub idle_may : MayDo st.world.tick who (idle_ticks k who (store_of st) (subsystem_of codes osek)).effects
-        (round_in st) (setup_of osek)
-    idle_may =
-        subst (λ (x : Setup). MayDo st.world.tick who (idle_ticks k who (store_of st) (subsystem_of codes osek)).effects
-        (round_in st) x) (sym setup_same)
-        (subst (λ (x : State). MayDo st.world.tick who x.effects (round_in st) st.beside.setup) (sym idle_state)
-        (may_now c s less r who can_less runs_less owns_less))
+    abbrev body : ℕ → List Stmt
+    body = task_body st.beside.codes st.beside.setup
 
-    module _ (vars : List ℤ) (cursors : List ℕ)
-        (vars_are : vars ≡ (idle_ticks k who (store_of st) (subsystem_of codes osek)).vars)
-        (cursors_are : cursors ≡ (idle_ticks k who (store_of st) (subsystem_of codes osek)).cursors) (taken : Taken)
-        (round : Round) (osek1 : Osek)
-        (gave : GaveIdle (task_body codes (setup_of osek)) st.world.tick who
+    gave_here : GaveIdle body st.world.tick who after (round_in st) here taken round
+        (subsystem_of st.beside.codes osek1)
+    gave_here =
+        subst (λ (x : State). GaveIdle body st.world.tick who x (round_in st) here taken round
+        (subsystem_of st.beside.codes osek1))
+        (ap (λ (x : List (List Stmt)). idle_ticks k who (store_of st) (subsystem_of x osek)) (sym h.codes_is)
+        ∙ idle_state)
+        (subst (λ (x : List (List Stmt)). GaveIdle (task_body x st.beside.setup) st.world.tick who
+        (idle_ticks k who (store_of st) (subsystem_of x osek)) (round_in st)
+        (subsystem_of x osek) taken round (subsystem_of x osek1)) h.codes_is
+        (subst (λ (x : Setup). GaveIdle (task_body codes x) st.world.tick who
         (idle_ticks k who (store_of st) (subsystem_of codes osek)) (round_in st)
-        (subsystem_of codes osek) taken round (subsystem_of codes osek1)) where
-      abbrev after : State
-      after = state_after c s (less).world (left_of (less).world r)
+        (subsystem_of codes osek) taken round (subsystem_of codes osek1)) h.setup_same gave))
 
-      abbrev body : ℕ → List Stmt
-      body = task_body st.beside.codes st.beside.setup
+    gave_less : GaveIdle body st.world.tick who after (round_in st) (less_sub (k - 1) who here) taken round
+        (subsystem_of st.beside.codes osek1)
+    gave_less =
+        let then_same = sym (leave_less (k - 1) who here (after).left) in
+        record {
+          did = gave_here.did ∙ ap (λ (x : Subsystem). (effected body st.world.tick who (after).effects
+              (round_in st) x).did) then_same;
+          ended = gave_here.ended ∙ ap (λ (x : Subsystem). (effected body st.world.tick who (after).effects
+              (round_in st) x).ends || is_done (after).left) then_same;
+          round_is = gave_here.round_is ∙ ap (λ (x : Subsystem). (effected body st.world.tick who (after).effects
+              (round_in st) x).round) then_same;
+          tasks = gave_here.tasks ∙ ap (λ (x : Subsystem). lefts (effected body st.world.tick who (after).effects
+              (round_in st) x).subsystem.tasks) then_same;
+          routines = gave_here.routines ∙ ap (λ (x : Subsystem). lefts (effected body st.world.tick who
+              (after).effects (round_in st) x).subsystem.routines) then_same;
+        }
 
-      gave_here : GaveIdle body st.world.tick who after (round_in st) here taken round
-          (subsystem_of st.beside.codes osek1)
-      gave_here =
-          subst (λ (x : State). GaveIdle body st.world.tick who x (round_in st) here taken round
-          (subsystem_of st.beside.codes osek1))
-          (ap (λ (x : List (List Stmt)). idle_ticks k who (store_of st) (subsystem_of x osek)) (sym codes_is)
-          ∙ idle_state)
-          (subst (λ (x : List (List Stmt)). GaveIdle (task_body x st.beside.setup) st.world.tick who
-          (idle_ticks k who (store_of st) (subsystem_of x osek)) (round_in st)
-          (subsystem_of x osek) taken round (subsystem_of x osek1)) codes_is
-          (subst (λ (x : Setup). GaveIdle (task_body codes x) st.world.tick who
-          (idle_ticks k who (store_of st) (subsystem_of codes osek)) (round_in st)
-          (subsystem_of codes osek) taken round (subsystem_of codes osek1)) setup_same gave))
-
-      gave_less : GaveIdle body st.world.tick who after (round_in st) (less_sub (k - 1) who here) taken round
-          (subsystem_of st.beside.codes osek1)
-      gave_less =
-          let then_same = sym (leave_less (k - 1) who here (after).left) in
-          record {
-            did = gave_here.did ∙ ap (λ (x : Subsystem). (effected body st.world.tick who (after).effects
-                (round_in st) x).did) then_same;
-            ended = gave_here.ended ∙ ap (λ (x : Subsystem). (effected body st.world.tick who (after).effects
-                (round_in st) x).ends || is_done (after).left) then_same;
-            round_is = gave_here.round_is ∙ ap (λ (x : Subsystem). (effected body st.world.tick who (after).effects
-                (round_in st) x).round) then_same;
-            tasks = gave_here.tasks ∙ ap (λ (x : Subsystem). lefts (effected body st.world.tick who (after).effects
-                (round_in st) x).subsystem.tasks) then_same;
-            routines = gave_here.routines ∙ ap (λ (x : Subsystem). lefts (effected body st.world.tick who
-                (after).effects (round_in st) x).subsystem.routines) then_same;
-          }
-
-      -- the last tick is the one of the definition
-      pub idle_took_all : Took c s r (lessened (k - 1) r st.world) taken
-          (built (served (record st.world { vars = vars; cursors = cursors }) round.wanted round.pending
-          round.times_used
-          (lefts (subsystem_of st.beside.codes osek1).tasks)) round st.world.jobs st.world.isrs
-          (lefts (subsystem_of st.beside.codes osek1).routines))
-      idle_took_all =
-          let sub1 = subsystem_of st.beside.codes osek1 in
-          let mid : World = served (record st.world { vars = vars; cursors = cursors }) round.wanted round.pending
-          round.times_used (lefts sub1.tasks) in
-          subst (λ (w : World). Took c s r w taken (built mid round st.world.jobs st.world.isrs (lefts sub1.routines)))
-          (sym same)
-          (subst (λ (isrs : List (List Stmt)). Took c s r (less_world (k - 1) r st.world) taken
-          (built mid round st.world.jobs isrs (lefts sub1.routines))) (less_isrs (k - 1) r st.world on)
-          (subst (λ (jobs : List Job). Took c s r (less_world (k - 1) r st.world) taken
-          (built mid round jobs (lessened (k - 1) r st.world).isrs (lefts sub1.routines)))
-          (less_jobs (k - 1) r st.world on)
-          (idle_took c s less r who can_less runs_less owns_less on (less_sub (k - 1) who here)
-          (less_tasks c st.world here r who on owns left_here (k - 1) tasks)
-          (less_routines c st.world here r who on owns left_here (k - 1) routines)
-          (less_settled (k - 1) who here
-          (subst (λ (left : List Stmt). suc (k - 1) ≤ max 1 (work_in_front left)) left_here
-          (omega (arith, idle_works, some))) settled)
-          vars cursors (vars_are ∙ ap (λ (x : State). x.vars) idle_state)
-          (cursors_are ∙ ap (λ (x : State). x.cursors) idle_state) taken round sub1 gave_less)))
+    -- the last tick is the one of the definition
+    pub idle_took_all : Took c s r (lessened (k - 1) r st.world) taken
+        (built (served (record st.world { vars = vars; cursors = cursors }) round.wanted round.pending
+        round.times_used
+        (lefts (subsystem_of st.beside.codes osek1).tasks)) round st.world.jobs st.world.isrs
+        (lefts (subsystem_of st.beside.codes osek1).routines))
+    idle_took_all =
+        let sub1 = subsystem_of st.beside.codes osek1 in
+        let mid : World = served (record st.world { vars = vars; cursors = cursors }) round.wanted round.pending
+        round.times_used (lefts sub1.tasks) in
+        let alone = less_idle (k - 1) r st.world h.idle in
+        let left_less = less_lefts c st.world here r who h.idle h.takes.owns left_here (k - 1) h.left in
+        subst (λ (w : World). Took c s r w taken (built mid round st.world.jobs st.world.isrs (lefts sub1.routines)))
+        (sym (same h.takes))
+        (subst (λ (w : World). Took c s r (less_world (k - 1) r st.world) taken
+        (built mid round w.jobs w.isrs (lefts sub1.routines))) alone
+        (idle_took (now h.takes) h.idle (less_sub (k - 1) who here)
+        (record { tasks = left_less.tasks; routines = left_less.routines })
+        (less_settled (k - 1) who here
+        (subst (λ (left : List Stmt). suc (k - 1) ≤ max 1 (work_in_front left)) left_here
+        (let some = h.takes.some in omega (arith, idle_works, some))) h.settled)
+        vars cursors (vars_are ∙ ap (λ (x : State). x.vars) idle_state)
+        (cursors_are ∙ ap (λ (x : State). x.cursors) idle_state) taken round sub1 gave_less))

@@ -9,7 +9,8 @@ use Rattle.tt_io.specs.Count.{counted}
 use Rattle.tt_io.proofs.Taking.{counted_more}
 use Rattle.trace_text.specs.declared.recorder.Recorder.{Ghosts}
 use Rattle.trace_text.specs.Records.{CutWithin}
-use Rattle.tt_world.specs.Moved.{IsTelling}
+use Rattle.tt_world.specs.Moved.{Gives, IsTelling, Moved, Outcome}
+use Rattle.tt_world.specs.World.{World}
 use Rattle.trace_text.proofs.Recording.{folds_append, cut_before, rose_later}
 use Rattle.tt_world.specs.Load.{activations_in, is_activation}
 use Rattle.stack_dispatch.specs.Told.{Logged, Keeps, ByFailed, Tells}
@@ -86,6 +87,11 @@ module _ {S : Type 0} (r : Ghosts S) where
 
   pub telling : IsTelling (Tells r)
   telling = record { none = tells_none; both = tells_both }
+
+-- an outcome that is known
+pub outcome_is : {L : Type 0} {Told : L → List Event → L → Type 0} {a b : L} {v : World} {end last : Outcome} {m : Moved}
+    → Gives Told a b v end m → end ≡ last → Gives Told a b v last m
+outcome_is {Told = Told} {a} {b} {v} {m = m} g is = subst (λ o. Gives Told a b v o m) is g
 
 -- ---- events of which some were reported
 

@@ -1,7 +1,7 @@
 -- The tick of the one who runs, as the code takes it: on the stack or in idle time, and then what follows from its
 -- effect.
 use Rattle.std.proofs.Common.{ℕ, ◌≡◌, ◌≢◌, ◌-◌, ◌≤◌, ◌<◌, List, [], ◌∷◌, true, false, Bool, refl, ap, sym, ◌∙◌, None, Some, subst, arith, length, ◌⊎◌, inl, inr, ⊎_elim}
-use Rattle.std.specs.Prelude.{ℤ, ◌||◌, ◌==◌, Option, option_map, if◌then◌else◌}
+use Rattle.std.specs.Prelude.{ℤ, ◌||◌, Option, option_map, if◌then◌else◌}
 use Rattle.std.proofs.lemmas.Bool.{cond_both, cases_Bool, ltb-true}
 use Rattle.task_lang.specs.Tick.{supply_of}
 use Rattle.task_lang.specs.Limits.{names_below}
@@ -29,16 +29,16 @@ use Rattle.tt_world.proofs.Calling.{EffectsAllowed, effects_allowed}
 use Rattle.tt_world.proofs.Keeps.{AfterService, service_answers}
 use Rattle.tt_world.proofs.Modes.{EffectsNamed, effects_named}
 use Rattle.tt_world.proofs.WhoRuns.{highest_undone, last_found_at}
-use Rattle.round_end.specs.Round.{Round, next_time}
-use Rattle.round_end.specs.Round.{synced as synced_round}
-use Rattle.osek_idle.specs.Subsystem.{Subsystem, Setup, is_ready, lefts, readied, suspended, activated, chained, result_of, chain_result}
+use Rattle.round_end.specs.Round.{Round}
+use Rattle.osek_idle.specs.Subsystem.{Subsystem, Setup, lefts}
 use Rattle.tt_services.specs.Agreement.{RunsAs, IsCall, Agrees}
-use Rattle.tt_services.specs.Performed.{Performed, performed, MayCall, IsOsek, caller_of}
+use Rattle.tt_services.specs.Performed.{performed, MayCall, IsOsek}
 use Rattle.tt_services.proofs.Agreeing.{agree}
 use Rattle.stack_dispatch.specs.declared.took.Did.TheVariants as did
 use Rattle.stack_dispatch.specs.declared.took.Taken.{Taken}
 use Rattle.stack_dispatch.specs.Effects.{effected, MayDo}
 use Rattle.stack_dispatch.specs.Ticking.{IsInIdleTime, GaveAnswer, TookBy}
+use Rattle.stack_dispatch.proofs.Performing.{effect_makes, ends_task}
 
 -- ---- the one who runs has something left
 
@@ -73,9 +73,7 @@ not_empty left e none = let both : true ≡ false = sym (ap is_done none) ∙ e 
 some_idle : (w : World) (r : Runner) → IsInIdleTime r → HasSome w r → left_of w r ≢ []
 some_idle w (runner.Oisr i) on h = not_empty _ h
 some_idle w (runner.Osek i) on h = not_empty _ h
-some_idle w (runner.Isr i) on h = absurd on
-some_idle w (runner.Job i) on h = absurd on
-some_idle w runner.Nobody on h = absurd on
+some_idle w r on h = absurd on
 
 -- one who runs in idle time has something left
 pub idle_some : (c : ConfigParts) (w : World) (r : Runner) → r ≡ runner_of c w → IsInIdleTime r → left_of w r ≢ []
@@ -86,10 +84,7 @@ idle_some c w r e on = some_idle w r on (has_some c w r e)
 osek_column : (c : ConfigParts) (w : World) (r : Runner) → column (kind_of r) false false true false false ≡ true
     → IsOsek (owner_of c w r)
 osek_column c w (runner.Osek t) e = tt
-osek_column c w (runner.Isr i) e = cc
-osek_column c w (runner.Job p) e = cc
-osek_column c w (runner.Oisr i) e = cc
-osek_column c w runner.Nobody e = cc
+osek_column c w r e = cc
 
 module _ (c : ConfigParts) (w : World) (r : Runner) (round : Round) (setup : Setup) (started : round.start ≤ w.tick)
     (modes : round.modes ≡ length c.modes) (tasks : length setup.tasks ≡ length c.oseks) where
@@ -97,11 +92,11 @@ module _ (c : ConfigParts) (w : World) (r : Runner) (round : Round) (setup : Set
       → MayCall w.tick (owner_of c w r) k round setup
   may_call_of (call.Switch mode) allowed named = let l = ltb-true mode.0 (length c.modes) named in omega arith
   may_call_of call.Sync allowed named = started
-  may_call_of call.Shutdown allowed named = tt
   may_call_of (call.Activate task) allowed named = let l = ltb-true task.0 (length c.oseks) named in omega arith
   may_call_of (call.Chain task) allowed named =
       (osek_column c w r allowed, let l = ltb-true task.0 (length c.oseks) named in omega arith)
   may_call_of call.Terminate allowed named = osek_column c w r allowed
+  may_call_of k allowed named = tt
 
   may_do_of : (s : ScriptParts) (rules : IsConfig c) (es : List Effect) → EffectsAllowed (kind_of r) es
       → EffectsNamed c s rules es
@@ -130,9 +125,7 @@ service_stays : (c : ConfigParts) (s : ScriptParts) (r : Runner) (k : Call) (lef
     → (service c s r k left w).ends ≡ false
     → (service c s r k left w).left ≡ left
 unfolding service
-service_stays c s r (call.Switch mode) left w e = refl
 service_stays c s r call.Sync left w e = synced_stays c _ w left
-service_stays c s r call.Shutdown left w e = refl
 service_stays c s r (call.Activate task) left w e =
     cond_both (is_suspended w task) (answers 0 (ready c task w) left) (answers 4 w left)
     (λ (a : Answer). a.left ≡ left) (λ _. refl) (λ _. refl)
@@ -144,6 +137,7 @@ service_stays c s r (call.Chain task) left w e =
     (λ (a : Answer). a.ends ≡ false → a.left ≡ left)
     (λ _ f. cc) (λ _ f. refl)) e
 service_stays c s r call.Terminate left w e = cc
+service_stays c s r k left w e = refl
 
 -- an OSEK task, as the one who runs
 abbrev IsTask : Runner → Type 0
@@ -152,27 +146,8 @@ IsTask _ = ⊥
 
 runs_task : (sub : Subsystem) (r : Runner) (who : Owner) → RunsAs sub r who → IsOsek who → IsTask r
 runs_task sub (runner.Osek p) who runs is = tt
-runs_task sub (runner.Isr i) (owner.Osek q) runs is = absurd runs
-runs_task sub (runner.Job i) (owner.Osek q) runs is = absurd runs
-runs_task sub (runner.Oisr i) (owner.Osek q) runs is = absurd runs
-runs_task sub runner.Nobody (owner.Osek q) runs is = absurd runs
-runs_task sub r (owner.Task i) runs is = absurd is
-runs_task sub r (owner.Isr i) runs is = absurd is
-runs_task sub r (owner.Oisr i) runs is = absurd is
-runs_task sub r owner.ErrorHook runs is = absurd is
-runs_task sub r owner.ShutdownHook runs is = absurd is
-runs_task sub r owner.Idle runs is = absurd is
-
--- only an OSEK task ends by a call
-pub ends_osek : (body : ℕ → List Stmt) (now : ℕ) (who : Owner) (k : Call) (r : Round) (sub : Subsystem)
-    (setup : Setup) → MayCall now who k r setup
-    → (performed body now who k r sub).ends ≡ true → IsOsek who
-ends_osek body now who (call.Switch mode) r sub setup may e = cc
-ends_osek body now who call.Sync r sub setup may e = cc
-ends_osek body now who call.Shutdown r sub setup may e = cc
-ends_osek body now who (call.Activate task) r sub setup may e = cc
-ends_osek body now who (call.Chain task) r sub setup may e = may.0
-ends_osek body now who call.Terminate r sub setup may e = may
+runs_task sub r (owner.Osek q) runs is = absurd runs
+runs_task sub r who runs is = absurd is
 
 -- ---- the world after a tick
 
@@ -182,9 +157,7 @@ served w wanted pending used oseks = record w { wanted = wanted; pending = pendi
 
 same_served : (w : World) (a b : ModeNo) (d e : ℤ) (f g : ℕ) (x y : List (List Stmt)) → a ≡ b → d ≡ e → f ≡ g → x ≡ y
     → served w a d f x ≡ served w b e g y
-same_served w a b d e f g x y ab de fg xy =
-    ap (λ (z : ModeNo). served w z d f x) ab ∙ ap (λ (z : ℤ). served w b z f x) de ∙ ap (λ (z : ℕ). served w b e z x) fg
-    ∙ ap (λ (z : List (List Stmt)). served w b e g z) xy
+same_served w a b d e f g x y ab de fg xy = rw (ab, de, fg, xy) refl
 
 left_served : (r : Runner) (w : World) (left after : List Stmt) (wanted : ModeNo) (pending : ℤ) (used : ℕ)
     (oseks : List (List Stmt))
@@ -192,16 +165,10 @@ left_served : (r : Runner) (w : World) (left after : List Stmt) (wanted : ModeNo
     → leaving (served w wanted pending used oseks) r after
     ≡ served (leaving w r left) wanted pending used (leaving (served w wanted pending used oseks) r after).oseks
 left_served (runner.Osek i) w left after wanted pending used oseks h = refl
-left_served runner.Nobody w left after wanted pending used oseks h = refl
-left_served (runner.Isr i) w left after wanted pending used oseks (inl h) = absurd h
-left_served (runner.Isr i) w left after wanted pending used oseks (inr e) =
-    ap (λ (l : List Stmt). served (leaving w (runner.Isr i) l) wanted pending used oseks) e
-left_served (runner.Job i) w left after wanted pending used oseks (inl h) = absurd h
-left_served (runner.Job i) w left after wanted pending used oseks (inr e) =
-    ap (λ (l : List Stmt). served (leaving w (runner.Job i) l) wanted pending used oseks) e
-left_served (runner.Oisr i) w left after wanted pending used oseks (inl h) = absurd h
-left_served (runner.Oisr i) w left after wanted pending used oseks (inr e) =
-    ap (λ (l : List Stmt). served (leaving w (runner.Oisr i) l) wanted pending used oseks) e
+left_served r w left after wanted pending used oseks (inl h) = absurd h
+left_served runner.Nobody w left after wanted pending used oseks (inr e) = refl
+left_served r w left after wanted pending used oseks (inr e) =
+    ap (λ (l : List Stmt). served (leaving w r l) wanted pending used oseks) e
 
 answer_served : (c : ConfigParts) (r : Runner) (w v : World) (left after : List Stmt) → AfterService c w v
     → IsTask r ⊎ (after ≡ left)
@@ -214,10 +181,7 @@ answer_served c r w v left after a h =
 none_served : (r : Runner) (w : World) (left : List Stmt)
     → leaving w r left ≡ served (leaving w r left) w.wanted w.pending w.times_used (leaving w r left).oseks
 none_served (runner.Osek i) w left = refl
-none_served (runner.Isr i) w left = refl
-none_served (runner.Job i) w left = refl
-none_served (runner.Oisr i) w left = refl
-none_served runner.Nobody w left = refl
+none_served r w left = refl
 
 ended_same : (ends : Bool) (left after : List Stmt) → (ends ≡ false → after ≡ left)
     → (ends || is_done left) ≡ (ends || is_done after)
@@ -232,24 +196,11 @@ module _ (c : ConfigParts) (s : ScriptParts) (r : Runner) (who : Owner) (w : Wor
   performed_same : (k : Call) → MayCall w.tick who k round setup
       → performed (λ (n : ℕ). osek_body c (record { 0 = n })) w.tick who k round sub ≡ performed body w.tick who k
       round sub
-  performed_same (call.Switch mode) may = refl
-  performed_same call.Sync may = refl
-  performed_same call.Shutdown may = refl
   performed_same (call.Activate task) may =
-      ap (λ (b : List Stmt). let p : Performed = record {
-        result = result_of (is_ready sub.tasks task.0);
-        round = round;
-        subsystem = activated b task.0 sub;
-        ends = false;
-      } in p) (sym (bodies task may))
+      ap (λ (b : List Stmt). performed (λ _. b) w.tick who (call.Activate task) round sub) (sym (bodies task may))
   performed_same (call.Chain task) may =
-      ap (λ (b : List Stmt). let p : Performed = record {
-        result = chain_result (caller_of who) task.0 sub;
-        round = round;
-        subsystem = chained b (caller_of who) task.0 sub;
-        ends = chain_result (caller_of who) task.0 sub == 0;
-      } in p) (sym (bodies task may.1))
-  performed_same call.Terminate may = refl
+      ap (λ (b : List Stmt). performed (λ _. b) w.tick who (call.Chain task) round sub) (sym (bodies task may.1))
+  performed_same k may = refl
 
   nothing_after : (now : World) → now ≡ served (leaving w r left) round.wanted round.pending round.times_used
       (lefts sub.tasks)
@@ -266,7 +217,8 @@ module _ (c : ConfigParts) (s : ScriptParts) (r : Runner) (who : Owner) (w : Wor
     task_or_same : IsTask r ⊎ ((service c s r k left w).left ≡ left)
     task_or_same =
         ⊎_elim (λ (e : (service c s r k left w).ends ≡ true).
-        inl (runs_task sub r who h.runs (ends_osek body w.tick who k round sub setup may (sym agrees.ends ∙ e))))
+        inl (runs_task sub r who h.runs
+        (ends_task (effect_makes body w.tick round setup sub who (effect.Service k ∷ []) may) (sym agrees.ends ∙ e))))
         (λ (e : (service c s r k left w).ends ≡ false). inr (service_stays c s r k left w e))
         (cases_Bool (service c s r k left w).ends)
 
@@ -305,54 +257,6 @@ module _ (c : ConfigParts) (s : ScriptParts) (r : Runner) (who : Owner) (w : Wor
   took_by (effect.Service k ∷ rest) taken now may did_is ended_is now_is = called_by k may taken now did_is ended_is
       now_is
 
--- ---- what an effect keeps
-
-module _ (body : ℕ → List Stmt) (now : ℕ) (who : Owner) (round : Round) (sub : Subsystem) where
-  -- of the round it changes at most the wanted mode, the pending correction and the global times
-  abbrev KeepsRound : Round → Type 0
-  KeepsRound x = x ≡ record round { wanted = x.wanted; pending = x.pending; times_used = x.times_used }
-
-  synced_keeps : (global : Option ℕ) → KeepsRound (synced_round now global round)
-  synced_keeps None = refl
-  synced_keeps (Some global) = refl
-
-  -- so does each effect
-  pub round_kept : (es : List Effect) → (effected body now who es round sub).round
-      ≡ record round {
-        wanted = (effected body now who es round sub).round.wanted;
-        pending = (effected body now who es round sub).round.pending;
-        times_used = (effected body now who es round sub).round.times_used;
-      }
-  round_kept [] = refl
-  round_kept (effect.Out value ∷ rest) = refl
-  round_kept (effect.Service (call.Switch mode) ∷ rest) = refl
-  round_kept (effect.Service call.Sync ∷ rest) = synced_keeps (next_time round)
-  round_kept (effect.Service call.Shutdown ∷ rest) = refl
-  round_kept (effect.Service (call.Activate task) ∷ rest) = refl
-  round_kept (effect.Service (call.Chain task) ∷ rest) = refl
-  round_kept (effect.Service call.Terminate ∷ rest) = refl
-
-  chain_keeps : (same found : Bool) (b : List Stmt) (p t : ℕ)
-      → (if same then readied b t sub else (if found then sub else suspended p (readied b t sub))).routines
-      ≡ sub.routines
-  chain_keeps true found b p t = refl
-  chain_keeps false true b p t = refl
-  chain_keeps false false b p t = refl
-
-  -- it keeps the routines
-  pub routines_kept : (es : List Effect) → (effected body now who es round sub).subsystem.routines ≡ sub.routines
-  routines_kept [] = refl
-  routines_kept (effect.Out value ∷ rest) = refl
-  routines_kept (effect.Service (call.Switch mode) ∷ rest) = refl
-  routines_kept (effect.Service call.Sync ∷ rest) = refl
-  routines_kept (effect.Service call.Shutdown ∷ rest) = refl
-  routines_kept (effect.Service (call.Activate task) ∷ rest) =
-      cond_both (is_ready sub.tasks task.0) sub (readied (body task.0) task.0 sub)
-      (λ (x : Subsystem). x.routines ≡ sub.routines) (λ _. refl) (λ _. refl)
-  routines_kept (effect.Service (call.Chain task) ∷ rest) =
-      chain_keeps (caller_of who == task.0) (is_ready sub.tasks task.0) (body task.0) (caller_of who) task.0
-  routines_kept (effect.Service call.Terminate ∷ rest) = refl
-
 -- ---- the parts of a world
 
 -- the world with these parts of the round, and with this left of the activations and routines
@@ -375,31 +279,11 @@ pub built_is : (w : World) (vars : List ℤ) (cursors : List ℕ) (r : Runner) (
     → built (served (record w { vars = vars; cursors = cursors }) x.wanted x.pending x.times_used oseks) x jobs isrs
     oisrs
     ≡ served (leaving (record w { vars = vars; cursors = cursors }) r left) x.wanted x.pending x.times_used oseks
-built_is w vars cursors r left x oseks isrs oisrs jobs a b d e f g h =
-    let v : World = served (record w { vars = vars; cursors = cursors }) x.wanted x.pending x.times_used oseks in
-    ap (λ z. record v {
-      start = z;
-      number = x.number;
-      mode = x.mode;
-      latched = x.latched;
-      jobs = jobs;
-      isrs = isrs;
-      oisrs = oisrs;
-    }) a
-    ∙ ap (λ z. record v { number = z; mode = x.mode; latched = x.latched; jobs = jobs; isrs = isrs; oisrs = oisrs }) b
-    ∙ ap (λ z. record v { mode = z; latched = x.latched; jobs = jobs; isrs = isrs; oisrs = oisrs }) d
-    ∙ ap (λ z. record v { latched = z; jobs = jobs; isrs = isrs; oisrs = oisrs }) e
-    ∙ ap (λ z. record v { jobs = z; isrs = isrs; oisrs = oisrs }) f
-    ∙ ap (λ z. record v { jobs = (leaving w r left).jobs; isrs = z; oisrs = oisrs }) g
-    ∙ ap (λ z. record v { jobs = (leaving w r left).jobs; isrs = (leaving w r left).isrs; oisrs = z }) h
-    ∙ whole r
+built_is w vars cursors r left x oseks isrs oisrs jobs a b d e f g h = rw (a, b, d, e, f, g, h) (whole r)
   where
     whole : (q : Runner)
         → (let v : World = served (record w { vars = vars; cursors = cursors }) x.wanted x.pending x.times_used oseks in
         record v { jobs = (leaving w q left).jobs; isrs = (leaving w q left).isrs; oisrs = (leaving w q left).oisrs })
         ≡ served (leaving (record w { vars = vars; cursors = cursors }) q left) x.wanted x.pending x.times_used oseks
-    whole (runner.Osek i) = refl
-    whole (runner.Isr i) = refl
-    whole (runner.Job i) = refl
-    whole (runner.Oisr i) = refl
     whole runner.Nobody = refl
+    whole q = refl

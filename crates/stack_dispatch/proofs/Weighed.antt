@@ -1,5 +1,5 @@
 -- The words of stack of a state, and the mode of its stack.
-use Rattle.std.proofs.Common.{ℕ, suc, ◌≡◌, ◌<◌, List, [], ◌∷◌, cond, Option, None, Some, refl, ap, ◌∙◌, arith, length, get_or}
+use Rattle.std.proofs.Common.{ℕ, suc, ◌≡◌, ◌<◌, List, [], ◌∷◌, cond, Some, refl, ap, ◌∙◌, arith, length, get_or}
 use Rattle.std.specs.Prelude.{slice_index_or, sum_by}
 use Rattle.std.proofs.Math.ListN.{get_or-map}
 use Rattle.std.proofs.lemmas.List.{get_or-map as get_or-map_within}
@@ -7,9 +7,6 @@ use Rattle.std.proofs.lemmas.List.Sums.{sum_by-cons}
 use Rattle.task_lang.specs.declared.syntax.Stmt.{Stmt}
 use Rattle.task_lang.specs.Tick.{State}
 use Rattle.task_lang.specs.declared.tick.Effect.{Effect}
-use Rattle.task_lang.specs.declared.tick.Effect.TheVariants as effect
-use Rattle.tt_base.specs.declared.event.Call.{Call}
-use Rattle.tt_base.specs.declared.event.Call.TheVariants as call
 use Rattle.tt_base.specs.declared.event.Owner.{Owner}
 use Rattle.tt_base.specs.declared.number.ModeNo.{ModeNo}
 use Rattle.tt_world.specs.declared.config.ConfigParts.{ConfigParts}
@@ -19,15 +16,15 @@ use Rattle.tt_world.specs.declared.world.Runner.TheVariants as runner
 use Rattle.tt_world.specs.Load.{isr_words, job_words, words_of}
 use Rattle.tt_world.specs.Rows.{mode_of, no_isr, no_mode, no_row, row_of}
 use Rattle.tt_world.specs.Runners.{is_done, job_at, no_job, unfinished}
-use Rattle.round_end.specs.Round.{Round, next_time, synced}
+use Rattle.round_end.specs.Round.{Round}
 use Rattle.osek_idle.specs.Subsystem.{Subsystem, owner_leaving}
-use Rattle.tt_services.specs.Performed.{performed}
 use Rattle.tt_stack.specs.Stacked.{Stacked, job_words as stacked_words, leaving_in, left_in, running, words_in}
 use Rattle.tt_stack.specs.Words.{entry_words, mode_words, routine_words, row_words}
 use Rattle.stack_dispatch.specs.declared.took.Taken.{Taken}
 use Rattle.stack_dispatch.specs.Effects.{GaveIdle, effected}
 use Rattle.stack_dispatch.specs.Served.{IsWeighed}
 use Rattle.stack_dispatch.specs.State.{RunState}
+use Rattle.stack_dispatch.proofs.Performing.{round_kept}
 use Rattle.stack_dispatch.proofs.WhoRuns.{stack_of, words_beside}
 
 -- ---- the mode of the stack
@@ -49,35 +46,17 @@ with_mode stack next mode is others =
 leaving_mode : (stack : Stacked) (r : Runner) (left : List Stmt)
     → (leaving_in stack r left).words.mode ≡ stack.words.mode
 leaving_mode stack (runner.Isr i) left = refl
-leaving_mode stack (runner.Job p) left = refl
-leaving_mode stack (runner.Oisr i) left = refl
-leaving_mode stack (runner.Osek t) left = refl
-leaving_mode stack runner.Nobody left = refl
+leaving_mode stack r left = refl
 
 -- the mode of a stack stays where one moves or ends
 pub mode_stays : (stack next : Stacked) (r : Runner) (left : List Stmt) → next ≡ leaving_in stack r left
     → next.words.mode ≡ stack.words.mode
 mode_stays stack next r left is = ap (λ (s : Stacked). s.words.mode) is ∙ leaving_mode stack r left
 
-synced_mode : (now : ℕ) (global : Option ℕ) (r : Round) → (synced now global r).mode ≡ r.mode
-synced_mode now None r = refl
-synced_mode now (Some global) r = refl
-
-performed_mode : (body : ℕ → List Stmt) (now : ℕ) (who : Owner) (c : Call) (r : Round) (s : Subsystem)
-    → (performed body now who c r s).round.mode ≡ r.mode
-performed_mode body now who (call.Switch mode) r s = refl
-performed_mode body now who call.Sync r s = synced_mode now (next_time r) r
-performed_mode body now who call.Shutdown r s = refl
-performed_mode body now who (call.Activate task) r s = refl
-performed_mode body now who (call.Chain task) r s = refl
-performed_mode body now who call.Terminate r s = refl
-
 -- the mode of the round stays whatever a tick does
 pub effected_mode : (body : ℕ → List Stmt) (now : ℕ) (who : Owner) (es : List Effect) (r : Round) (s : Subsystem)
     → (effected body now who es r s).round.mode ≡ r.mode
-effected_mode body now who [] r s = refl
-effected_mode body now who (effect.Out value ∷ rest) r s = refl
-effected_mode body now who (effect.Service c ∷ rest) r s = performed_mode body now who c r s
+effected_mode body now who es r s = ap (λ (x : Round). x.mode) (round_kept body now who r s es)
 
 -- the mode of the round stays in the ticks of an owner in idle time
 pub gave_mode : {body : ℕ → List Stmt} {now : ℕ} {who : Owner} {left : State} {r round : Round} {s after : Subsystem}

@@ -32,6 +32,11 @@ stack_of st = record {
   isrs = st.world.isrs;
 }
 
+-- what is left of the OSEK tasks and routines of a world is what is left of those of a subsystem
+pub record HasLefts (w : World) (sub : Subsystem) : Type 0 where
+  pub tasks : w.oseks ≡ lefts sub.tasks
+  pub routines : w.oisrs ≡ lefts sub.routines
+
 -- ---- the first of four
 
 first_some : (i t o k : Option Runner) (r : Runner) → first_of i t ≡ Some r → r ≡ first_runner (i ∷ t ∷ o ∷ k ∷ [])
@@ -94,12 +99,11 @@ module _ (c : ConfigParts) (s : ScriptParts) (st : RunState) (kept : IsFor c s s
       (osek_runner c st.world) r (sym two_are ∙ e)
 
   -- the subsystem is that of the world
-  pub is_of : (setup : Setup) (sub : Subsystem) → st.world.oseks ≡ lefts sub.tasks
-      → st.world.oisrs ≡ lefts sub.routines → st.beside.setup ≡ setup
-      → IsSettled sub → IsOf c st.world setup sub
-  is_of setup sub tasks routines same settled = record {
-    tasks = tasks;
-    routines = routines;
+  pub is_of : (setup : Setup) (sub : Subsystem) → HasLefts st.world sub → st.beside.setup ≡ setup → IsSettled sub
+      → IsOf c st.world setup sub
+  is_of setup sub left same settled = record {
+    tasks = left.tasks;
+    routines = left.routines;
     task_priorities = ap (λ (x : Setup). x.tasks) (sym same ∙ ap (λ (f : Fixed). f.setup) kept);
     routine_priorities = ap (λ (x : Setup). x.routines) (sym same ∙ ap (λ (f : Fixed). f.setup) kept);
     settled = settled;

@@ -42,54 +42,32 @@ pass-passed-requires-clause-can g c =
 
 pub returns-in-Some-clause-same_recorder : goal.returns-in-Some-clause-same_recorder
 returns-in-Some-clause-same_recorder g c =
-    (told_next (telling g.R.Recorder) c.args.config.now c.args.script.now c.args.log.now c.instants.state.world
-    c.pass-passed.new.self.world _ c.instants.log c.pass-passed.new.log _ c.instants.invariant.at
-    c.pass-passed.ensures.passes).same_recorder
+    (told_next (telling g.R.Recorder) c.instants.invariant.at c.pass-passed.ensures.passes).same_recorder
 
 pub returns-then-failed-clause-same_recorder : goal.returns-then-failed-clause-same_recorder
 returns-then-failed-clause-same_recorder g c =
-    (told_next (telling g.R.Recorder) c.args.config.now c.args.script.now c.args.log.now c.instants.state.world
-    c.pass-passed.new.self.world _ c.instants.log c.pass-passed.new.log _ c.instants.invariant.at
-    c.pass-passed.ensures.passes).same_recorder
+    (told_next (telling g.R.Recorder) c.instants.invariant.at c.pass-passed.ensures.passes).same_recorder
 
 pub returns-in-Some-clause-ran : goal.returns-in-Some-clause-ran
 returns-in-Some-clause-ran g c =
     let bounded = are_bounded c.args.config.now c.args.script.now c.requires.config c.requires.script in
     record {
-      told = all_told (telling g.R.Recorder) c.args.config.now c.args.script.now c.args.log.now c.instants.state.world
-          c.pass-passed.new.self.world _ c.instants.log c.pass-passed.new.log _ c.instants.invariant.at
-          c.pass-passed.ensures.passes c.in-Some.end c.in-Some.is bounded;
-      status = status_is (telling g.R.Recorder) c.args.config.now c.args.script.now c.args.log.now
-          c.instants.state.world
-          c.pass-passed.new.self.world _ c.instants.log c.pass-passed.new.log _ c.instants.invariant.at
-          c.pass-passed.ensures.passes c.in-Some.end c.in-Some.is bounded;
-      tick = stamp_is (telling g.R.Recorder) c.args.config.now c.args.script.now c.args.log.now
-          c.instants.state.world
-          c.pass-passed.new.self.world _ c.instants.log c.pass-passed.new.log _ c.instants.invariant.at
-          c.pass-passed.ensures.passes c.in-Some.end c.in-Some.is bounded;
+      told = all_told (telling g.R.Recorder) c.instants.invariant.at c.pass-passed.ensures.passes c.in-Some.is bounded;
+      status = status_is (telling g.R.Recorder) c.instants.invariant.at c.pass-passed.ensures.passes c.in-Some.is bounded;
+      tick = stamp_is (telling g.R.Recorder) c.instants.invariant.at c.pass-passed.ensures.passes c.in-Some.is bounded;
       rounds = c.round_number.ensures
-          ∙ number_is (telling g.R.Recorder) c.args.config.now c.args.script.now c.args.log.now
-          c.instants.state.world
-          c.pass-passed.new.self.world _ c.instants.log c.pass-passed.new.log _ c.instants.invariant.at
-          c.pass-passed.ensures.passes c.in-Some.end c.in-Some.is bounded;
+          ∙ number_is (telling g.R.Recorder) c.instants.invariant.at c.pass-passed.ensures.passes c.in-Some.is bounded;
       peaks = c.pass-passed.ensures.peaks c.instants.invariant.peaks
           ∙ ap (peaks_before c.args.config.now c.args.script.now) (add-one c.pass-passed.result.last)
           ∙ ap (λ (n : ℕ). peaks_before c.args.config.now c.args.script.now (suc n))
-          (at_last (telling g.R.Recorder) c.args.config.now c.args.script.now c.args.log.now c.instants.state.world
-          c.pass-passed.new.self.world _ c.instants.log c.pass-passed.new.log _ c.instants.invariant.at
-          c.pass-passed.ensures.passes c.in-Some.end c.in-Some.is bounded);
+          (at_last (telling g.R.Recorder) c.instants.invariant.at c.pass-passed.ensures.passes c.in-Some.is bounded);
     }
 
 pub instants-preserved : goal.instants-preserved
 instants-preserved g c =
-    let next = tick_next (telling g.R.Recorder) c.args.config.now c.args.script.now c.args.log.now
-    c.instants.state.world
-    c.pass-passed.new.self.world _ c.instants.log c.pass-passed.new.log _ c.instants.invariant.at
-    c.pass-passed.ensures.passes c.in_default.is in
+    let next = tick_next (telling g.R.Recorder) c.instants.invariant.at c.pass-passed.ensures.passes c.in_default.is in
     record {
-      at = at_next (telling g.R.Recorder) c.args.config.now c.args.script.now c.args.log.now c.instants.state.world
-          c.pass-passed.new.self.world _ c.instants.log c.pass-passed.new.log _ c.instants.invariant.at
-          c.pass-passed.ensures.passes c.in_default.is;
+      at = at_next (telling g.R.Recorder) c.instants.invariant.at c.pass-passed.ensures.passes c.in_default.is;
       fixed = c.pass-passed.ensures.fixed ∙ c.instants.invariant.fixed;
       sources = subst (λ t. HasSources c.args.config.now c.args.script.now t c.pass-passed.new.self) (sym next)
           (c.pass-passed.ensures.sources (sym c.in_default.is));
@@ -102,9 +80,7 @@ instants-preserved g c =
           (moves_later c.args.config.now c.args.script.now c.instants.state.world.tick c.pass-passed.result.last
           c.args.steps.now c.instants.steps c.pass-passed.new.steps c.instants.invariant.few
           c.pass-passed.ensures.few);
-      enough = at_next counting c.args.config.now c.args.script.now c.args.steps.now c.instants.state.world
-          c.pass-passed.new.self.world _ c.instants.steps c.pass-passed.new.steps _ c.instants.invariant.enough
-          c.pass-passed.ensures.enough c.in_default.is;
+      enough = at_next counting c.instants.invariant.enough c.pass-passed.ensures.enough c.in_default.is;
     }
 
 pub instants-smaller : goal.instants-smaller
@@ -114,9 +90,7 @@ instants-smaller g c =
     (few_ticks c.args.config.now c.args.script.now
     (are_bounded _ _ c.requires.config c.requires.script) c.instants.state.world.tick
     c.instants.invariant.at.on.going) c.pass-passed.ensures.passes.later
-    (tick_next (telling g.R.Recorder) c.args.config.now c.args.script.now c.args.log.now c.instants.state.world
-    c.pass-passed.new.self.world _ c.instants.log c.pass-passed.new.log _ c.instants.invariant.at
-    c.pass-passed.ensures.passes c.in_default.is)
+    (tick_next (telling g.R.Recorder) c.instants.invariant.at c.pass-passed.ensures.passes c.in_default.is)
 
 pub returns-then-failed-clause-ran : goal.returns-then-failed-clause-ran
 returns-then-failed-clause-ran g c =
@@ -125,22 +99,15 @@ returns-then-failed-clause-ran g c =
       front = events_before c.args.config.now c.args.script.now (c.pass-passed.result.last + 1);
       rest = schedule_rest c.args.config.now c.args.script.now (c.pass-passed.result.last + 1);
       split = schedule_split c.args.config.now c.args.script.now bounded (c.pass-passed.result.last + 1)
-          (going_next (telling g.R.Recorder) c.args.config.now c.args.script.now c.args.log.now
-          c.instants.state.world
-          c.pass-passed.new.self.world _ c.instants.log c.pass-passed.new.log _ c.instants.invariant.at
-          c.pass-passed.ensures.passes c.in_default.is);
-      told = told_next (telling g.R.Recorder) c.args.config.now c.args.script.now c.args.log.now
-          c.instants.state.world c.pass-passed.new.self.world _
-          c.instants.log c.pass-passed.new.log _ c.instants.invariant.at c.pass-passed.ensures.passes;
+          (going_next (telling g.R.Recorder) c.instants.invariant.at c.pass-passed.ensures.passes c.in_default.is);
+      told = told_next (telling g.R.Recorder) c.instants.invariant.at c.pass-passed.ensures.passes;
       failed = sym c.failed.ensures.value ∙ c.if-failed.true;
     }
 
 pub returns-in-Some-clause-few : goal.returns-in-Some-clause-few
 returns-in-Some-clause-few g c =
     few_all c.args.config.now c.args.script.now c.args.steps.now c.pass-passed.new.steps c.pass-passed.result.last
-    (at_last (telling g.R.Recorder) c.args.config.now c.args.script.now c.args.log.now c.instants.state.world
-    c.pass-passed.new.self.world _ c.instants.log c.pass-passed.new.log _ c.instants.invariant.at
-    c.pass-passed.ensures.passes c.in-Some.end c.in-Some.is
+    (at_last (telling g.R.Recorder) c.instants.invariant.at c.pass-passed.ensures.passes c.in-Some.is
     (are_bounded c.args.config.now c.args.script.now c.requires.config c.requires.script))
     (moves_last c.args.config.now c.args.script.now c.instants.state.world.tick c.pass-passed.result.last
     c.args.steps.now c.instants.steps c.pass-passed.new.steps c.instants.invariant.few c.pass-passed.ensures.few)
@@ -150,16 +117,11 @@ returns-then-failed-clause-few g c =
     few_some c.args.config.now c.args.script.now c.args.steps.now c.pass-passed.new.steps c.pass-passed.result.last
     (before_last c.args.config.now c.args.script.now
     (are_bounded c.args.config.now c.args.script.now c.requires.config c.requires.script) c.pass-passed.result.last
-    (going_next (telling g.R.Recorder) c.args.config.now c.args.script.now c.args.log.now
-    c.instants.state.world
-    c.pass-passed.new.self.world _ c.instants.log c.pass-passed.new.log _ c.instants.invariant.at
-    c.pass-passed.ensures.passes c.in_default.is))
+    (going_next (telling g.R.Recorder) c.instants.invariant.at c.pass-passed.ensures.passes c.in_default.is))
     (moves_last c.args.config.now c.args.script.now c.instants.state.world.tick c.pass-passed.result.last
     c.args.steps.now c.instants.steps c.pass-passed.new.steps c.instants.invariant.few c.pass-passed.ensures.few)
 
 pub returns-in-Some-clause-enough : goal.returns-in-Some-clause-enough
 returns-in-Some-clause-enough g c =
-    all_told counting c.args.config.now c.args.script.now c.args.steps.now c.instants.state.world
-    c.pass-passed.new.self.world _ c.instants.steps c.pass-passed.new.steps _ c.instants.invariant.enough
-    c.pass-passed.ensures.enough c.in-Some.end c.in-Some.is
+    all_told counting c.instants.invariant.enough c.pass-passed.ensures.enough c.in-Some.is
     (are_bounded c.args.config.now c.args.script.now c.requires.config c.requires.script)

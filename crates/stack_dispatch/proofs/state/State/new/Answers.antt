@@ -1,14 +1,12 @@
-use Rattle.std.proofs.Common.{◌≡◌, ◌+◌, ℕ, List, [], length, ap, sym, ◌∙◌, subst}
-use Rattle.std.specs.Prelude.{map, replicate}
+use Rattle.std.proofs.Common.{◌≡◌, ◌+◌, ℕ, List, length, refl, ap, sym, ◌∙◌, subst}
+use Rattle.std.specs.Prelude.{replicate}
 use Rattle.task_lang.specs.declared.syntax.Stmt.{Stmt}
 use Rattle.tt_world.specs.declared.config.ConfigParts.{ConfigParts}
-use Rattle.tt_world.specs.declared.config.IsrDef.{IsrDef}
 use Rattle.tt_stack.specs.Stacked.{Stacked}
-use Rattle.isr_window.specs.Window.{new_window}
 use Rattle.tt_stack.specs.Words.{Words}
 use Rattle.round_end.specs.Round.{Round, first_round}
 use Rattle.osek_idle.specs.Subsystem.{IsSettled}
-use Rattle.osek_idle.specs.Standing.{HaveOsek, IsSound, setup_for, setup_of, subsystem_of}
+use Rattle.osek_idle.specs.Standing.{HaveOsek, IsSound, setup_of, subsystem_of}
 use Rattle.stack_dispatch.specs.State.{bodies_of}
 use Rattle.stack_dispatch.proofs.Firsts.{have_osek, first_settled, first_view, words_first}
 use Rattle.stack_dispatch.proofs.state.State.new.Goals as goal
@@ -51,45 +49,13 @@ returns c =
       demands = p.demands;
       values = script.values;
     }) same)
-    (c.new-4.ensures
-    ∙ ap (λ (ks : List (List Stmt)). record {
-      codes = ks;
-      first = length c.as_slice-4.result.now;
-      levels = map (λ (isr : IsrDef). isr.level) c.as_slice-6.result.now;
-      words = c.in_ok-words.words;
-      jobs = [];
-      isrs = replicate (length c.as_slice-6.result.now) [];
-    }) (c.in_ok-codes.ensures ∙ ap bodies_of same)
-    ∙ ap (λ (n : ℕ). record {
-      codes = bodies_of config;
-      first = n;
-      levels = map (λ (isr : IsrDef). isr.level) c.as_slice-6.result.now;
-      words = c.in_ok-words.words;
-      jobs = [];
-      isrs = replicate (length c.as_slice-6.result.now) [];
-    }) tasks
-    ∙ ap (λ (ds : List IsrDef). record {
-      codes = bodies_of config;
-      first = length config.tasks;
-      levels = map (λ (isr : IsrDef). isr.level) ds;
-      words = c.in_ok-words.words;
-      jobs = [];
-      isrs = replicate (length ds) [];
-    }) (c.as_slice-6.ensures ∙ ap (λ (p : ConfigParts). p.isrs) same)
-    ∙ ap (λ (ws : Words). record {
-      codes = bodies_of config;
-      first = length config.tasks;
-      levels = map (λ (isr : IsrDef). isr.level) config.isrs;
-      words = ws;
-      jobs = [];
-      isrs = replicate (length config.isrs) [];
-    }) (c.in_ok-words.ensures ∙ ap (λ (p : ConfigParts). words_first p script.start) same))
+    (c.new-4.ensures ∙ rw (
+      c.in_ok-codes.ensures ∙ ap bodies_of same,
+      tasks,
+      c.as_slice-6.ensures ∙ ap (λ (p : ConfigParts). p.isrs) same,
+      c.in_ok-words.ensures ∙ ap (λ (p : ConfigParts). words_first p script.start) same,
+    ) refl)
     (c.new-5.ensures
-    ∙ ap (λ (lists : List (List ℕ)). new_window (record { isrs = lists; oisrs = c.in_ok-oisrs.oisrs }))
-    (c.in_ok-isrs.ensures ∙ c.as_slice-2.ensures)
-    ∙ ap (λ (lists : List (List ℕ)). new_window (record { isrs = script.arrivals.isrs; oisrs = lists }))
-    (c.in_ok-oisrs.ensures ∙ c.as_slice-3.ensures))
-    (c.new-osek.ensures.setup
-    ∙ ap (λ (n : ℕ). setup_for config (n + length c.as_slice-5.result.now)) tasks
-    ∙ ap (λ (n : ℕ). setup_for config (length config.tasks + n)) isrs)
+    ∙ rw (c.in_ok-isrs.ensures ∙ c.as_slice-2.ensures, c.in_ok-oisrs.ensures ∙ c.as_slice-3.ensures) refl)
+    (c.new-osek.ensures.setup ∙ rw (tasks, isrs) refl)
     (ap (λ (ks : List (List Stmt)). subsystem_of ks c.new-osek.result) codes ∙ c.new-osek.ensures.state)

@@ -1,9 +1,9 @@
-use Rattle.std.proofs.Common.{ap, sym, ◌∙◌}
+use Rattle.std.proofs.Common.{refl, ap, sym, ◌∙◌, subst}
 use Rattle.osek_idle.specs.Standing.{setup_of, subsystem_of}
 use Rattle.osek_idle.specs.Laws.{runner_in as idle_runner}
 use Rattle.tt_stack.specs.Stacked.{runner_in}
 use Rattle.stack_dispatch.specs.State.{RunState}
-use Rattle.stack_dispatch.proofs.WhoRuns.{stack_of, is_of, runs_on_stack, runs_in_idle_time}
+use Rattle.stack_dispatch.proofs.WhoRuns.{HasLefts, stack_of, is_of, runs_on_stack, runs_in_idle_time}
 use Rattle.stack_dispatch.proofs.state.State.runner.Goals as goal
 
 pub returns-in-Some : goal.returns-in-Some
@@ -18,7 +18,6 @@ returns-in-None c = λ s kept.
     runs_in_idle_time c.args.config.now s c.args.self.now kept setup sub c.in_idle_time.result
     (ap (λ (x : RunState). runner_in (stack_of x)) (sym c.self.view_is) ∙ sym c.runner.ensures ∙ c.in-None.is)
     (is_of c.args.config.now s c.args.self.now kept setup sub
-    (ap (λ (x : RunState). x.world.oseks) (sym c.self.view_is))
-    (ap (λ (x : RunState). x.world.oisrs) (sym c.self.view_is))
+    (subst (λ (x : RunState). HasLefts x.world sub) c.self.view_is (record { tasks = refl; routines = refl }))
     (ap (λ (x : RunState). x.beside.setup) (sym c.self.view_is)) c.self.invariant.1)
     (c.in_idle_time.ensures ∙ ap idle_runner (c.picks.ensures c.self.inside.stack.codes))

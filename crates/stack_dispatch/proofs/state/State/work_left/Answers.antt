@@ -1,11 +1,11 @@
-use Rattle.std.proofs.Common.{ap, sym, ◌∙◌, subst}
+use Rattle.std.proofs.Common.{refl, ap, sym, ◌∙◌, subst}
 use Rattle.task_machine.specs.Standing.{work_in_front}
 use Rattle.osek_idle.specs.Standing.{setup_of, subsystem_of}
 use Rattle.tt_stack.specs.Stacked.{left_in, running}
 use Rattle.stack_dispatch.specs.State.{RunState}
 use Rattle.stack_dispatch.specs.Ticking.{IsInIdleTime, IsOnStack}
-use Rattle.stack_dispatch.proofs.Fronts.{idle_front, stack_front}
-use Rattle.stack_dispatch.proofs.WhoRuns.{stack_of}
+use Rattle.stack_dispatch.proofs.Taking.{idle_front, stack_front}
+use Rattle.stack_dispatch.proofs.WhoRuns.{HasLefts, stack_of}
 use Rattle.stack_dispatch.proofs.state.State.work_left.Goals as goal
 
 pub returns-in-Isr : goal.returns-in-Isr
@@ -29,8 +29,7 @@ returns-in-Oisr c =
     c.work_left-in-Oisr.ensures c.self.inside.stack.codes c.self.invariant.0
     ∙ idle_front c.args.config.now c.args.script.now c.args.self.now c.requires.kept c.args.runner c.requires.runs
     setup sub (subst IsInIdleTime (sym c.in-Oisr.is) tt)
-    (ap (λ (x : RunState). x.world.oseks) (sym c.self.view_is))
-    (ap (λ (x : RunState). x.world.oisrs) (sym c.self.view_is))
+    (subst (λ (x : RunState). HasLefts x.world sub) c.self.view_is (record { tasks = refl; routines = refl }))
     (ap (λ (x : RunState). x.beside.setup) (sym c.self.view_is)) c.self.invariant.1
 
 pub returns-in-Osek : goal.returns-in-Osek
@@ -40,6 +39,5 @@ returns-in-Osek c =
     c.work_left-in-Osek.ensures c.self.inside.stack.codes c.self.invariant.0
     ∙ idle_front c.args.config.now c.args.script.now c.args.self.now c.requires.kept c.args.runner c.requires.runs
     setup sub (subst IsInIdleTime (sym c.in-Osek.is) tt)
-    (ap (λ (x : RunState). x.world.oseks) (sym c.self.view_is))
-    (ap (λ (x : RunState). x.world.oisrs) (sym c.self.view_is))
+    (subst (λ (x : RunState). HasLefts x.world sub) c.self.view_is (record { tasks = refl; routines = refl }))
     (ap (λ (x : RunState). x.beside.setup) (sym c.self.view_is)) c.self.invariant.1
