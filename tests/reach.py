@@ -12,6 +12,8 @@ WORD = re.compile(r"[^\W\d][\w'×≤≢-]*")
 HEAD = re.compile(r"^(\s*)(?:(?:abbrev|unfoldable|pub|record|data)\s+)*([^\W\d][\w'×≤≢-]*)(?:\s*[({].*?[)}])*\s*:\s")
 # The first line of a record whose type stands on the next one.
 RECORD = re.compile(r"^(\s*)(?:pub )?record ([^\W\d][\w'×≤≢-]*)")
+# A list of lemmas for the prover to try.
+RULESET = re.compile(r"^(\s*)(?:pub )?ruleset ([^\W\d][\w'×≤≢-]*) =")
 # Files that answer goals of functions: what they name is reached.
 ANSWERING = ("Answers.antt", "Invariants.antt", "Proof.antt")
 
@@ -30,7 +32,7 @@ def blocks(file):
     for line in map(without_comments, file.read_text(encoding="utf-8").splitlines()):
         if re.match(r"\s*(pub )?(use|mod|unfolding) ", line):
             continue
-        found = HEAD.match(line) or RECORD.match(line)
+        found = HEAD.match(line) or RECORD.match(line) or RULESET.match(line)
         opens = re.match(r"\s*module ", line)
         indent = len(line) - len(line.lstrip())
         if opens or found and (name is None or indent <= depth) and found[2] not in ("let", "in"):
