@@ -265,7 +265,8 @@ module _ {L : Type 0} {Told : L → List Event → L → Type 0} (telling : IsTe
     -- ---- the parts of a round
 
     -- what is served after a part
-    served_then : {a b : L} {v : World} {phase : Phase} (m : Moved) → Gives Told a b v None m → IsConfig c → IsScript c s
+    served_then : {a b : L} {v : World} {phase : Phase} (m : Moved) → Gives Told a b v None m
+        → IsConfig c → IsScript c s
         → Holds (Timed phase c s) [] m → Holds (Placed c 0) [] m → Holds (Ahead c 0) [] m → IsServed phase c s v
     served_then {a} {b} {v} {phase} m g rules script timed placed ahead = record {
       rules = rules;

@@ -1,5 +1,5 @@
--- What an effect makes of the round and of the OSEK subsystem. Only the lemmas of this file and of Ticks go by services;
--- the others go by what a service makes.
+-- What an effect makes of the round and of the OSEK subsystem. Only the lemmas of this file and of Ticks go by
+-- services; the others go by what a service makes.
 use Rattle.std.proofs.Common.{ℕ, ◌≡◌, ◌<◌, List, ◌∷◌, Bool, true, false, Option, None, Some, refl, length}
 use Rattle.std.specs.Prelude.{◌==◌, if◌then◌else◌}
 use Rattle.std.proofs.lemmas.Bool.{cond_both, eqb-true}

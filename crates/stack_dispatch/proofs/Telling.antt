@@ -89,8 +89,8 @@ module _ {S : Type 0} (r : Ghosts S) where
   telling = record { none = tells_none; both = tells_both }
 
 -- an outcome that is known
-pub outcome_is : {L : Type 0} {Told : L → List Event → L → Type 0} {a b : L} {v : World} {end last : Outcome} {m : Moved}
-    → Gives Told a b v end m → end ≡ last → Gives Told a b v last m
+pub outcome_is : {L : Type 0} {Told : L → List Event → L → Type 0} {a b : L} {v : World}
+    {end last : Outcome} {m : Moved} → Gives Told a b v end m → end ≡ last → Gives Told a b v last m
 outcome_is {Told = Told} {a} {b} {v} {m = m} g is = subst (λ o. Gives Told a b v o m) is g
 
 -- ---- events of which some were reported

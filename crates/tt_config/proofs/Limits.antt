@@ -170,5 +170,5 @@ module _ (names : List NameEntry) where
       → Each (λ (x : At BodyPart). IsCountInLimit x.part.body) (bodies_of names rows)
   bodies_counted [] short = tt
   bodies_counted (row ∷ rows) short =
-      each_then (λ (b : BodyPart). IsCountInLimit b.body) row.line (body_of (owner_in row.row) (branches_from names rows))
-      (bodies_of names rows) (counted (owner_in row.row) rows (omega arith)) (bodies_counted rows (omega arith))
+      each_then (λ (b : BodyPart). IsCountInLimit b.body) row.line
+      (body_of (owner_in row.row) (branches_from names rows)) (bodies_of names rows) (counted (owner_in row.row) rows (omega arith)) (bodies_counted rows (omega arith))

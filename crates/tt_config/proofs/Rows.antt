@@ -114,7 +114,8 @@ module _ (names : List NameEntry) where
   row_variables (r.Out terms) fit one two = reads-expression_of names terms fit.known
   row_variables row fit one two = refl
 
-  pub row_demand : (row : Row) → IsRowFit names row → Passes (has_demand (count_of Kind.Demand names)) (head_of names row)
+  pub row_demand : (row : Row) → IsRowFit names row
+      → Passes (has_demand (count_of Kind.Demand names)) (head_of names row)
   row_demand (r.Take demand) fit one two = one_known Kind.Demand demand fit.known
   row_demand row fit one two = refl
 

@@ -39,7 +39,8 @@ pub of_three-found : (text : List ℕ) → length text ≡ 3
 of_three-found text is = found_by_length (λ n. n == 3) text (eq-eqb (length text) 3 is)
 
 pub of_four-found : (text : List ℕ) → length text ≡ 4
-    → keyword_among (k.Mode ∷ k.Task ∷ k.Osek ∷ k.Auto ∷ k.Oisr ∷ k.Hook ∷ k.Time ∷ k.Work ∷ k.Take ∷ k.Else ∷ k.Sync ∷ []) text ≡ keyword_of text
+    → keyword_among (k.Mode ∷ k.Task ∷ k.Osek ∷ k.Auto ∷ k.Oisr ∷ k.Hook ∷ k.Time ∷ k.Work ∷ k.Take ∷ k.Else
+    ∷ k.Sync ∷ []) text ≡ keyword_of text
 of_four-found text is = found_by_length (λ n. n == 4) text (eq-eqb (length text) 4 is)
 
 pub of_five-found : (text : List ℕ) → length text ≡ 5
@@ -47,11 +48,13 @@ pub of_five-found : (text : List ℕ) → length text ≡ 5
 of_five-found text is = found_by_length (λ n. n == 5) text (eq-eqb (length text) 5 is)
 
 pub of_six-found : (text : List ℕ) → length text ≡ 6
-    → keyword_among (k.Adjust ∷ k.Demand ∷ k.Enable ∷ k.Rounds ∷ k.Arrive ∷ k.Repeat ∷ k.Switch ∷ []) text ≡ keyword_of text
+    → keyword_among (k.Adjust ∷ k.Demand ∷ k.Enable ∷ k.Rounds ∷ k.Arrive ∷ k.Repeat ∷ k.Switch ∷ []) text
+    ≡ keyword_of text
 of_six-found text is = found_by_length (λ n. n == 6) text (eq-eqb (length text) 6 is)
 
 pub of_more-found : (text : List ℕ) → 6 < length text
-    → keyword_among (k.Osektime ∷ k.Shutdown ∷ k.Activate ∷ k.Stringent ∷ k.Nonstringent ∷ k.Terminate ∷ []) text ≡ keyword_of text
+    → keyword_among (k.Osektime ∷ k.Shutdown ∷ k.Activate ∷ k.Stringent ∷ k.Nonstringent ∷ k.Terminate ∷ []) text
+    ≡ keyword_of text
 of_more-found text is = found_by_length (λ n. nat_lt 6 n) text (lt-ltb 6 (length text) is)
 
 pub ruleset keyword_lengths = (

@@ -64,11 +64,11 @@ formed stack last row rows is = by (is_misplaced stack (standing_of row.row)) is
 
 -- ---- bodies
 
--- A fact P of the statements of an open thing, by what is open outside of it and the kind of its owner, that lasts as
--- rows are put before them. H is asked of each row, by what is open before it, the kind of the owner, whether it opens a
--- block, and its head.
-pub record IsKept (H : List Open → OwnerKind → Bool → Option Head → Type 0) (P : List Open → OwnerKind → List Stmt → Type 0)
-    : Type 0 where
+-- A fact P of the statements of an open thing, by what is open outside of it and the kind of its owner, that lasts
+-- as rows are put before them. H is asked of each row, by what is open before it, the kind of the owner, whether it
+-- opens a block, and its head.
+pub record IsKept (H : List Open → OwnerKind → Bool → Option Head → Type 0)
+    (P : List Open → OwnerKind → List Stmt → Type 0) : Type 0 where
   pub none : (outside : List Open) (k : OwnerKind) → P outside k []
   pub plain : (inner : Open) (outer : List Open) (k : OwnerKind) (head : Head) (body : List Stmt)
       → H (inner ∷ outer) k false (Some head) → P outer k body → P outer k (statement_of head [] [] ∷ body)
