@@ -1,12 +1,11 @@
 -- Where a frame begins and ends.
-use Rattle.std.proofs.Common.{◌≡◌, ℕ, ◌+◌, ◌≤◌, ◌<◌, List, [], ◌∷◌, ◌++◌, length, Option, Some, sym, ap, subst, ◌∙◌, arith, append_assoc, length-append, append-nil}
+use Rattle.std.proofs.Common.{◌≡◌, ℕ, ◌+◌, ◌<◌, List, [], ◌∷◌, ◌++◌, length, Some, sym, ap, subst, ◌∙◌, arith, append_assoc, length-append, append-nil}
 use Rattle.std.proofs.Math.Seq.{get_or-append_seam}
 use Rattle.std.proofs.lemmas.Option.{slice_get-get_or}
 use Rattle.task_lang.specs.declared.syntax.Stmt.{Stmt}
 use Rattle.task_machine.specs.Layout.{body_code, Stands}
 use Rattle.task_machine.specs.Place.{Left, At_end}
 use Rattle.task_machine.specs.declared.instr.Instr.{Instr}
-use Rattle.task_machine.specs.declared.instr.Instr.TheVariants as i
 use Rattle.task_machine.proofs.Fronts.{body_left}
 
 -- these instructions are in the code from the first place to the end

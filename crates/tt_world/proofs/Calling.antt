@@ -2,15 +2,12 @@
 use Rattle.std.proofs.Common.{ℕ, ◌≡◌, List, [], ◌∷◌, Bool, true, sym, ◌∙◌}
 use Rattle.std.specs.Prelude.{ℤ, ◌&&◌}
 use Rattle.std.proofs.lemmas.Bool.{and_parts}
-use Rattle.tt_base.specs.declared.event.Call.{Call}
-use Rattle.tt_base.specs.declared.event.Call.TheVariants as call
 use Rattle.task_lang.specs.declared.syntax.Stmt.{Stmt, out-Stmt}
 use Rattle.task_lang.specs.declared.syntax.Stmt.TheOpen.{Stmt-F}
 use Rattle.task_lang.specs.declared.syntax.Stmt.TheFolds.{map-Stmt, fold_out-Stmt}
 use Rattle.task_lang.specs.declared.tick.Effect.{Effect}
 use Rattle.task_lang.specs.declared.tick.Effect.TheVariants as effect
 use Rattle.task_lang.specs.declared.allowed.OwnerKind.{OwnerKind}
-use Rattle.task_lang.specs.declared.allowed.OwnerKind.TheVariants as owner
 use Rattle.task_lang.specs.Allowed.{is_allowed, may_call}
 use Rattle.task_lang.specs.Limits.{each_of, each_in, inner_pass}
 use Rattle.task_lang.specs.Tick.{Supply, state_of, tick, tick_by}

@@ -1,5 +1,5 @@
 -- One part of an instant after another, as the code does them.
-use Rattle.std.proofs.Common.{ℕ, ◌≡◌, ◌<◌, ◌≤◌, ◌+◌, length, take, get_or, List, [], ◌∷◌, true, false, Bool, ◌++◌, refl, ap, sym, ◌∙◌, subst, append_assoc, append-nil}
+use Rattle.std.proofs.Common.{ℕ, ◌≡◌, ◌<◌, ◌≤◌, ◌+◌, length, take, get_or, List, [], ◌∷◌, true, false, Bool, ◌++◌, refl, ap, sym, ◌∙◌, subst, append_assoc}
 use Rattle.std.specs.Prelude.{map}
 use Rattle.std.proofs.lemmas.List.{take_more, take_all, map-append}
 use Rattle.tt_base.specs.declared.event.Event.{Event}
