@@ -9,7 +9,7 @@ use tt_base::Owner;
 
 /// A set of sources. Contracts see it as a record of two lists of flags, by the numbers of the
 /// time-triggered sources and of those of the OSEK subsystem.
-#[derive(Debug, Drop)]
+#[derive(Drop)]
 pub struct Busy {
     isrs: Flags,
     oisrs: Flags,

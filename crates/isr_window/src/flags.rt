@@ -9,7 +9,7 @@ use std::marker::Model;
 pub(crate) const MOST: usize = 16;
 
 /// Flags. Contracts see them as a list.
-#[derive(Debug, Drop)]
+#[derive(Drop)]
 pub(crate) struct Flags {
     flags: [bool; MOST],
     len: usize,

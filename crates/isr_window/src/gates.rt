@@ -23,7 +23,7 @@ pub struct Arrived {
 }
 
 /// The interrupt sources of a run. Contracts see them as a record of these fields, without `next`.
-#[derive(Debug, Drop)]
+#[derive(Drop)]
 pub struct Gates {
     isrs_enabled: Flags,
     isrs_held: Flags,

@@ -10,7 +10,7 @@ use tt_base::{Series, Tick};
 
 /// A list of ticks for each source of one kind. Contracts see the ticks of each list that are not
 /// taken.
-#[derive(Debug, Drop)]
+#[derive(Drop)]
 pub(crate) struct Queues {
     lists: Series<Series<Tick>>,
     /// How many ticks of each list were taken.

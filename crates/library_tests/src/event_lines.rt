@@ -1,9 +1,10 @@
 //! The line of each kind of event.
 
+use crate::recorders::write_events;
 use std::alloc::Global;
 use std::process::Abort;
 use std::test::Fail;
-use trace_text::{line_of, write_events};
+use trace_text::line_of;
 use tt_base::{Call, Event, IsrNo, ModeNo, Name, NameKind, Names, OisrNo, OsekNo, Owner, TaskNo};
 use tt_io::MemSink;
 

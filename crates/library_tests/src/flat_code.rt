@@ -11,7 +11,7 @@ use std::marker::Brand;
 use std::process::Abort;
 use std::test::Fail;
 use task_lang::{Body, Demand, Effect, Expr, Op, Stmt, Vars};
-use task_machine::{Codes, Env, Frame, advance, compile};
+use task_machine::{Codes, Env, Frame, Progress, advance, compile};
 use tt_base::{Blank, DemandNo, Ledger, Series, Steps};
 
 const D: DemandNo = DemandNo(0);
@@ -64,6 +64,14 @@ fn codes_of(alloc: Global, body: &Body) -> Result<Codes, Fail>
     Ok(codes)
 }
 
+/// The value that a tick outputs.
+fn output_of(progress: Progress) -> Option<i32> {
+    match progress.effect {
+        Some(Effect::Out(value)) => Some(value),
+        _ => None,
+    }
+}
+
 /// A frame takes seven ticks, and outputs a value in the sixth.
 fn check_ticks<L: Ledger>(
     rt: &impl Abort,
@@ -77,12 +85,8 @@ fn check_ticks<L: Ledger>(
     for tick in 0..7 {
         assert!(rt; !frame.ended());
         let progress = advance(frame, codes, 1, env, steps);
-        let out = if tick == 5 {
-            Some(Effect::Out(2147483647))
-        } else {
-            None
-        };
-        assert_eq!(rt; progress.effect, out, "at {tick}");
+        let out = if tick == 5 { Some(2147483647) } else { None };
+        assert_eq!(rt; output_of(progress), out, "at {tick}");
     }
     assert!(rt; frame.ended());
 }
@@ -120,7 +124,7 @@ fn check_work<L: Ledger>(
     assert_eq!(rt; frame.work_left(), 1000000);
     assert!(rt; !frame.ended());
     let progress = advance(&mut frame, &codes, first, &mut env, steps);
-    assert_eq!(rt; progress.effect, None);
+    assert!(rt; progress.effect.is_none());
     assert_eq!(rt; progress.ended, first == 1000000);
     assert_eq!(rt; frame.work_left(), 1000000 - first);
     Ok(())

@@ -1,13 +1,19 @@
 //! Names and the numbers of what they declare.
 
 use std::test::Fail;
-use tt_base::{Declared, ModeNo, Name, NameKind, Names, TaskNo};
+use tt_base::{Declared, Name, NameKind, Names, TaskNo};
 
 #[test]
 fn lists_kinds_at_their_places(rt: HostRuntime) {
     for (place, kind) in NameKind::ALL.iter().enumerate() {
         assert_eq!(rt; kind.index(), place);
     }
+}
+
+/// The place of a name's kind, and its number.
+fn found(names: &Names, name: Name) -> Option<(usize, u16)> {
+    let declared = names.find(name)?;
+    Some((declared.kind().index(), declared.number()))
 }
 
 #[test]
@@ -18,12 +24,9 @@ fn finds_and_gives_back_names(rt: HostRuntime) -> Result<(), Fail> {
     names.add(NameKind::Mode, wheel)?;
     names.add(NameKind::Task, plan)?;
     names.add(NameKind::Task, wheel)?;
-    let first = [
-        Some(Declared::Task(TaskNo(0))),
-        Some(Declared::Mode(ModeNo(0))),
-    ];
-    assert_eq!(rt; [names.find(plan), names.find(wheel)], first);
+    assert_eq!(rt; found(&names, plan), Some((NameKind::Task.index(), 0)));
+    assert_eq!(rt; found(&names, wheel), Some((NameKind::Mode.index(), 0)));
     let second = Declared::Task(TaskNo(1));
-    assert_eq!(rt; names.get(second), Some(wheel));
+    assert!(rt; names.get(second) == Some(wheel));
     Ok(())
 }

@@ -3,8 +3,8 @@
 use crate::event_lines::{A, BY_A, M, example};
 use std::alloc::Global;
 use std::test::Fail;
-use trace_text::{Discard, Failed, ListRecorder, SinkRecorder, note_all, note_one, write_events};
-use tt_base::{Event, Owner};
+use trace_text::{Discard, Failed, ListRecorder, SinkRecorder, note_all, note_one};
+use tt_base::{Event, Names, Owner};
 use tt_io::{MemSink, WriteFault};
 
 /// The run of one round with one task that takes three ticks and meets its deadline.
@@ -40,6 +40,26 @@ const TEXT: &[u8] = b"0 os start m
 10 stop
 ";
 
+/// Writes the lines of events to a sink, up to a fault.
+pub(crate) fn write_events(
+    sink: &mut MemSink,
+    events: &[Event],
+    names: &Names,
+) -> Result<(), WriteFault> {
+    let mut recorder = SinkRecorder::new(sink);
+    match note_all(&mut recorder, events, names) {
+        Ok(()) => recorder.finish(),
+        Err(Failed) => Err(WriteFault),
+    }
+}
+
+/// A sink with the text of events.
+pub(crate) fn text_of(alloc: Global, events: &[Event], names: &Names) -> Result<MemSink, Fail> {
+    let mut sink = MemSink::new(alloc, 1_000, 1_000, Vec::new(alloc))?;
+    write_events(&mut sink, events, names)?;
+    Ok(sink)
+}
+
 #[test]
 fn a_list_keeps_what_has_room(rt: HostRuntime) -> Result<(), Fail> {
     let names = example(rt.alloc())?;
@@ -47,7 +67,9 @@ fn a_list_keeps_what_has_room(rt: HostRuntime) -> Result<(), Fail> {
         let mut list = ListRecorder::new(rt.alloc(), room)?;
         assert_eq!(rt; note_all(&mut list, &RUN, &names), answer);
         assert_eq!(rt; note_one(&mut list, &RUN[0], &names), Err(Failed));
-        assert_eq!(rt; list.events(), &RUN[..room.min(8)]);
+        let noted = text_of(rt.alloc(), list.events(), &names)?;
+        let first = text_of(rt.alloc(), &RUN[..room.min(8)], &names)?;
+        assert_eq!(rt; noted.as_bytes(), first.as_bytes());
     }
     Ok(())
 }

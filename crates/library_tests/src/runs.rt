@@ -2,7 +2,8 @@
 
 ghost use Rattle.std.specs.Prelude.{◌≡◌, ◌<◌, ◌^◌, length};
 
-use crate::recorders::RUN;
+use crate::event_lines::example;
+use crate::recorders::{RUN, text_of};
 use stack_dispatch::{Bench, Report, Run};
 use std::alloc::Global;
 use std::marker::Brand;
@@ -64,12 +65,15 @@ fn check_one_task<L: Ledger>(
     alloc: Global,
     steps: &mut Steps<L>,
 ) -> Result<(), Fail> {
+    let names = example(alloc)?;
     let whole = Run::Ended(report(10, RunEnd::LastRound));
     for (room, answer) in [(8, whole), (7, Run::Failed), (0, Run::Failed)] {
         let mut list = ListRecorder::new(alloc, room)?;
         let bench = bench_of(alloc, ONE_TASK)?;
         assert_eq!(rt; bench.run_trace(&mut list, steps), answer);
-        assert_eq!(rt; list.events(), &RUN[..room]);
+        let noted = text_of(alloc, list.events(), &names)?;
+        let first = text_of(alloc, &RUN[..room], &names)?;
+        assert_eq!(rt; noted.as_bytes(), first.as_bytes());
     }
     Ok(())
 }

@@ -4,8 +4,8 @@ use std::test::Fail;
 use tt_base::Series;
 
 #[test]
-fn grows_from_copies(rt: HostRuntime) -> Result<(), Fail> {
-    let mut marks = Series::filled(rt.alloc(), 2, false)?;
+fn grows_and_changes(rt: HostRuntime) -> Result<(), Fail> {
+    let mut marks = Series::from_vec([false, false].to_vec(rt.alloc())?);
     marks.set(1, true);
     marks.push(false)?;
     assert_eq!(rt; marks.as_slice(), [false, true, false].as_slice());

@@ -31,11 +31,7 @@ fn operators_wrap_around(rt: HostRuntime) {
         (Op::Differ, i32::MIN, i32::MAX, 1),
         (Op::Differ, 0, 0, 0),
     ] {
-        assert_eq!(rt;
-            apply(op, left, right),
-            want,
-            "{op:?} of {left} and {right}"
-        );
+        assert_eq!(rt; apply(op, left, right), want, "of {left} and {right}");
     }
 }
 
@@ -73,7 +69,7 @@ fn owners_have_their_services(rt: HostRuntime) {
         (Call::Chain(OsekNo(0)), task),
         (Call::Terminate, task),
     ] {
-        assert_eq!(rt; row(&Stmt::Service(call)), want, "{call:?}");
+        assert_eq!(rt; row(&Stmt::Service(call)), want);
     }
     assert_eq!(rt; row(&Stmt::Work(1)), [true, true, true, true, false]);
     assert_eq!(rt; row(&Stmt::Out(Expr::Const(1))), [true; 5]);

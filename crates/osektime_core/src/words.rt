@@ -9,7 +9,7 @@ use tt_base::Memory;
 use tt_doc::number;
 
 /// What a user asks for.
-#[derive(Clone, Copy, Debug, PartialEq, Eq)]
+#[derive(Clone, Copy)]
 pub enum Command {
     /// `trace`: the lines of the schedule.
     Trace,

@@ -19,7 +19,7 @@ pub enum RoundStep {
 }
 
 /// The present round, and what the next one will be. Contracts see it as a record of these fields.
-#[derive(Debug, Drop)]
+#[derive(Drop)]
 pub struct RoundState {
     round: u64,
     adjust: u64,

@@ -12,7 +12,7 @@ use tt_base::Memory;
 use tt_world::{Activation, ModeDef, Point};
 
 /// A check at an offset of the round: it looks at the activation of an entry number.
-#[derive(Clone, Copy, Debug)]
+#[derive(Clone, Copy)]
 pub(crate) struct Check {
     pub(crate) offset: u64,
     pub(crate) entry: usize,
@@ -103,7 +103,7 @@ impl<'a> Monitor<'a> {
 }
 
 /// The monitoring points of activations, and the checks at them.
-#[derive(Debug, Drop)]
+#[derive(Drop)]
 pub(crate) struct Checks {
     /// The point of each activation, by entry number.
     pub(crate) points: Vec<Point>,

@@ -2,7 +2,7 @@
 
 /// What is due at an offset of the round: half-open ranges of places in the table's lists, and the
 /// activation.
-#[derive(Clone, Copy, Debug, PartialEq, Eq)]
+#[derive(Clone, Copy)]
 pub struct Due {
     /// The place of the first check.
     pub checks_from: usize,
@@ -18,7 +18,7 @@ pub struct Due {
 
 /// An offset of the round at which something is due, and what is due there. The OSEK/VDX standard:
 /// the expiry points of a dispatcher table.
-#[derive(Clone, Copy, Debug, PartialEq, Eq)]
+#[derive(Clone, Copy)]
 pub struct ExpiryPoint {
     /// In ticks from the start of the round.
     pub offset: u64,

@@ -24,7 +24,7 @@ use tt_world::{Activation, Config, Enable, ModeDef, Point};
 /// monitoring points, and its expiry points. Offsets are in ticks from the start of the round.
 /// Contracts see the rows, and the round's length less the greatest correction, at which a round
 /// ends at the earliest. No call but `build` takes memory.
-#[derive(Debug, Drop)]
+#[derive(Drop)]
 pub struct Table {
     activations: Vec<Activation>,
     enables: Vec<Enable>,

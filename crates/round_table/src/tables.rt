@@ -11,7 +11,7 @@ use tt_world::Config;
 
 /// The dispatcher tables of a configuration. Contracts see them as the list of the tables of its
 /// modes, in order.
-#[derive(Debug, Drop)]
+#[derive(Drop)]
 pub struct Tables {
     tables: Series<Table>,
 }

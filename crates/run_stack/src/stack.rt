@@ -18,7 +18,7 @@ pub const TASKS: usize = 64;
 pub const ISRS: usize = 16;
 
 /// An unfinished activation on a stack.
-#[derive(Clone, Copy, Debug, Default, PartialEq, Eq)]
+#[derive(Clone, Copy, Default)]
 pub struct StackFrame {
     /// Whose activation it is.
     pub owner: Owner,

@@ -4,7 +4,7 @@ use task_machine::Frame;
 use tt_base::Owner;
 
 /// The one that runs.
-#[derive(Clone, Copy, Debug, PartialEq, Eq)]
+#[derive(Clone, Copy)]
 pub struct Top {
     /// Whose frame it is.
     pub owner: Owner,

@@ -11,7 +11,7 @@ use tt_base::ModeNo;
 use tt_world::Config;
 
 /// The answer of the check.
-#[derive(Clone, Copy, Debug, PartialEq, Eq)]
+#[derive(Clone, Copy)]
 pub enum CheckAnswer {
     /// Each activation of each mode has a response end.
     Yes,

@@ -8,7 +8,7 @@ use crate::syntax::Stmt;
 use tt_base::Call;
 
 /// The kinds of owner that have a body.
-#[derive(Clone, Copy, Debug, PartialEq, Eq)]
+#[derive(Clone, Copy, PartialEq, Eq)]
 pub enum OwnerKind {
     /// A time-triggered task.
     Task,

@@ -7,7 +7,7 @@ use std::marker::Model;
 use tt_base::{DemandNo, Memory, Series};
 
 /// How many ticks a demand asks for: the most, and the number where the script gives no value.
-#[derive(Clone, Copy, Debug, PartialEq, Eq)]
+#[derive(Clone, Copy)]
 pub struct Demand {
     /// The most ticks.
     pub most: u64,
@@ -23,7 +23,7 @@ pub type Values = Series<Series<u64>>;
 
 /// For each demand, by number, how many of its script values were used. Contracts see them as a
 /// list.
-#[derive(Debug, Drop)]
+#[derive(Drop)]
 pub struct Cursors {
     used: Vec<usize>,
 }

@@ -1,9 +1,8 @@
 //! The task language: the statements that a body is made of, the value of an expression, the ticks
-//! that a body takes at most, and one tick of what is left of a body.
+//! that a body takes at most, and the laws of one tick of what is left of a body.
 #![tactic(auto)]
 
 pub mod allowed;
-mod copies;
 mod demand;
 mod laws;
 mod syntax;
@@ -16,5 +15,5 @@ pub use allowed::OwnerKind;
 pub use demand::{Cursors, Demand, Demands, Values};
 pub use laws::{tick_keeps_each, tick_keeps_numbers, tick_lowers_worst, ticks_end};
 pub use syntax::{Body, Expr, Op, Stmt};
-pub use tick::{Effect, Left, take};
+pub use tick::{Effect, take};
 pub use vars::Vars;

@@ -5,7 +5,7 @@ use tt_base::{Call, DemandNo, VarNo};
 
 /// An operator of two values. Sums, differences and products are taken modulo 2^32; a comparison
 /// gives 1 or 0.
-#[derive(Clone, Copy, Debug, PartialEq, Eq)]
+#[derive(Clone, Copy)]
 pub enum Op {
     /// `+`: the sum.
     Add,
@@ -24,7 +24,7 @@ pub enum Op {
 }
 
 /// An expression. Its value is a signed number of 32 bits.
-#[derive(Debug, Drop)]
+#[derive(Drop)]
 pub enum Expr {
     /// A number.
     Const(i32),
@@ -35,7 +35,7 @@ pub enum Expr {
 }
 
 /// A statement. Contracts see inner bodies as lists of statements.
-#[derive(Debug, Drop)]
+#[derive(Drop)]
 pub enum Stmt {
     /// `work`: ticks of computing.
     Work(u64),

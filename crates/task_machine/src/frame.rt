@@ -9,7 +9,7 @@ use crate::rest::settle;
 
 /// An unfinished activation of a program. With its codes it stands for the list of statements that
 /// are left. Only `advance` changes it.
-#[derive(Clone, Copy, Debug, PartialEq, Eq)]
+#[derive(Clone, Copy)]
 pub struct Frame {
     pub(crate) place: usize,
     /// The ticks left of the `work` before the place.

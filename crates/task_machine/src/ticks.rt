@@ -18,7 +18,7 @@ use task_lang::{Cursors, Demands, Effect, Values, Vars, take};
 use tt_base::{DemandNo, Ledger, Steps};
 
 /// What the ticks of a frame did.
-#[derive(Clone, Copy, Debug, PartialEq, Eq)]
+#[derive(Clone, Copy)]
 pub struct Progress {
     /// What was put out or called: None exactly where the statement was no `out` and no service.
     pub effect: Option<Effect>,

@@ -74,9 +74,3 @@ cut_before {S} {r} {names} {s} {t} {xs} ys all split p = record {
   cause = p.cause;
   never_falls = p.never_falls;
 }
-
--- the count of faults did not fall
-pub records_never_falls : {S T E : Type 0} (r : Ghosts S) (names : List NameEntry) (s : S) (events : List Event) (t : S)
-    (result : Result T E) → Records r names s events t result → r.faults s ≤ r.faults t
-records_never_falls r names s events t (Ok value) p = p.never_falls
-records_never_falls r names s events t (Err error) p = p.never_falls

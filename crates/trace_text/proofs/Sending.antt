@@ -88,14 +88,6 @@ module _ {O : Type 0} (written : O → Option (List ℕ)) where
       (cuts_then s p.middle t (text_of names p.done) (line_of names p.next) (text_of names p.rest)
       (puts_all names p.done s p.middle p.kept) p.cut)
 
-  -- by the answer
-  pub recorded_text : {T E : Type 0} (faults : O → ℕ) (names : List NameEntry) (s : SinkRecorder O)
-      (events : List Event)
-      (t : SinkRecorder O) (result : Result T E)
-      → Records (to_sink faults) names s events t result → Writes written s (text_of names events) t result
-  recorded_text faults names s events t (Ok value) p = noted_text faults names s events t p
-  recorded_text faults names s events t (Err error) p = cut_text faults names s events t p
-
   -- nothing waited at first, a text was put, and then what waited was sent in part: the text was sent in part
   pub sent_part : (s t : SinkRecorder O) (text : List ℕ) (after : Option (List ℕ)) → waiting_in s ≡ []
       → Puts written s text t → AppendsPart (written (sink_of t).now) after (waiting_in t)

@@ -4,9 +4,8 @@ ghost use Rattle.std.specs.Prelude.{◌≡◌, ◌+◌, ◌≤◌, [], ◌∷◌
 ghost use Rattle.std.specs.Fmt.{signed_decimal};
 ghost use Rattle.tt_base.specs.declared.names.Declared.TheVariants as Which;
 ghost use Rattle.tt_base.specs.Names.{name_of};
-ghost use Rattle.trace_text.specs.Lines.{call_words, line, line_of, owner_name, spaced};
+ghost use Rattle.trace_text.specs.Lines.{call_words, correction, line, line_of, owner_name, spaced};
 
-use crate::event_line::line_of;
 use crate::line_buffer::LineBuffer;
 use crate::stamp::Stamp;
 use tt_base::{Call, Declared, Event, ModeNo, Names, Owner, TaskNo, Tick};
@@ -24,6 +23,19 @@ impl LineBuffer {
         self.stamp(stamp);
     }
 
+    /// A stamp and fixed words.
+    #[inline(never)]
+    fn plain(&mut self, stamp: &mut Stamp, at: Tick, words: &[u8])
+        requires short { length words.now ≤ 20 }
+        requires room { length self.old + 96 ≤ CAPACITY }
+        ensures line { self.new ≡ self.old ++ line (decimal at ∷ words.now ∷ []) }
+        ensures few { length self.new ≤ length self.old + 96 }
+    {
+        self.begin(stamp, at);
+        self.word(words);
+        self.end();
+    }
+
     /// A stamp, fixed words and the name of a thing.
     #[inline(always)]
     fn with_name(
@@ -36,8 +48,9 @@ impl LineBuffer {
     )
         requires short { length words.now ≤ 20 }
         requires room { length self.old + 96 ≤ CAPACITY }
-        ensures { self.new ≡ self.old
+        ensures line { self.new ≡ self.old
             ++ line (decimal at ∷ words.now ∷ name_of names.now which ∷ []) }
+        ensures few { length self.new ≤ length self.old + 96 }
     {
         self.begin(stamp, at);
         self.word(words);
@@ -50,8 +63,9 @@ impl LineBuffer {
     fn with_owner(&mut self, stamp: &mut Stamp, at: Tick, word: &[u8], names: &Names, owner: Owner)
         requires short { length word.now ≤ 20 }
         requires room { length self.old + 96 ≤ CAPACITY }
-        ensures { self.new ≡ self.old
+        ensures line { self.new ≡ self.old
             ++ line (decimal at ∷ word.now ∷ owner_name names.now owner ∷ []) }
+        ensures few { length self.new ≤ length self.old + 96 }
     {
         self.begin(stamp, at);
         self.word(word);
@@ -63,9 +77,10 @@ impl LineBuffer {
     #[inline(always)]
     fn check(&mut self, stamp: &mut Stamp, at: Tick, names: &Names, task: TaskNo, met: bool)
         requires { length self.old + 96 ≤ CAPACITY }
-        ensures { let name = name_of names.now (Which.Task task) in
+        ensures line { let name = name_of names.now (Which.Task task) in
             let seen = if met then codes "met" else codes "missed" in
             self.new ≡ self.old ++ line (decimal at ∷ codes "check" ∷ name ∷ seen ∷ []) }
+        ensures few { length self.new ≤ length self.old + 96 }
     {
         self.begin(stamp, at);
         self.word(b"check");
@@ -74,12 +89,26 @@ impl LineBuffer {
         self.end();
     }
 
+    /// A round gets longer or shorter.
+    fn correct(&mut self, stamp: &mut Stamp, at: Tick, by: i64)
+        requires { length self.old + 96 ≤ CAPACITY }
+        ensures line { self.new ≡ self.old
+            ++ line (decimal at ∷ codes "correct" ∷ correction by ∷ []) }
+        ensures few { length self.new ≤ length self.old + 96 }
+    {
+        self.begin(stamp, at);
+        self.word(b"correct");
+        self.correction(by);
+        self.end();
+    }
+
     /// A dispatcher round begins.
     fn round(&mut self, stamp: &mut Stamp, at: Tick, number: u32, names: &Names, mode: ModeNo)
         requires { length self.old + 96 ≤ CAPACITY }
-        ensures { let name = name_of names.now (Which.Mode mode) in
+        ensures line { let name = name_of names.now (Which.Mode mode) in
             self.new ≡ self.old
             ++ line (decimal at ∷ codes "round" ∷ decimal number ∷ name ∷ []) }
+        ensures few { length self.new ≤ length self.old + 96 }
     {
         self.begin(stamp, at);
         self.word(b"round");
@@ -91,9 +120,10 @@ impl LineBuffer {
     /// A body outputs a value.
     fn out(&mut self, stamp: &mut Stamp, at: Tick, names: &Names, owner: Owner, value: i32)
         requires { length self.old + 96 ≤ CAPACITY }
-        ensures { let name = owner_name names.now owner in
+        ensures line { let name = owner_name names.now owner in
             self.new ≡ self.old
             ++ line (decimal at ∷ codes "out" ∷ name ∷ signed_decimal value ∷ []) }
+        ensures few { length self.new ≤ length self.old + 96 }
     {
         self.begin(stamp, at);
         self.word(b"out");
@@ -138,9 +168,10 @@ impl LineBuffer {
         answer: u8,
     )
         requires { length self.old + 96 ≤ CAPACITY }
-        ensures { let name = owner_name names.now owner in
+        ensures line { let name = owner_name names.now owner in
             self.new ≡ self.old ++ line (decimal at ∷ codes "call" ∷ name
             ∷ call_words names.now call ++ decimal answer ∷ []) }
+        ensures few { length self.new ≤ length self.old + 96 }
     {
         self.begin(stamp, at);
         self.word(b"call");
@@ -150,24 +181,23 @@ impl LineBuffer {
         self.end();
     }
 
-    /// The line of an event that comes once in a run or seldom.
-    #[inline(never)]
-    fn seldom(&mut self, names: &Names, event: &Event)
-        requires { length self.old + 96 ≤ CAPACITY }
-        ensures { self.new ≡ self.old ++ line_of names.now event.now }
-    {
-        let line = line_of(event, names);
-        self.text(line.as_bytes());
-    }
-
     /// Appends the line of an event, its LF included, word by word.
     #[tactic(auto, unfolding(crate::specs::Lines::line_of))]
     pub(crate) fn event(&mut self, stamp: &mut Stamp, names: &Names, event: &Event)
         requires { length self.old + 96 ≤ CAPACITY }
-        ensures { self.new ≡ self.old ++ line_of names.now event.now }
+        ensures line { self.new ≡ self.old ++ line_of names.now event.now }
+        ensures few { length self.new ≤ length self.old + 96 }
     {
         match *event {
+            Event::OsStart { at, mode } => self.with_name(
+                stamp,
+                at,
+                b"os start",
+                names,
+                Declared::Mode(mode),
+            ),
             Event::Round { at, number, mode } => self.round(stamp, at, number, names, mode),
+            Event::Correct { at, by } => self.correct(stamp, at, by),
             Event::Check { at, task, met } => self.check(stamp, at, names, task, met),
             Event::Enable { at, isr } => self.with_name(
                 stamp,
@@ -195,7 +225,16 @@ impl LineBuffer {
                 call,
                 result: answer,
             } => self.called(stamp, at, names, owner, call, answer),
-            _ => self.seldom(names, event),
+            Event::ErrorHook { at, task } => self.with_name(
+                stamp,
+                at,
+                b"hook ttErrorHook",
+                names,
+                Declared::Task(task),
+            ),
+            Event::ShutdownHook { at } => self.plain(stamp, at, b"hook ttShutdownHook"),
+            Event::Shutdown { at } => self.plain(stamp, at, b"shutdown"),
+            Event::Stop { at } => self.plain(stamp, at, b"stop"),
         }
     }
 }

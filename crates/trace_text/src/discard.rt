@@ -6,7 +6,7 @@ use crate::{Noted, Recorder};
 use tt_base::{Event, Names};
 
 /// Takes every event, and keeps none.
-#[derive(Clone, Copy, Debug, Default, PartialEq, Eq)]
+#[derive(Clone, Copy, Default)]
 pub struct Discard;
 
 impl Discard {

@@ -12,7 +12,6 @@ mod notes;
 mod recorder;
 mod sink_recorder;
 mod stamp;
-mod written;
 
 pub use discard::Discard;
 pub use event_line::line_of;
@@ -21,4 +20,3 @@ pub use list_recorder::ListRecorder;
 pub use notes::{note_all, note_one};
 pub use recorder::{Failed, Noted, Recorder};
 pub use sink_recorder::SinkRecorder;
-pub use written::write_events;

@@ -2,19 +2,18 @@
 
 ghost use Rattle.std.specs.Prelude.{◌≡◌, ◌+◌, ◌≤◌, [], ◌∷◌, ◌++◌, length, decimal};
 ghost use Rattle.tt_base.specs.Names.{name_of};
-ghost use Rattle.trace_text.specs.Lines.{call_words, correction, owner_name, spaced};
 
 use arrayvec::ArrayVec;
 use itoa::{Buffer, Integer};
 use std::marker::Model;
-use tt_base::{Call, Declared, Names, Owner, Tick};
+use tt_base::{Declared, Names, Tick};
 
 /// How many bytes a line has at most, its LF included.
 const LINE_BYTES: usize = 96;
 
 /// A printed line: words with one space between them, and a LF at the end. Contracts see it as the
 /// list of its bytes.
-#[derive(Debug, Drop)]
+#[derive(Drop)]
 pub struct Line {
     bytes: ArrayVec<u8, LINE_BYTES>,
 }
@@ -36,7 +35,7 @@ impl Line {
         self.bytes.as_slice()
     }
 
-    /// A line whose first word is this one.
+    /// A line that begins with this text.
     pub fn begun(word: &[u8]) -> Line
         requires { length word.now ≤ 96 }
         ensures { result ≡ word.now }
@@ -79,19 +78,6 @@ impl Line {
         self.digits(number);
     }
 
-    /// One more word: a correction in ticks, with its sign.
-    pub(crate) fn correction(&mut self, by: i64)
-        requires { length self.old + 22 ≤ 96 }
-        ensures text { self.new ≡ self.old ++ 32 ∷ correction by }
-        ensures few { length self.new ≤ length self.old + 22 }
-    {
-        self.text(b" ");
-        if by >= 0 {
-            self.text(b"+");
-        }
-        self.digits(by);
-    }
-
     /// One more word: the name of a declared thing, an empty word where it has none.
     pub fn name(&mut self, names: &Names, which: Declared)
         requires { length self.old + 17 ≤ 96 }
@@ -101,48 +87,6 @@ impl Line {
         match names.get(which) {
             Some(name) => self.word(name.as_bytes()),
             None => self.word(b""),
-        }
-    }
-
-    /// One more word: the name of an owner.
-    pub(crate) fn owner(&mut self, names: &Names, owner: Owner)
-        requires { length self.old + 17 ≤ 96 }
-        ensures text { self.new ≡ self.old ++ 32 ∷ owner_name names.now owner }
-        ensures few { length self.new ≤ length self.old + 17 }
-    {
-        match owner {
-            Owner::Task(task) => self.name(names, Declared::Task(task)),
-            Owner::Isr(isr) => self.name(names, Declared::Isr(isr)),
-            Owner::Osek(task) => self.name(names, Declared::Osek(task)),
-            Owner::Oisr(isr) => self.name(names, Declared::Oisr(isr)),
-            Owner::ErrorHook => self.word(b"ttErrorHook"),
-            Owner::ShutdownHook => self.word(b"ttShutdownHook"),
-            Owner::Idle => self.word(b"idle"),
-        }
-    }
-
-    /// One or two more words: a service, and its argument where it has one.
-    pub(crate) fn call(&mut self, names: &Names, call: Call)
-        requires { length self.old + 33 ≤ 96 }
-        ensures text { self.new ≡ self.old ++ spaced (call_words names.now call) }
-        ensures few { length self.new ≤ length self.old + 33 }
-    {
-        match call {
-            Call::Switch(mode) => {
-                self.word(b"ttSwitchAppMode");
-                self.name(names, Declared::Mode(mode));
-            }
-            Call::Sync => self.word(b"ttSyncTimes"),
-            Call::Shutdown => self.word(b"ttShutdownOS"),
-            Call::Activate(task) => {
-                self.word(b"ActivateTask");
-                self.name(names, Declared::Osek(task));
-            }
-            Call::Chain(task) => {
-                self.word(b"ChainTask");
-                self.name(names, Declared::Osek(task));
-            }
-            Call::Terminate => self.word(b"TerminateTask"),
         }
     }
 

@@ -5,7 +5,7 @@ ghost use Rattle.std.specs.Prelude.{◌≡◌, ◌+◌, ◌≤◌, [], ◌∷◌
 ghost use Rattle.tt_base.specs.Names.{name_of};
 ghost use Rattle.tt_io.specs.Count.{Rose};
 ghost use Rattle.tt_io.specs.Known.{AppendsPart};
-ghost use Rattle.trace_text.specs.Lines.{owner_name};
+ghost use Rattle.trace_text.specs.Lines.{correction, owner_name};
 
 use crate::stamp::Stamp;
 use itoa::{Buffer, Integer};
@@ -49,6 +49,13 @@ impl LineBuffer {
         ensures { result + length self.now ≡ CAPACITY }
     {
         CAPACITY - self.len
+    }
+
+    /// The bytes that wait.
+    pub(crate) fn as_bytes(&self) -> &[u8]
+        ensures { result.now ≡ self.now }
+    {
+        &self.bytes[..self.len]
     }
 
     /// Appends what waits to the sink. Then nothing waits, also after a fault.
@@ -131,6 +138,20 @@ impl LineBuffer {
     {
         let mut buffer = Buffer::new();
         self.word(buffer.format(number).as_bytes());
+    }
+
+    /// One more word: a correction in ticks, with its sign.
+    pub(crate) fn correction(&mut self, by: i64)
+        requires { length self.old + 22 ≤ CAPACITY }
+        ensures text { self.new ≡ self.old ++ 32 ∷ correction by }
+        ensures few { length self.new ≤ length self.old + 22 }
+    {
+        self.text(b" ");
+        if by >= 0 {
+            self.text(b"+");
+        }
+        let mut buffer = Buffer::new();
+        self.text(buffer.format(by).as_bytes());
     }
 
     /// One more word: the name of a declared thing, an empty word where it has none.

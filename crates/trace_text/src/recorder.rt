@@ -7,7 +7,7 @@ ghost use Rattle.trace_text.specs.Noted.{OnFailed, OnKept};
 use tt_base::{Event, Names};
 
 /// The answer of one note.
-#[derive(Clone, Copy, Debug, PartialEq, Eq)]
+#[derive(Clone, Copy)]
 pub enum Noted {
     /// The event was kept.
     Kept,

@@ -23,7 +23,7 @@ pub enum Owner {
 }
 
 /// A call of an operating system service.
-#[derive(Clone, Copy, Debug, PartialEq, Eq)]
+#[derive(Clone, Copy, PartialEq, Eq)]
 pub enum Call {
     /// ttSwitchAppMode, to this application mode.
     Switch(ModeNo),
@@ -40,7 +40,7 @@ pub enum Call {
 }
 
 /// One line of a trace. `at` is its stamp in ticks.
-#[derive(Clone, Copy, Debug, PartialEq, Eq)]
+#[derive(Clone, Copy)]
 pub enum Event {
     /// The operating system starts in this mode.
     OsStart {

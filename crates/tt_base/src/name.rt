@@ -13,7 +13,7 @@ pub const NAME_BYTES: usize = 16;
 
 /// A name of a document: 1 to 16 bytes, a letter or `_` and then letters, digits or `_`. Case
 /// counts. Contracts see it as the list of its bytes.
-#[derive(Clone, Copy, Debug)]
+#[derive(Clone, Copy)]
 pub struct Name {
     /// The text, and zeros after it.
     bytes: [u8; NAME_BYTES],

@@ -12,7 +12,7 @@ use std::collections::HashMap;
 use std::marker::Model;
 
 /// What a name is declared as.
-#[derive(Clone, Copy, Debug, PartialEq, Eq)]
+#[derive(Clone, Copy)]
 pub enum NameKind {
     /// An application mode.
     Mode,
@@ -66,7 +66,7 @@ impl NameKind {
 }
 
 /// A declared thing: its kind and its number, which is the count of earlier names of that kind.
-#[derive(Clone, Copy, Debug, PartialEq, Eq)]
+#[derive(Clone, Copy)]
 pub enum Declared {
     /// An application mode.
     Mode(ModeNo),
@@ -117,7 +117,7 @@ impl Declared {
 }
 
 /// A name and what it is declared as.
-#[derive(Clone, Copy, Debug, PartialEq, Eq)]
+#[derive(Clone, Copy)]
 pub struct NameEntry {
     pub kind: NameKind,
     pub name: Name,
@@ -128,7 +128,7 @@ const KINDS: usize = 7;
 
 /// The names of a document. Contracts see them as one list of kinds and names in the order of
 /// adding.
-#[derive(Debug, Drop)]
+#[derive(Drop)]
 pub struct Names {
     /// All of them in the order of adding.
     entries: Vec<NameEntry>,

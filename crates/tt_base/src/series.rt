@@ -1,6 +1,6 @@
 //! The list type of the bench.
 
-ghost use Rattle.std.specs.Prelude.{◌≡◌, ◌<◌, ◌↔◌, [], ◌∷◌, ◌++◌, length, slice_get, slice_set, replicate, IsTrue, IfOk, OnOk, OnErr, OnSome};
+ghost use Rattle.std.specs.Prelude.{◌≡◌, ◌<◌, ◌↔◌, [], ◌∷◌, ◌++◌, length, slice_get, slice_set, IsTrue, IfOk, OnOk, OnErr, OnSome};
 ghost use Rattle.std.specs.Option.{option_copied};
 ghost use Rattle.std.specs.Borrow.{sem};
 ghost use Rattle.tt_base.specs.Series.{LendsItem};
@@ -11,7 +11,7 @@ use std::marker::Model;
 
 /// A `Vec` that contracts see as the list of its items, so that two with the same items are one
 /// value.
-#[derive(Debug, Drop)]
+#[derive(Drop)]
 pub struct Series<T> {
     items: Vec<T>,
 }
@@ -87,17 +87,6 @@ impl<T> Series<T> {
         ensures value { slice_get self.old place ≡ Some result.now }
     {
         &mut self.items[place]
-    }
-}
-
-impl<T: Copy> Series<T> {
-    /// A list of n copies of an item.
-    pub fn filled(alloc: Global, count: usize, item: T) -> Result<Series<T>, Memory>
-        ensures { IfOk result (λ list. list ≡ replicate count item) }
-    {
-        let mut items = Vec::new(alloc);
-        items.resize(count, item)?;
-        Ok(Series { items })
     }
 }
 

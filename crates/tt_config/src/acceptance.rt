@@ -35,7 +35,7 @@ pub enum AcceptFault {
 }
 
 /// What accepted rows give.
-#[derive(Debug, Drop)]
+#[derive(Drop)]
 pub struct Accepted {
     pub config: Config,
     pub script: Script,

@@ -324,7 +324,7 @@ impl Sink for MemSink {
 }
 
 /// Takes every piece whole, and does not say what was written.
-#[derive(Clone, Copy, Debug, Default, PartialEq, Eq)]
+#[derive(Clone, Copy, Default)]
 pub struct NullSink;
 
 impl NullSink {

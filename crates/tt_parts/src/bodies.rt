@@ -19,7 +19,7 @@ use tt_base::{Call, DemandNo, Memory, ModeNo, Names, OsekNo, Series, VarNo};
 use tt_rows::{NumberedRow, Row};
 
 /// What has a body, as its row says it.
-#[derive(Clone, Copy, Debug, PartialEq, Eq)]
+#[derive(Clone, Copy)]
 pub enum Owner {
     /// A time-triggered task: its stack words.
     Task(u64),
@@ -37,7 +37,7 @@ pub enum Owner {
 }
 
 /// A body and its owner.
-#[derive(Debug, Drop)]
+#[derive(Drop)]
 pub struct BodyPart {
     pub owner: Owner,
     pub body: Body,

@@ -11,7 +11,7 @@ use tt_base::{Memory, NameEntry, Series};
 use tt_rows::{NumberedRow, Row};
 
 /// What needs no number of a name.
-#[derive(Debug, Drop)]
+#[derive(Drop)]
 pub struct Declarations {
     /// The line of the first row, 1 where there is none.
     pub first: u32,

@@ -4,7 +4,7 @@ use tt_base::{Declared, DemandNo, ModeNo, Tick};
 use tt_world::{Activation, Enable};
 
 /// A row of a mode's dispatcher table.
-#[derive(Clone, Copy, Debug, PartialEq, Eq)]
+#[derive(Clone, Copy)]
 pub enum Entry {
     /// It activates a task.
     Activates(ModeNo, Activation),
@@ -13,14 +13,14 @@ pub enum Entry {
 }
 
 /// The next value of a demand, in ticks.
-#[derive(Clone, Copy, Debug, PartialEq, Eq)]
+#[derive(Clone, Copy)]
 pub struct Value {
     pub demand: DemandNo,
     pub ticks: u64,
 }
 
 /// An interrupt: what its source's name declares, and when it occurs.
-#[derive(Clone, Copy, Debug, PartialEq, Eq)]
+#[derive(Clone, Copy)]
 pub struct Arrival {
     pub source: Option<Declared>,
     pub tick: Tick,

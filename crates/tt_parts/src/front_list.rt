@@ -14,7 +14,7 @@ use tt_base::{Memory, Series};
 const FEW: usize = 4096;
 
 /// A list that grows at its front. Contracts see it as the list of its items, the front one first.
-#[derive(Debug, Drop)]
+#[derive(Drop)]
 pub struct FrontList<T> {
     /// The items in reverse order, so that the front one is the last.
     reversed: Vec<T>,

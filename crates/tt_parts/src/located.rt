@@ -6,7 +6,7 @@ ghost use Rattle.tt_parts.specs.Located.{at_then};
 use tt_base::{Memory, Series};
 
 /// A part of a document, and the line that says it.
-#[derive(Debug, Drop)]
+#[derive(Drop)]
 pub struct At<T> {
     pub line: u32,
     pub part: T,

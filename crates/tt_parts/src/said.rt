@@ -15,7 +15,7 @@ use tt_rows::{NumberedRow, Row};
 use tt_world::{Activation, Enable};
 
 /// What rows say besides the round, names and bodies.
-#[derive(Debug, Drop)]
+#[derive(Drop)]
 pub struct Said {
     /// The initial values of the variables.
     pub vars: Series<At<i32>>,

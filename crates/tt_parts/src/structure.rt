@@ -7,7 +7,7 @@ use task_lang::OwnerKind;
 use tt_rows::Row;
 
 /// The place of a row among bodies and blocks.
-#[derive(Clone, Copy, Debug, PartialEq, Eq)]
+#[derive(Clone, Copy)]
 pub enum Standing {
     /// Outside of bodies.
     Top,
@@ -26,7 +26,7 @@ pub enum Standing {
 }
 
 /// Something that is open.
-#[derive(Clone, Copy, Debug, PartialEq, Eq)]
+#[derive(Clone, Copy, PartialEq, Eq)]
 pub enum Open {
     /// A body of an owner of this kind.
     Body(OwnerKind),

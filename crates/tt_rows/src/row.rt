@@ -5,7 +5,7 @@ use task_lang::Op;
 use tt_base::{Name, Series};
 
 /// One word of an expression.
-#[derive(Clone, Copy, Debug, PartialEq, Eq)]
+#[derive(Clone, Copy)]
 pub enum Term {
     /// A number of 32 signed bits.
     Int(i32),
@@ -19,7 +19,7 @@ pub enum Term {
 pub type Terms = Series<Term>;
 
 /// A row of a document.
-#[derive(Debug, Drop)]
+#[derive(Drop)]
 pub enum Row {
     /// `osektime 1`: the version of the language.
     Header,
@@ -97,7 +97,7 @@ pub enum Row {
 }
 
 /// A row with the number of its line, counted from 1.
-#[derive(Debug, Drop)]
+#[derive(Drop)]
 pub struct NumberedRow {
     pub line: u32,
     pub row: Row,

@@ -12,7 +12,7 @@ use task_machine::Codes;
 use tt_base::{Call, OsekNo, Owner, Tick};
 
 /// What a service answers its caller.
-#[derive(Clone, Copy, Debug, PartialEq, Eq)]
+#[derive(Clone, Copy)]
 pub struct Answer {
     pub result: u8,
     /// Whether the caller ends: by TerminateTask, or by a ChainTask with result 0.

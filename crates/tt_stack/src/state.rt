@@ -239,13 +239,6 @@ impl TtStack {
         if place < self.reached { place } else { 0 }
     }
 
-    /// How many activations the round has had.
-    pub fn reached(&self) -> usize
-        ensures { result ≡ length self.now.jobs }
-    {
-        self.reached
-    }
-
     /// A round has ended: its activations are gone, also those that are unfinished, and a round of
     /// this mode begins. The routines stay.
     pub fn clear_jobs(&mut self, mode: ModeNo)

@@ -5,7 +5,7 @@ use task_lang::{Body, Demands, Vars};
 use tt_base::{IsrNo, Names, Series, TaskNo};
 
 /// A time-triggered task.
-#[derive(Debug, Drop)]
+#[derive(Drop)]
 pub struct TaskDef {
     /// The stack words that it takes while it is unfinished.
     pub stack: u32,
@@ -15,7 +15,7 @@ pub struct TaskDef {
 }
 
 /// A time-triggered interrupt service routine.
-#[derive(Debug, Drop)]
+#[derive(Drop)]
 pub struct IsrDef {
     /// Routines are nested by level: one of a higher level interrupts one of a lower.
     pub level: u8,
@@ -29,7 +29,7 @@ pub struct IsrDef {
 }
 
 /// A basic task of the OSEK subsystem.
-#[derive(Debug, Drop)]
+#[derive(Drop)]
 pub struct OsekDef {
     /// A larger number is a higher priority.
     pub priority: u8,
@@ -41,7 +41,7 @@ pub struct OsekDef {
 }
 
 /// An interrupt service routine of the OSEK subsystem.
-#[derive(Debug, Drop)]
+#[derive(Drop)]
 pub struct OisrDef {
     /// A larger number is a higher priority.
     pub priority: u8,
@@ -52,7 +52,7 @@ pub struct OisrDef {
 
 /// A row of a dispatcher table that activates a task. Offsets and deadlines are offsets of the
 /// round, in ticks.
-#[derive(Clone, Copy, Debug, PartialEq, Eq)]
+#[derive(Clone, Copy)]
 pub struct Activation {
     pub offset: u64,
     pub task: TaskNo,
@@ -63,7 +63,7 @@ pub struct Activation {
 
 /// A row of a dispatcher table that enables an interrupt source again, at an offset of the round in
 /// ticks.
-#[derive(Clone, Copy, Debug, PartialEq, Eq)]
+#[derive(Clone, Copy)]
 pub struct Enable {
     pub offset: u64,
     pub isr: IsrNo,
@@ -71,7 +71,7 @@ pub struct Enable {
 
 /// An application mode: the rows of its dispatcher table. The place of an activation in the list is
 /// its entry number.
-#[derive(Debug, Drop)]
+#[derive(Drop)]
 pub struct ModeDef {
     /// In ascending order of offset.
     pub activations: Series<Activation>,
@@ -80,7 +80,7 @@ pub struct ModeDef {
 }
 
 /// The parts of a configuration.
-#[derive(Debug, Drop)]
+#[derive(Drop)]
 pub struct ConfigParts {
     pub names: Names,
     /// The length of a dispatcher round, in ticks.
@@ -102,7 +102,7 @@ pub struct ConfigParts {
 }
 
 /// A configuration that meets the rules. Contracts see it as its parts.
-#[derive(Debug, Drop)]
+#[derive(Drop)]
 pub struct Config {
     parts: ConfigParts,
 }

@@ -7,14 +7,14 @@ use tt_base::{ModeNo, Series, Tick};
 
 /// When interrupts occur: a list of ticks for each time-triggered routine, and one for each of the
 /// OSEK subsystem.
-#[derive(Debug, Drop)]
+#[derive(Drop)]
 pub struct Arrivals {
     pub isrs: Series<Series<Tick>>,
     pub oisrs: Series<Series<Tick>>,
 }
 
 /// The parts of a script.
-#[derive(Debug, Drop)]
+#[derive(Drop)]
 pub struct ScriptParts {
     /// The application mode at tick 0.
     pub start: ModeNo,
@@ -29,7 +29,7 @@ pub struct ScriptParts {
 
 /// A script that by itself meets the rules of a script. Contracts see it as its parts. Whether it
 /// fits a configuration is said where both are used.
-#[derive(Debug, Drop)]
+#[derive(Drop)]
 pub struct Script {
     parts: ScriptParts,
 }

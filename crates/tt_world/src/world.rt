@@ -3,7 +3,7 @@
 use tt_base::{IsrNo, OisrNo, OsekNo, TaskNo};
 
 /// Where deadline monitoring looks at an activation of a round.
-#[derive(Clone, Copy, Debug, PartialEq, Eq)]
+#[derive(Clone, Copy)]
 pub enum Point {
     /// At this offset of the round, in ticks.
     At(u64),
@@ -23,7 +23,7 @@ pub enum RunEnd {
 }
 
 /// Who takes the tick of an instant.
-#[derive(Clone, Copy, Debug, PartialEq, Eq)]
+#[derive(Clone, Copy)]
 pub enum Runner {
     /// The time-triggered routine of this number.
     Isr(IsrNo),

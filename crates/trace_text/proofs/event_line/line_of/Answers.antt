@@ -1,8 +1,0 @@
-use Rattle.std.proofs.Common.{ap, sym, ◌∙◌}
-use Rattle.trace_text.specs.Lines.{line_of}
-use Rattle.trace_text.proofs.event_line.line_of.Goals as goal
-
-pub returns-in-ErrorHook-clause-line : goal.returns-in-ErrorHook-clause-line
-unfolding line_of
-returns-in-ErrorHook-clause-line c = c.with_name-in-ErrorHook.ensures.line
-    ∙ ap (line_of c.args.names.now) (sym c.in-ErrorHook.is)
