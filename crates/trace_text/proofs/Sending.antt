@@ -1,6 +1,5 @@
 -- What a recorder that writes to a sink does over a run: the lines of its events, as one text.
 use Rattle.std.proofs.Common.{◌≡◌, ℕ, List, [], ◌∷◌, ◌++◌, Option, refl, sym, ap, ◌∙◌, subst, append_assoc, append-nil}
-use Rattle.std.specs.Prelude.{Result, Ok, Err}
 use Rattle.std.specs.List.{FoldsTo}
 use Rattle.std.proofs.KnownBytes.{Appends-nil}
 use Rattle.std.proofs.lemmas.Grind.{flat_map-append}
@@ -9,8 +8,8 @@ use Rattle.tt_base.specs.declared.names.NameEntry.{NameEntry}
 use Rattle.tt_io.specs.Known.{AppendsPart}
 use Rattle.tt_io.proofs.Passing.{part_of_front, passes_end_part, passes_more, passes_part}
 use Rattle.trace_text.specs.Lines.{line_of, text_of}
-use Rattle.trace_text.specs.Records.{CutWithin, Notes, Records}
-use Rattle.trace_text.specs.SinkRecorder.{Cuts, Puts, Writes, sink_of, takes, waiting_in}
+use Rattle.trace_text.specs.Records.{CutWithin, Notes}
+use Rattle.trace_text.specs.SinkRecorder.{Cuts, Puts, sink_of, takes, waiting_in}
 use Rattle.trace_text.specs.declared.recorder.Recorder.{Ghosts}
 use Rattle.trace_text.specs.declared.sink_recorder.SinkRecorder.{SinkRecorder}
 

@@ -1,5 +1,5 @@
 -- What contracts see of a recorder that writes to a sink, and what its notes do.
-use Rattle.std.specs.Prelude.{◌≡◌, ℕ, Bool, false, not, Option, List, ◌++◌, Result, Ok, Err}
+use Rattle.std.specs.Prelude.{◌≡◌, ℕ, Bool, false, not, Option, List, ◌++◌}
 use Rattle.std.specs.Borrow.{MutBor}
 use Rattle.tt_io.specs.Known.{AppendsPart}
 use Rattle.tt_io.specs.Passes.{Passes}
@@ -36,9 +36,3 @@ pub record Cuts {O : Type 0} (written : O → Option (List ℕ)) (before : SinkR
   pub part : AppendsPart (written (sink_of before).now) (written (sink_of after).now) (waiting_in before ++ text)
   pub same_sink : SameSink before after
   pub over : takes after ≡ false
-
--- by the answer: a text was put, or cut
-abbrev pub Writes : {O T E : Type 0} → (O → Option (List ℕ)) → SinkRecorder O → List ℕ → SinkRecorder O → Result T E
-    → Type 0
-Writes written before text after (Ok value) = Puts written before text after
-Writes written before text after (Err error) = Cuts written before text after
