@@ -2,6 +2,7 @@
 
 ghost use Rattle.std.specs.Prelude.{◌≡◌, ◌≤◌, ◌+◌, IfOk, IsTrue};
 ghost use Rattle.tt_world.specs.ScriptRules.{IsScript};
+ghost use Rattle.stack_dispatch.specs.Reports.{IsMade};
 
 use crate::report::Run;
 use crate::state::State;
@@ -37,6 +38,20 @@ impl Model for Bench {
     ghost invariant = { λ b. IsMade b.config b.script b.tables b.state };
 }
 
+/// The tables of a configuration, and the state before tick 0 of a run with a script.
+fn tables_and_state(
+    alloc: Global,
+    config: &Config,
+    script: &Script,
+) -> Result<(Tables, State), Memory>
+    requires { IsScript config.now script.now }
+    ensures { IfOk result (λ made. IsMade config.now script.now made.0 made.1) }
+{
+    let tables = Tables::build(alloc, config)?;
+    let state = State::new(alloc, config, script.parts())?;
+    Ok((tables, state))
+}
+
 impl Bench {
     ghost use Rattle.tt_world.specs.Schedule.{schedule};
     ghost use Rattle.schedule_check.specs.declared.answers.CheckAnswer.TheVariants.{Yes};
@@ -52,8 +67,7 @@ impl Bench {
         requires { IsScript config script }
         ensures { IfOk result (λ bench. bench ≡ record { config = config; script = script }) }
     {
-        let tables = Tables::build(alloc, &config)?;
-        let state = State::new(alloc, &config, script.parts())?;
+        let (tables, state) = tables_and_state(alloc, &config, &script)?;
         Ok(Bench {
             config,
             script,

@@ -33,6 +33,15 @@ fn copy_ticks(alloc: Global, lists: &[Series<Tick>]) -> Result<Series<Series<Tic
     Ok(copy)
 }
 
+/// The same arrivals.
+fn copy_arrivals(alloc: Global, arrivals: &Arrivals) -> Result<Arrivals, Memory>
+    ensures { IfOk result (λ copy. copy ≡ arrivals.now) }
+{
+    let isrs = copy_ticks(alloc, arrivals.isrs.as_slice())?;
+    let oisrs = copy_ticks(alloc, arrivals.oisrs.as_slice())?;
+    Ok(Arrivals { isrs, oisrs })
+}
+
 impl State {
     /// Before tick 0.
     pub(crate) fn new(alloc: Global, config: &Config, script: &ScriptParts) -> Result<State, Memory>
@@ -41,11 +50,10 @@ impl State {
     {
         let parts = config.parts();
         let times = copy_numbers(alloc, script.times.as_slice())?;
-        let isrs = copy_ticks(alloc, script.arrivals.isrs.as_slice())?;
-        let oisrs = copy_ticks(alloc, script.arrivals.oisrs.as_slice())?;
-        let env = Env::new(alloc, &parts.vars, &parts.demands, &script.values)?;
+        let arrivals = copy_arrivals(alloc, &script.arrivals)?;
         let words = DeclaredWords::new(alloc, parts, script.start)?;
         let codes = codes_of(alloc, parts)?;
+        let env = Env::new(alloc, &parts.vars, &parts.demands, &script.values)?;
         let tasks = parts.tasks.as_slice().len() as u16;
         let routines = parts.isrs.as_slice().len() as u16;
         let osek = Osek::new(config, &codes, tasks + routines);
@@ -54,7 +62,7 @@ impl State {
             round: RoundState::new(config, script.start, script.rounds, times),
             env,
             stack: TtStack::new(codes, words, parts.isrs.as_slice(), tasks),
-            gates: Gates::new(Arrivals { isrs, oisrs }),
+            gates: Gates::new(arrivals),
             osek,
             last: None,
         })

@@ -37,14 +37,14 @@ pub(crate) fn run<R: Recorder, L: Ledger>(
     config: &ConfigParts,
     script: &ScriptParts,
     tables: &Tables,
-    mut state: State,
+    state: &mut State,
     log: &mut Log<R>,
     steps: &mut Steps<L>,
 ) -> Option<Last>
     requires config { IsConfig config.now }
     requires script { IsScript config.now script.now }
     requires tables { tables.now ≡ tables_of config.now }
-    requires state { state ≡ first_state config.now script.now }
+    requires state { state.old ≡ first_state config.now script.now }
     ensures same_recorder { log.new.recorder.ghost_name ≡ log.old.recorder.ghost_name }
     ensures ran { MatchOption result
         (FailsWithin R.Recorder log.old (schedule config.now script.now) log.new)

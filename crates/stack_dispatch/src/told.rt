@@ -44,12 +44,12 @@ fn run_logged<R: Recorder, L: Ledger>(
     config: &ConfigParts,
     script: &ScriptParts,
     tables: &Tables,
-    state: State,
+    state: &mut State,
     log: &mut Log<R>,
     steps: &mut Steps<L>,
 ) -> Run
     requires rules { IsConfig config.now }
-    requires made { IsMade config.now script.now tables.now state }
+    requires made { IsMade config.now script.now tables.now state.old }
     requires fresh { IsFresh config.now.names log.old }
     ensures same_recorder { log.new.recorder.ghost_name ≡ log.old.recorder.ghost_name }
     ensures ran { Ran R.Recorder (record { config = config.now; script = script.now })
@@ -68,7 +68,7 @@ pub(crate) fn run_told<R: Recorder, L: Ledger>(
     config: &ConfigParts,
     script: &ScriptParts,
     tables: &Tables,
-    state: State,
+    mut state: State,
     recorder: &mut R,
     steps: &mut Steps<L>,
 ) -> Run
@@ -82,7 +82,7 @@ pub(crate) fn run_told<R: Recorder, L: Ledger>(
         (λ _. steps.old + runs_in (schedule config.now script.now) ≤ steps.new) }
 {
     let mut log = Log::new(recorder, &config.names);
-    let answer = run_logged(config, script, tables, state, &mut log, steps);
+    let answer = run_logged(config, script, tables, &mut state, &mut log, steps);
     let Log {
         recorder: _recorder,
         names: _,

@@ -14,9 +14,9 @@ use Rattle.stack_dispatch.proofs.state.State.new.Goals as goal
 pub new-osek-requires : goal.new-osek-requires
 new-osek-requires c =
     let same = c.parts-parts.ensures.same in
-    let tasks = ap length c.as_slice-4.ensures ∙ ap (λ (p : ConfigParts). length p.tasks) same in
-    let isrs = ap length c.as_slice-5.ensures ∙ ap (λ (p : ConfigParts). length p.isrs) same in
-    subst (λ (n : ℕ). HaveOsek c.in_ok-codes.codes (n + length c.as_slice-5.result.now) c.args.config.now) (sym tasks)
+    let tasks = ap length c.as_slice-2.ensures ∙ ap (λ (p : ConfigParts). length p.tasks) same in
+    let isrs = ap length c.as_slice-3.ensures ∙ ap (λ (p : ConfigParts). length p.isrs) same in
+    subst (λ (n : ℕ). HaveOsek c.in_ok-codes.codes (n + length c.as_slice-3.result.now) c.args.config.now) (sym tasks)
     (subst (λ (n : ℕ). HaveOsek c.in_ok-codes.codes (length c.args.config.now.tasks + n) c.args.config.now) (sym isrs)
     (have_osek c.args.config.now c.in_ok-codes.codes (c.in_ok-codes.ensures ∙ ap bodies_of same)))
 
@@ -36,8 +36,8 @@ returns c =
     let same = c.parts-parts.ensures.same in
     let config = c.args.config.now in
     let script = c.args.script.now in
-    let tasks = ap length c.as_slice-4.ensures ∙ ap (λ (p : ConfigParts). length p.tasks) same in
-    let isrs = ap length c.as_slice-5.ensures ∙ ap (λ (p : ConfigParts). length p.isrs) same in
+    let tasks = ap length c.as_slice-2.ensures ∙ ap (λ (p : ConfigParts). length p.tasks) same in
+    let isrs = ap length c.as_slice-3.ensures ∙ ap (λ (p : ConfigParts). length p.isrs) same in
     let codes : c.new-4.result.codes ≡ c.in_ok-codes.codes = ap (λ (k : Stacked). k.codes) c.new-4.ensures in
     first_view config script c.requires c.new-3.result c.in_ok-env.env c.new-4.result c.new-5.result
     (setup_of c.new-osek.result)
@@ -52,10 +52,9 @@ returns c =
     (c.new-4.ensures ∙ rw (
       c.in_ok-codes.ensures ∙ ap bodies_of same,
       tasks,
-      c.as_slice-6.ensures ∙ ap (λ (p : ConfigParts). p.isrs) same,
+      c.as_slice-4.ensures ∙ ap (λ (p : ConfigParts). p.isrs) same,
       c.in_ok-words.ensures ∙ ap (λ (p : ConfigParts). words_first p script.start) same,
     ) refl)
-    (c.new-5.ensures
-    ∙ rw (c.in_ok-isrs.ensures ∙ c.as_slice-2.ensures, c.in_ok-oisrs.ensures ∙ c.as_slice-3.ensures) refl)
+    (c.new-5.ensures ∙ rw (c.in_ok-arrivals.ensures) refl)
     (c.new-osek.ensures.setup ∙ rw (tasks, isrs) refl)
     (ap (λ (ks : List (List Stmt)). subsystem_of ks c.new-osek.result) codes ∙ c.new-osek.ensures.state)
