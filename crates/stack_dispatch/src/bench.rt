@@ -67,13 +67,19 @@ impl Bench {
         requires { IsScript config script }
         ensures { IfOk result (λ bench. bench ≡ record { config = config; script = script }) }
     {
-        let (tables, state) = tables_and_state(alloc, &config, &script)?;
-        Ok(Bench {
-            config,
-            script,
-            tables,
-            state,
-        })
+        match tables_and_state(alloc, &config, &script) {
+            Ok((tables, state)) => Ok(Bench {
+                config,
+                script,
+                tables,
+                state,
+            }),
+            Err(Memory) => {
+                drop(config);
+                drop(script);
+                Err(Memory)
+            }
+        }
     }
 
     /// Runs up to the first missed deadline, the call of ttShutdownOS or the last round, and
@@ -111,13 +117,17 @@ impl Bench {
             tables,
             state,
         } = self;
-        run_told(
+        let run = run_told(
             config.parts(),
             script.parts(),
             &tables,
             state,
             recorder,
             steps,
-        )
+        );
+        drop(config);
+        drop(script);
+        drop(tables);
+        run
     }
 }

@@ -90,5 +90,6 @@ pub(crate) fn run_told<R: Recorder, L: Ledger>(
         events: _,
         activations: _,
     } = log;
+    drop(state);
     answer
 }

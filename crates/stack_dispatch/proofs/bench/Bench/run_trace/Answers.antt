@@ -23,17 +23,17 @@ returns-clause-not_missed g c = λ said kept.
     run_meets c.args.self.config c.args.self.script
     (subst IsConfig (ap (λ (b : Benched). b.config) c.self.view_is) c.parts.ensures.rules)
     (subst (λ (b : Benched). IsScript b.config b.script) c.self.view_is c.self.invariant.script_is)
-    g.R.Recorder c.args.recorder.now c.run_told.new.recorder c.run_told.result
+    g.R.Recorder c.args.recorder.now c.run_told-run.new.recorder c.run_told-run.result
     (ran_on g.R.Recorder c.args.self c.self.inside.config c.parts.result.now c.self.inside.script c.parts-2.result.now
-    c.args.recorder.now c.run_told.new.recorder c.run_told.result c.parts.ensures.same c.parts-2.ensures.same
-    c.self.view_is c.run_told.ensures.ran) said kept
+    c.args.recorder.now c.run_told-run.new.recorder c.run_told-run.result c.parts.ensures.same c.parts-2.ensures.same
+    c.self.view_is c.run_told-run.ensures.ran) said kept
 
 pub returns-clause-bounded : goal.returns-clause-bounded
 returns-clause-bounded g c =
     run_bounded c.args.self.config c.args.self.script
     (subst IsConfig (ap (λ (b : Benched). b.config) c.self.view_is) c.parts.ensures.rules)
     (subst (λ (b : Benched). IsScript b.config b.script) c.self.view_is c.self.invariant.script_is)
-    g.R.Recorder c.args.recorder.now c.run_told.new.recorder c.run_told.result
+    g.R.Recorder c.args.recorder.now c.run_told-run.new.recorder c.run_told-run.result
     (ran_on g.R.Recorder c.args.self c.self.inside.config c.parts.result.now c.self.inside.script c.parts-2.result.now
-    c.args.recorder.now c.run_told.new.recorder c.run_told.result c.parts.ensures.same c.parts-2.ensures.same
-    c.self.view_is c.run_told.ensures.ran)
+    c.args.recorder.now c.run_told-run.new.recorder c.run_told-run.result c.parts.ensures.same c.parts-2.ensures.same
+    c.self.view_is c.run_told-run.ensures.ran)
