@@ -10,10 +10,8 @@ use tt_base::{Declared, Memory, Names};
 pub(crate) fn put_bytes(text: &mut Vec<u8>, bytes: &[u8]) -> Result<(), Memory>
     ensures { OnOk result (text.new.items ≡ text.old.items ++ bytes.now) }
 {
-    match text.extend_from_slice(bytes) {
-        Ok(()) => Ok(()),
-        Err(_) => Err(Memory),
-    }
+    text.extend_from_slice(bytes)?;
+    Ok(())
 }
 
 /// Appends a number in decimal.

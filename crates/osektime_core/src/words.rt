@@ -58,12 +58,8 @@ impl Words {
         ensures ok { OnOk result (self.new ≡ self.old ++ word.now ∷ []) }
         ensures err { OnErr result (self.new ≡ self.old) }
     {
-        let Ok(copy) = word.to_vec(self.alloc) else {
-            return Err(Memory);
-        };
-        if self.words.push(copy).is_err() {
-            return Err(Memory);
-        }
+        let copy = word.to_vec(self.alloc)?;
+        self.words.push(copy)?;
         Ok(())
     }
 

@@ -23,9 +23,7 @@ fn put_offsets<T: Row>(rows: &[T], offsets: &mut Vec<u64>) -> Result<(), Memory>
     ensures { OnOk result (offsets.new.items ≡ offsets.old.items ++ map T.at rows.now) }
 {
     for row in rows {
-        if offsets.push(row.offset()).is_err() {
-            return Err(Memory);
-        }
+        offsets.push(row.offset())?;
     }
     Ok(())
 }
@@ -35,8 +33,8 @@ fn put_deadlines(rows: &[Activation], offsets: &mut Vec<u64>) -> Result<(), Memo
     ensures { OnOk result (offsets.new.items ≡ offsets.old.items ++ stringent_deadlines rows.now) }
 {
     for row in rows {
-        if row.stringent && offsets.push(row.deadline).is_err() {
-            return Err(Memory);
+        if row.stringent {
+            offsets.push(row.deadline)?;
         }
     }
     Ok(())
@@ -121,13 +119,11 @@ impl Checks {
         ensures ends { OnOk result (self.new.ends.items
             ≡ self.old.ends.items ++ cond (is_round_end point) (entry ∷ []) []) }
     {
-        let wanting = match point {
-            Point::At(offset) => self.due.push(Check { offset, entry }).is_err(),
-            Point::RoundEnd => self.ends.push(entry).is_err(),
-        };
-        if wanting || self.points.push(point).is_err() {
-            return Err(Memory);
+        match point {
+            Point::At(offset) => self.due.push(Check { offset, entry })?,
+            Point::RoundEnd => self.ends.push(entry)?,
         }
+        self.points.push(point)?;
         Ok(())
     }
 
@@ -162,9 +158,7 @@ impl Checks {
             ≡ entries_due is_round_end mode.now) }
     {
         let mut checks = Checks::by_entry(alloc, mode)?;
-        match checks.due.sort_by_key(|check| check.offset) {
-            Ok(()) => Ok(checks),
-            Err(_) => Err(Memory),
-        }
+        checks.due.sort_by_key(|check| check.offset)?;
+        Ok(checks)
     }
 }

@@ -104,9 +104,7 @@ impl CheckedMode<'_> {
         while let Some(offset) = self.next_offset(places) {
             let after = self.places_after(offset);
             let due = due_between(places, after);
-            if points.push(ExpiryPoint { offset, due }).is_err() {
-                return Err(Memory);
-            }
+            points.push(ExpiryPoint { offset, due })?;
             places = after;
         }
         Ok(points)

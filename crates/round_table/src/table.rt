@@ -58,15 +58,6 @@ impl Model for Table {
         }) t.points.items t.checks.items t.end t.expiry.items };
 }
 
-fn copied<T: Copy>(alloc: Global, items: &[T]) -> Result<Vec<T>, Memory>
-    ensures { IfOk result (λ copy. copy.items ≡ items.now) }
-{
-    match Vec::from_slice(alloc, items) {
-        Ok(copy) => Ok(copy),
-        Err(_) => Err(Memory),
-    }
-}
-
 /// What is due at an offset where nothing is: empty ranges at these places of the lists of checks
 /// and enables.
 fn nothing_before(check: usize, enable: usize) -> Due
@@ -87,14 +78,10 @@ fn entries_then(alloc: Global, checks: &[Check], ends: &[usize]) -> Result<Vec<u
 {
     let mut entries = Vec::new(alloc);
     for check in checks {
-        if entries.push(check.entry).is_err() {
-            return Err(Memory);
-        }
+        entries.push(check.entry)?;
     }
-    match entries.extend_from_slice(ends) {
-        Ok(()) => Ok(entries),
-        Err(_) => Err(Memory),
-    }
+    entries.extend_from_slice(ends)?;
+    Ok(entries)
 }
 
 impl Table {
@@ -108,8 +95,8 @@ impl Table {
         let checked = CheckedMode { mode, checks: due };
         let expiry = checked.expiry_points(alloc)?;
         Ok(Table {
-            activations: copied(alloc, mode.activations.as_slice())?,
-            enables: copied(alloc, mode.enables.as_slice())?,
+            activations: Vec::from_slice(alloc, mode.activations.as_slice())?,
+            enables: Vec::from_slice(alloc, mode.enables.as_slice())?,
             limit,
             checks: entries_then(alloc, due, &checks.ends)?,
             end: due.len(),

@@ -11,34 +11,16 @@ use osek_idle::Osek;
 use round_end::RoundState;
 use std::alloc::Global;
 use task_machine::Env;
-use tt_base::{Memory, Series, Tick};
+use tt_base::{copy_lists, Memory, Series};
 use tt_stack::{DeclaredWords, TtStack};
 use tt_world::{Arrivals, Config, ScriptParts};
-
-/// A copy of a list of numbers.
-fn copy_numbers(alloc: Global, numbers: &[u64]) -> Result<Series<u64>, Memory>
-    ensures { IfOk result (λ copy. copy ≡ numbers.now) }
-{
-    Ok(Series::from_vec(Vec::from_slice(alloc, numbers)?))
-}
-
-/// A copy of the ticks of some sources.
-fn copy_ticks(alloc: Global, lists: &[Series<Tick>]) -> Result<Series<Series<Tick>>, Memory>
-    ensures { IfOk result (λ copy. copy ≡ lists.now) }
-{
-    let mut copy = Series::new(alloc);
-    for list in lists {
-        copy.push(copy_numbers(alloc, list.as_slice())?)?;
-    }
-    Ok(copy)
-}
 
 /// The same arrivals.
 fn copy_arrivals(alloc: Global, arrivals: &Arrivals) -> Result<Arrivals, Memory>
     ensures { IfOk result (λ copy. copy ≡ arrivals.now) }
 {
-    let isrs = copy_ticks(alloc, arrivals.isrs.as_slice())?;
-    let oisrs = copy_ticks(alloc, arrivals.oisrs.as_slice())?;
+    let isrs = copy_lists(alloc, arrivals.isrs.as_slice())?;
+    let oisrs = copy_lists(alloc, arrivals.oisrs.as_slice())?;
     Ok(Arrivals { isrs, oisrs })
 }
 
@@ -49,7 +31,7 @@ impl State {
         ensures { IfOk result (λ state. state ≡ first_state config.now script.now) }
     {
         let parts = config.parts();
-        let times = copy_numbers(alloc, script.times.as_slice())?;
+        let times = Series::copy_of(alloc, script.times.as_slice())?;
         let arrivals = copy_arrivals(alloc, &script.arrivals)?;
         let words = DeclaredWords::new(alloc, parts, script.start)?;
         let codes = codes_of(alloc, parts)?;

@@ -41,10 +41,8 @@ impl Cursors {
     pub fn new(alloc: Global, demands: usize) -> Result<Cursors, Memory>
         ensures { IfOk result (λ cursors. cursors ≡ replicate demands 0) }
     {
-        match vec![in alloc; 0; demands] {
-            Ok(used) => Ok(Cursors { used }),
-            Err(_) => Err(Memory),
-        }
+        let used = vec![in alloc; 0; demands]?;
+        Ok(Cursors { used })
     }
 
     /// How many values were used, by demand.

@@ -35,20 +35,16 @@ impl Vars {
         ensures ok { OnOk result (self.new ≡ self.old ++ value ∷ []) }
         ensures err { OnErr result (self.new ≡ self.old) }
     {
-        match self.values.push(value) {
-            Ok(()) => Ok(()),
-            Err(_) => Err(Memory),
-        }
+        self.values.push(value)?;
+        Ok(())
     }
 
     /// A copy of the variables.
     pub fn copy(&self, alloc: Global) -> Result<Vars, Memory>
         ensures { IfOk result (λ vars. vars ≡ self.now) }
     {
-        match Vec::from_slice(alloc, self.as_slice()) {
-            Ok(values) => Ok(Vars { values }),
-            Err(_) => Err(Memory),
-        }
+        let values = Vec::from_slice(alloc, self.as_slice())?;
+        Ok(Vars { values })
     }
 
     /// The values in order.

@@ -6,8 +6,8 @@ ghost use Rattle.task_machine.specs.Stored.{Store};
 
 use std::alloc::Global;
 use std::marker::Model;
-use task_lang::{Cursors, Demand, Demands, Values, Vars};
-use tt_base::{Memory, Series, VarNo};
+use task_lang::{Cursors, Demands, Values, Vars};
+use tt_base::{copy_lists, Memory, Series, VarNo};
 
 /// The variables, the demands, the values that the script gives for them, and how many of each
 /// were used.
@@ -49,8 +49,8 @@ impl Env {
     {
         let copy = vars.copy(alloc)?;
         let cursors = Cursors::new(alloc, demands.len())?;
-        let demands = copy_demands(alloc, demands.as_slice())?;
-        let values = copy_values(alloc, values.as_slice())?;
+        let demands = Series::copy_of(alloc, demands.as_slice())?;
+        let values = copy_lists(alloc, values.as_slice())?;
         Ok(Env {
             vars: copy,
             cursors,
@@ -72,26 +72,4 @@ impl Env {
     {
         self.vars.assign(var, value);
     }
-}
-
-fn copy_demands(alloc: Global, demands: &[Demand]) -> Result<Demands, Memory>
-    ensures { IfOk result (λ copy. copy ≡ demands.now) }
-{
-    Ok(Series::from_vec(Vec::from_slice(alloc, demands)?))
-}
-
-fn copy_values(alloc: Global, values: &[Series<u64>]) -> Result<Values, Memory>
-    ensures { IfOk result (λ copy. copy ≡ values.now) }
-{
-    let mut copy = Series::new(alloc);
-    for list in values {
-        copy.push(copy_numbers(alloc, list.as_slice())?)?;
-    }
-    Ok(copy)
-}
-
-fn copy_numbers(alloc: Global, numbers: &[u64]) -> Result<Series<u64>, Memory>
-    ensures { IfOk result (λ copy. copy ≡ numbers.now) }
-{
-    Ok(Series::from_vec(Vec::from_slice(alloc, numbers)?))
 }

@@ -90,6 +90,15 @@ impl<T> Series<T> {
     }
 }
 
+impl<T: Copy> Series<T> {
+    /// A list with a copy of each of these items.
+    pub fn copy_of(alloc: Global, items: &[T]) -> Result<Series<T>, Memory>
+        ensures { IfOk result (λ copy. copy ≡ items.now) }
+    {
+        Ok(Series::from_vec(Vec::from_slice(alloc, items)?))
+    }
+}
+
 impl<T: Drop> Series<T> {
     /// Appends an item. When out of memory, the list is unchanged and the item is given up.
     pub fn push(&mut self, item: T) -> Result<(), Memory>
@@ -116,4 +125,18 @@ impl<T: Drop> Series<T> {
     {
         self.items.clear();
     }
+}
+
+/// A list with a copy of each of these lists.
+pub fn copy_lists<T: Copy>(
+    alloc: Global,
+    lists: &[Series<T>],
+) -> Result<Series<Series<T>>, Memory>
+    ensures { IfOk result (λ copy. copy ≡ lists.now) }
+{
+    let mut copy = Series::new(alloc);
+    for list in lists {
+        copy.push(Series::copy_of(alloc, list.as_slice())?)?;
+    }
+    Ok(copy)
 }

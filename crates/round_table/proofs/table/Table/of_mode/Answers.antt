@@ -18,8 +18,8 @@ invariant_of-result c =
     let table : TableRows = record { mode = mode; limit = c.args.limit } in
     let due = c.as_slice-due.result.now in
     let are = subst (AreChecks mode) (sym c.as_slice-due.ensures.value) c.in_ok-checks.ensures.due in
-    kept (copied mode _ _ c.args.limit (c.in_ok-copied.ensures ∙ c.as_slice.ensures)
-    (c.in_ok-copied-2.ensures ∙ c.as_slice-2.ensures))
+    kept (copied mode _ _ c.args.limit (c.in_ok-from_slice.ensures.items ∙ c.as_slice.ensures)
+    (c.in_ok-from_slice-2.ensures.items ∙ c.as_slice-2.ensures))
     (record {
       rows = c.requires;
       points_are = c.in_ok-checks.ensures.points;
