@@ -1,4 +1,4 @@
-pub mod Lengths
+pub mod FirstBytes
 pub mod TermLaws
 pub mod Found
 pub mod Complete

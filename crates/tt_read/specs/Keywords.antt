@@ -1,5 +1,5 @@
 -- The words of the language, and how each is spelled.
-use Rattle.std.specs.Prelude.{ℕ, List, [], ◌∷◌, Option, codes, find}
+use Rattle.std.specs.Prelude.{ℕ, ◌==◌, Bool, false, List, [], ◌∷◌, Option, codes, filter, find}
 use Rattle.std.specs.Str.{bytes_eq}
 use Rattle.tt_read.specs.declared.keyword.Keyword.{Keyword}
 use Rattle.tt_read.specs.declared.keyword.Keyword.TheVariants as k
@@ -58,3 +58,12 @@ keyword_among words text = find (λ keyword. bytes_eq text (keyword_text keyword
 -- a text as a word of the language
 unfoldable pub keyword_of : List ℕ → Option Keyword
 keyword_of text = find (λ keyword. bytes_eq text (keyword_text keyword)) keywords
+
+-- a text begins with this byte
+abbrev pub begins_with : ℕ → List ℕ → Bool
+begins_with first [] = false
+begins_with first (byte ∷ bytes) = first == byte
+
+-- the words of the language with a first byte
+unfoldable pub keywords_with : ℕ → List Keyword
+keywords_with first = filter (λ keyword. begins_with first (keyword_text keyword)) keywords

@@ -1,7 +1,7 @@
 //! The words of the language.
 
 ghost use Rattle.std.specs.Prelude.{◌≡◌, [], ◌∷◌};
-ghost use Rattle.tt_read.specs.Keywords.{keyword_among, keyword_of, keyword_text};
+ghost use Rattle.tt_read.specs.Keywords.{keyword_among, keyword_of, keyword_text, keywords_with};
 
 /// A word of the language: the first word of a row, or one between its fields.
 #[derive(Clone, Copy)]
@@ -46,18 +46,14 @@ pub enum Keyword {
 }
 
 impl Keyword {
-    /// A text as a word of the language. It is looked for among those of its length.
-    #[tactic(auto, using(crate::proofs::Lengths::keyword_lengths))]
+    /// A text as a word of the language. It is looked for among those with its first byte.
+    #[tactic(auto, using(crate::proofs::FirstBytes::found_by_first), unfolding(crate::specs::Keywords::keyword_of))]
     pub fn new(text: &[u8]) -> Option<Keyword>
         ensures { result ≡ keyword_of text.now }
     {
-        match text.len() {
-            0..=2 => of_one_or_two(text),
-            3 => of_three(text),
-            4 => of_four(text),
-            5 => of_five(text),
-            6 => of_six(text),
-            _ => of_more(text),
+        match text.split_first() {
+            Some((first, _)) => among(with_first(*first), text),
+            None => None,
         }
     }
 
@@ -107,105 +103,58 @@ impl Keyword {
     }
 }
 
-/// A text of at most two bytes as a word of the language.
-#[tactic(auto, unfolding(crate::specs::Keywords::keyword_among))]
-fn of_one_or_two(text: &[u8]) -> Option<Keyword>
-    ensures { result ≡ keyword_among (Keyword.One ∷ Keyword.At ∷ Keyword.If ∷ []) text.now }
+/// The words of the language with a first byte.
+#[tactic(auto, unfolding(crate::specs::Keywords::keywords_with))]
+fn with_first(first: u8) -> &'static [Keyword]
+    ensures { result.now ≡ keywords_with first }
 {
-    match text {
-        b"1" => Some(Keyword::One),
-        b"at" => Some(Keyword::At),
-        b"if" => Some(Keyword::If),
-        _ => None,
+    match first {
+        b'a' => &[
+            Keyword::Adjust,
+            Keyword::Auto,
+            Keyword::At,
+            Keyword::Activate,
+            Keyword::Arrive,
+        ],
+        b'c' => &[Keyword::Chain],
+        b'd' => &[Keyword::Demand],
+        b'e' => &[Keyword::Error, Keyword::Enable, Keyword::Else, Keyword::End],
+        b'h' => &[Keyword::Hook],
+        b'i' => &[Keyword::Isr, Keyword::If],
+        b'm' => &[Keyword::Mode],
+        b'n' => &[Keyword::Nonstringent],
+        b'o' => &[
+            Keyword::Osektime,
+            Keyword::Osek,
+            Keyword::Oisr,
+            Keyword::Out,
+        ],
+        b'r' => &[Keyword::Round, Keyword::Rounds, Keyword::Repeat],
+        b's' => &[
+            Keyword::Shutdown,
+            Keyword::Stringent,
+            Keyword::Start,
+            Keyword::Set,
+            Keyword::Switch,
+            Keyword::Sync,
+        ],
+        b't' => &[
+            Keyword::Task,
+            Keyword::Time,
+            Keyword::Take,
+            Keyword::Terminate,
+        ],
+        b'v' => &[Keyword::Var, Keyword::Value],
+        b'w' => &[Keyword::Work],
+        b'1' => &[Keyword::One],
+        _ => &[],
     }
 }
 
-/// A text of three bytes as a word of the language.
+/// The first of these words with this text.
 #[tactic(auto, unfolding(crate::specs::Keywords::keyword_among))]
-fn of_three(text: &[u8]) -> Option<Keyword>
-    ensures { result ≡ keyword_among (Keyword.Var ∷ Keyword.Isr ∷ Keyword.Set ∷ Keyword.End ∷
-        Keyword.Out ∷ []) text.now }
+fn among(words: &[Keyword], text: &[u8]) -> Option<Keyword>
+    ensures { result ≡ keyword_among words.now text.now }
 {
-    match text {
-        b"var" => Some(Keyword::Var),
-        b"isr" => Some(Keyword::Isr),
-        b"set" => Some(Keyword::Set),
-        b"end" => Some(Keyword::End),
-        b"out" => Some(Keyword::Out),
-        _ => None,
-    }
-}
-
-/// A text of four bytes as a word of the language.
-#[tactic(auto, unfolding(crate::specs::Keywords::keyword_among))]
-fn of_four(text: &[u8]) -> Option<Keyword>
-    ensures { result ≡ keyword_among (Keyword.Mode ∷ Keyword.Task ∷ Keyword.Osek ∷ Keyword.Auto
-        ∷ Keyword.Oisr ∷ Keyword.Hook ∷ Keyword.Time ∷ Keyword.Work ∷ Keyword.Take ∷
-        Keyword.Else ∷ Keyword.Sync ∷ []) text.now }
-{
-    match text {
-        b"mode" => Some(Keyword::Mode),
-        b"task" => Some(Keyword::Task),
-        b"osek" => Some(Keyword::Osek),
-        b"auto" => Some(Keyword::Auto),
-        b"oisr" => Some(Keyword::Oisr),
-        b"hook" => Some(Keyword::Hook),
-        b"time" => Some(Keyword::Time),
-        b"work" => Some(Keyword::Work),
-        b"take" => Some(Keyword::Take),
-        b"else" => Some(Keyword::Else),
-        b"sync" => Some(Keyword::Sync),
-        _ => None,
-    }
-}
-
-/// A text of five bytes as a word of the language.
-#[tactic(auto, unfolding(crate::specs::Keywords::keyword_among))]
-fn of_five(text: &[u8]) -> Option<Keyword>
-    ensures { result ≡ keyword_among (Keyword.Round ∷ Keyword.Error ∷ Keyword.Start ∷
-        Keyword.Value ∷ Keyword.Chain ∷ []) text.now }
-{
-    match text {
-        b"round" => Some(Keyword::Round),
-        b"error" => Some(Keyword::Error),
-        b"start" => Some(Keyword::Start),
-        b"value" => Some(Keyword::Value),
-        b"chain" => Some(Keyword::Chain),
-        _ => None,
-    }
-}
-
-/// A text of six bytes as a word of the language.
-#[tactic(auto, unfolding(crate::specs::Keywords::keyword_among))]
-fn of_six(text: &[u8]) -> Option<Keyword>
-    ensures { result ≡ keyword_among (Keyword.Adjust ∷ Keyword.Demand ∷ Keyword.Enable ∷
-        Keyword.Rounds ∷ Keyword.Arrive ∷ Keyword.Repeat ∷ Keyword.Switch ∷ []) text.now }
-{
-    match text {
-        b"adjust" => Some(Keyword::Adjust),
-        b"demand" => Some(Keyword::Demand),
-        b"enable" => Some(Keyword::Enable),
-        b"rounds" => Some(Keyword::Rounds),
-        b"arrive" => Some(Keyword::Arrive),
-        b"repeat" => Some(Keyword::Repeat),
-        b"switch" => Some(Keyword::Switch),
-        _ => None,
-    }
-}
-
-/// A text of seven bytes or more as a word of the language.
-#[tactic(auto, unfolding(crate::specs::Keywords::keyword_among))]
-fn of_more(text: &[u8]) -> Option<Keyword>
-    ensures { result ≡ keyword_among (Keyword.Osektime ∷ Keyword.Shutdown ∷ Keyword.Activate ∷
-        Keyword.Stringent ∷ Keyword.Nonstringent ∷ Keyword.Terminate ∷ []) text.now }
-{
-    match text {
-        b"osektime" => Some(Keyword::Osektime),
-        b"shutdown" => Some(Keyword::Shutdown),
-        b"activate" => Some(Keyword::Activate),
-        b"stringent" => Some(Keyword::Stringent),
-        b"nonstringent" => Some(Keyword::Nonstringent),
-        b"terminate" => Some(Keyword::Terminate),
-        _ => None,
-    }
+    words.iter().copied().find(|word| text == word.text())
 }
