@@ -43,13 +43,13 @@ keyword_text k.Sync = codes "sync"
 keyword_text k.Chain = codes "chain"
 keyword_text k.Terminate = codes "terminate"
 
+-- all of them, those that a document can have most often first
 abbrev pub keywords : List Keyword
 keywords =
-    k.Osektime ∷ k.One ∷ k.Round ∷ k.Adjust ∷ k.Mode ∷ k.Var ∷ k.Demand ∷ k.Task ∷ k.Isr ∷ k.Osek ∷ k.Auto ∷ k.Oisr
-    ∷ k.Hook ∷ k.Error
-    ∷ k.Shutdown ∷ k.At ∷ k.Activate ∷ k.Stringent ∷ k.Nonstringent ∷ k.Enable ∷ k.Start ∷ k.Rounds ∷ k.Value
-    ∷ k.Arrive ∷ k.Time ∷ k.Work
-    ∷ k.Take ∷ k.Set ∷ k.If ∷ k.Else ∷ k.Repeat ∷ k.End ∷ k.Out ∷ k.Switch ∷ k.Sync ∷ k.Chain ∷ k.Terminate ∷ []
+    k.Terminate ∷ k.Chain ∷ k.Sync ∷ k.Switch ∷ k.Out ∷ k.End ∷ k.Repeat ∷ k.Else ∷ k.If ∷ k.Set ∷ k.Take ∷ k.Work
+    ∷ k.Time ∷ k.Arrive ∷ k.Value ∷ k.Rounds ∷ k.Start ∷ k.Enable ∷ k.Nonstringent ∷ k.Stringent ∷ k.Activate ∷ k.At
+    ∷ k.Shutdown ∷ k.Error ∷ k.Hook ∷ k.Oisr ∷ k.Auto ∷ k.Osek ∷ k.Isr ∷ k.Task ∷ k.Demand ∷ k.Var ∷ k.Mode
+    ∷ k.Adjust ∷ k.Round ∷ k.One ∷ k.Osektime ∷ []
 
 -- a text as one of these words
 unfoldable pub keyword_among : List Keyword → List ℕ → Option Keyword
