@@ -153,6 +153,34 @@ begins_short_row k.Shutdown = true
 begins_short_row k.Terminate = true
 begins_short_row _ = false
 
+-- the row of a first word and a number
+abbrev pub row_of_number : Keyword → ℕ → Option Row
+row_of_number k.Round length = Some (r.Round length)
+row_of_number k.Adjust most = Some (r.Adjust most)
+row_of_number k.Rounds count = Some (r.Rounds count)
+row_of_number k.Time global = Some (r.Time global)
+row_of_number k.Work ticks = Some (r.Work ticks)
+row_of_number k.Repeat turns = Some (r.Repeat turns)
+row_of_number _ number = None
+
+-- the row of a first word and a name
+abbrev pub row_of_name : Keyword → List ℕ → Option Row
+row_of_name k.Mode mode = Some (r.Mode mode)
+row_of_name k.Start mode = Some (r.Start mode)
+row_of_name k.Take demand = Some (r.Take demand)
+row_of_name k.Switch mode = Some (r.Switch mode)
+row_of_name k.Activate task = Some (r.Activate task)
+row_of_name k.Chain task = Some (r.Chain task)
+row_of_name _ name = None
+
+-- the row of a first word, a name and a number
+abbrev pub row_of_name_and_number : Keyword → List ℕ → ℕ → Option Row
+row_of_name_and_number k.Task task stack = Some (r.Task task stack)
+row_of_name_and_number k.Oisr oisr priority = Some (r.Oisr oisr priority)
+row_of_name_and_number k.Value demand value = Some (r.Value demand value)
+row_of_name_and_number k.Arrive source tick = Some (r.Arrive source tick)
+row_of_name_and_number _ name number = None
+
 -- what may follow the first word of a row without an expression
 abbrev pub plain_after : Keyword → Reader
 plain_after k.Osektime = keyword after_one

@@ -2,7 +2,7 @@
 #![tactic(auto, unfolding(crate::specs::Reading::one, crate::specs::Reading::fail, crate::specs::Reading::stop, crate::specs::Reading::stop_or, crate::specs::Reading::expression))]
 
 ghost use Rattle.std.specs.Prelude.{◌≡◌, ◌≤◌, false, length, IfOk};
-ghost use Rattle.tt_read.specs.Reading.{begins_short_row, finish, stop, plain_after, after_first, after_one, after_priority, after_hook, after_mode, after_deadline, row_by_words};
+ghost use Rattle.tt_read.specs.Reading.{begins_short_row, row_of_number, row_of_name, row_of_name_and_number, finish, stop, plain_after, after_first, after_one, after_priority, after_hook, after_mode, after_deadline, row_by_words};
 
 use crate::cursor::Cursor;
 use crate::expression::expression;
@@ -11,19 +11,62 @@ use std::alloc::Global;
 use tt_base::{Memory, Name};
 use tt_rows::Row;
 
+/// The row of a first word and a number, if they make one.
+fn numbered_row(first: Keyword, number: u64) -> Option<Row>
+    ensures { result ≡ row_of_number first number }
+{
+    match first {
+        Keyword::Round => Some(Row::Round(number)),
+        Keyword::Adjust => Some(Row::Adjust(number)),
+        Keyword::Rounds => Some(Row::Rounds(number)),
+        Keyword::Time => Some(Row::Time(number)),
+        Keyword::Work => Some(Row::Work(number)),
+        Keyword::Repeat => Some(Row::Repeat(number)),
+        _ => None,
+    }
+}
+
+/// The row of a first word and a name, if they make one.
+fn named_row(first: Keyword, name: Name) -> Option<Row>
+    ensures { result ≡ row_of_name first name }
+{
+    match first {
+        Keyword::Mode => Some(Row::Mode(name)),
+        Keyword::Start => Some(Row::Start(name)),
+        Keyword::Take => Some(Row::Take(name)),
+        Keyword::Switch => Some(Row::Switch(name)),
+        Keyword::Activate => Some(Row::Activate(name)),
+        Keyword::Chain => Some(Row::Chain(name)),
+        _ => None,
+    }
+}
+
+/// The row of a first word, a name and a number, if they make one.
+fn counted_row(first: Keyword, name: Name, number: u64) -> Option<Row>
+    ensures { result ≡ row_of_name_and_number first name number }
+{
+    match first {
+        Keyword::Task => Some(Row::Task(name, number)),
+        Keyword::Oisr => Some(Row::Oisr(name, number)),
+        Keyword::Value => Some(Row::Value(name, number)),
+        Keyword::Arrive => Some(Row::Arrive(name, number)),
+        _ => None,
+    }
+}
+
 /// The row of a first word and at most one number after it, if they make one. Words may be left
 /// after the fields.
 fn plain_row(first: Keyword, words: &mut Cursor) -> Option<Row>
     ensures { finish result words.new ≡ plain_after first words.old }
 {
     match first {
-        Keyword::Round => Some(Row::Round(words.number()?)),
-        Keyword::Adjust => Some(Row::Adjust(words.number()?)),
-        Keyword::Rounds => Some(Row::Rounds(words.number()?)),
-        Keyword::Time => Some(Row::Time(words.number()?)),
-        Keyword::Work => Some(Row::Work(words.number()?)),
+        Keyword::Round
+        | Keyword::Adjust
+        | Keyword::Rounds
+        | Keyword::Time
+        | Keyword::Work
+        | Keyword::Repeat => numbered_row(first, words.number()?),
         Keyword::Else => Some(Row::Else),
-        Keyword::Repeat => Some(Row::Repeat(words.number()?)),
         Keyword::End => Some(Row::End),
         Keyword::Sync => Some(Row::Sync),
         Keyword::Shutdown => Some(Row::Shutdown),
@@ -40,23 +83,22 @@ fn row_of_fields(first: Keyword, words: &mut Cursor) -> Option<Row>
     ensures { finish result words.new ≡ plain_after first words.old }
 {
     match first {
+        Keyword::Mode
+        | Keyword::Start
+        | Keyword::Take
+        | Keyword::Switch
+        | Keyword::Activate
+        | Keyword::Chain => named_row(first, words.name()?),
+        Keyword::Task | Keyword::Oisr | Keyword::Value | Keyword::Arrive => {
+            counted_row(first, words.name()?, words.number()?)
+        }
         Keyword::Osektime => header(words),
-        Keyword::Mode => Some(Row::Mode(words.name()?)),
-        Keyword::Var => Some(Row::Var(words.name()?, words.integer()?)),
-        Keyword::Demand => Some(Row::Demand(words.name()?, words.number()?, words.number()?)),
-        Keyword::Task => Some(Row::Task(words.name()?, words.number()?)),
+        Keyword::Var => var(words),
+        Keyword::Demand => demand(words),
         Keyword::Isr => isr(words),
         Keyword::Osek => osek(words),
-        Keyword::Oisr => Some(Row::Oisr(words.name()?, words.number()?)),
         Keyword::Hook => hook(words),
         Keyword::At => at(words),
-        Keyword::Start => Some(Row::Start(words.name()?)),
-        Keyword::Value => Some(Row::Value(words.name()?, words.number()?)),
-        Keyword::Arrive => Some(Row::Arrive(words.name()?, words.number()?)),
-        Keyword::Take => Some(Row::Take(words.name()?)),
-        Keyword::Switch => Some(Row::Switch(words.name()?)),
-        Keyword::Activate => Some(Row::Activate(words.name()?)),
-        Keyword::Chain => Some(Row::Chain(words.name()?)),
         _ => None,
     }
 }
@@ -68,6 +110,18 @@ fn header(words: &mut Cursor) -> Option<Row>
         Keyword::One => Some(Row::Header),
         _ => None,
     }
+}
+
+fn var(words: &mut Cursor) -> Option<Row>
+    ensures { finish result words.new ≡ after_first Keyword.Var words.old }
+{
+    Some(Row::Var(words.name()?, words.integer()?))
+}
+
+fn demand(words: &mut Cursor) -> Option<Row>
+    ensures { finish result words.new ≡ after_first Keyword.Demand words.old }
+{
+    Some(Row::Demand(words.name()?, words.number()?, words.number()?))
 }
 
 fn isr(words: &mut Cursor) -> Option<Row>
