@@ -1,4 +1,5 @@
-use Rattle.std.proofs.Common.{rules, ap, ◌∙◌}
+use Rattle.std.proofs.Common.{rules, ap, take, length-take-le, ◌∙◌}
+use Rattle.std.proofs.KnownBytes.{Consumes-kept}
 use Rattle.tt_io.proofs.Giving.{gives_more}
 use Rattle.tt_io.proofs.Taking.{counted_more, taken_more}
 use Rattle.tt_io.specs.Count.{counted}
@@ -17,3 +18,29 @@ loop-taken-preserved g c =
           (search rules) so_far.gave c.in-Got.ensures.got_gave;
       never_falls = search rules;
     }
+
+pub returns-in-Failed-clause-broken_taken : goal.returns-in-Failed-clause-broken_taken
+returns-in-Failed-clause-broken_taken g c =
+    let so_far = c.loop-taken.invariant in
+    let taken = take c.loop-taken.taken c.loop-taken.buf in (
+      c.loop-taken.taken,
+      search rules,
+      (
+        taken,
+        length-take-le c.loop-taken.taken c.loop-taken.buf so_far.within,
+        Consumes-kept _ _ _ taken so_far.bytes c.in-Failed.ensures.failed.0,
+      ),
+      c.in-Failed.ensures.failed.1 ∙ so_far.count,
+    )
+
+pub returns-in-Failed-clause-broken_gave : goal.returns-in-Failed-clause-broken_gave
+returns-in-Failed-clause-broken_gave g c =
+    let so_far = c.loop-taken.invariant in (
+      c.loop-taken.taken,
+      search rules,
+      (
+        take c.loop-taken.taken c.loop-taken.buf,
+        length-take-le c.loop-taken.taken c.loop-taken.buf so_far.within,
+        c.in-Failed.ensures.failed_gave ∙ so_far.gave,
+      ),
+    )
