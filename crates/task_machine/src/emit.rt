@@ -2,7 +2,7 @@
 
 ghost use Rattle.std.specs.Prelude.{◌≡◌, ◌≤◌, ◌+◌, ◌++◌, ◌∷◌, [], IsTrue, IfOk, OnOk};
 ghost use Rattle.task_lang.specs.Limits.{IsNestedInLimit, AreNumbersInRange, nesting_of, nesting_in, each_of, is_number_in_range};
-ghost use Rattle.task_machine.specs.Layout.{expr_code, if_code, stmt_code, body_code};
+ghost use Rattle.task_machine.specs.Layout.{expr_code, if_code, repeat_code, stmt_code, body_code};
 
 use crate::codes::Code;
 use crate::instr::{Instr, Term};
@@ -50,10 +50,7 @@ fn emit_stmt(alloc: Global, code: &mut Vec<Instr>, stmt: &Stmt, depth: u8) -> Re
     match stmt {
         Stmt::Work(ticks) => put(code, Instr::Work(*ticks)),
         Stmt::Take(demand) => put(code, Instr::Take(*demand)),
-        Stmt::Set(var, expr) => {
-            put(code, Instr::Set(*var))?;
-            emit_expr(code, expr)
-        }
+        Stmt::Set(var, expr) => put_with(code, Instr::Set(*var), expr),
         Stmt::If(expr, first, second) => {
             let first = body_instrs(alloc, first.as_slice(), depth)?;
             let second = body_instrs(alloc, second.as_slice(), depth)?;
@@ -61,14 +58,9 @@ fn emit_stmt(alloc: Global, code: &mut Vec<Instr>, stmt: &Stmt, depth: u8) -> Re
         }
         Stmt::Repeat(turns, inner) => {
             let inner = body_instrs(alloc, inner.as_slice(), depth + 1)?;
-            put(code, Instr::Repeat(depth, *turns as u16))?;
-            extend(code, &inner)?;
-            put(code, Instr::Again(depth, inner.len()))
+            emit_repeat(code, depth, *turns as u16, &inner)
         }
-        Stmt::Out(expr) => {
-            put(code, Instr::Out)?;
-            emit_expr(code, expr)
-        }
+        Stmt::Out(expr) => put_with(code, Instr::Out, expr),
         Stmt::Service(call) => put(code, Instr::Service(*call)),
     }
 }
@@ -87,6 +79,28 @@ fn emit_if(
     extend(code, first)?;
     put(code, Instr::Skip(second.len()))?;
     extend(code, second)
+}
+
+fn emit_repeat(
+    code: &mut Vec<Instr>,
+    counter: u8,
+    turns: u16,
+    inner: &[Instr],
+) -> Result<(), AllocError>
+    ensures { OnOk result (code.new.items
+        ≡ code.old.items ++ repeat_code counter turns inner.now) }
+{
+    put(code, Instr::Repeat(counter, turns))?;
+    extend(code, inner)?;
+    put(code, Instr::Again(counter, inner.len()))
+}
+
+/// An instruction, and the terms of its expression after it.
+fn put_with(code: &mut Vec<Instr>, instr: Instr, expr: &Expr) -> Result<(), AllocError>
+    ensures { OnOk result (code.new.items ≡ code.old.items ++ instr ∷ expr_code expr.now) }
+{
+    put(code, instr)?;
+    emit_expr(code, expr)
 }
 
 fn emit_expr(code: &mut Vec<Instr>, expr: &Expr) -> Result<(), AllocError>
