@@ -1,4 +1,5 @@
 mod Digits
+mod Fronts
 mod NameTexts
 pub mod Recording
 pub mod Sending
