@@ -8,6 +8,7 @@ ghost use Rattle.tt_rows.specs.Sound.{AreSound};
 ghost use Rattle.tt_read.specs.Document.{document_of, canonical_text};
 ghost use Rattle.tt_config.specs.Broken.{broken_rule};
 ghost use Rattle.tt_world.specs.ScriptRules.{IsScript};
+ghost use Rattle.osektime_core.specs.TableText.{table_text};
 ghost use Rattle.osektime_core.specs.Answer.{Responds, check_answer, check_status, checked_answer, document_answer, load_answer, rows_answer, rule_answer, table_answer, trace_answer};
 ghost use Rattle.osektime_core.specs.Moves.{CountsMoves, bench_of, document_run, rows_run};
 ghost use Rattle.osektime_core.specs.NoMiss.{AreSchedulable, IsSchedulable, NoneIsMissed};
@@ -84,6 +85,18 @@ fn load<O: Sink, L: Ledger>(
     }
 }
 
+/// Writes the dispatcher tables of a configuration.
+fn write_table<O: Sink>(alloc: Global, config: &Config, output: &mut O) -> Status
+    ensures { Responds (record { text = table_text config.now; status = Status.Done }) result
+        (output.new ≡ output.old)
+        (O.written output.old) (O.written output.new) (O.faults output.old) (O.faults output.new) }
+{
+    match table_text(alloc, config) {
+        Ok(text) => put_text(&text, Status::Done, output),
+        Err(_) => Status::Memory,
+    }
+}
+
 /// Writes the dispatcher tables of rows that meet the rules. Else says which rule they break.
 fn table<O: Sink>(alloc: Global, rows: Rows, output: &mut O) -> Status
     requires { AreSound rows }
@@ -91,10 +104,11 @@ fn table<O: Sink>(alloc: Global, rows: Rows, output: &mut O) -> Status
         (O.written output.old) (O.written output.new) (O.faults output.old) (O.faults output.new) }
 {
     match accept(alloc, rows) {
-        Ok(accepted) => match table_text(alloc, &accepted.config) {
-            Ok(text) => put_text(&text, Status::Done, output),
-            Err(_) => Status::Memory,
-        },
+        Ok(accepted) => {
+            let status = write_table(alloc, &accepted.config, output);
+            drop(accepted);
+            status
+        }
         Err(AcceptFault::Memory) => Status::Memory,
         Err(AcceptFault::Rule { number, line }) => put_rule(alloc, number, line, output),
     }
@@ -133,7 +147,11 @@ fn check<O: Sink>(alloc: Global, rows: Rows, output: &mut O) -> Status
         (O.written output.old) (O.written output.new) (O.faults output.old) (O.faults output.new) }
 {
     match accept(alloc, rows) {
-        Ok(accepted) => write_check(alloc, &accepted.config, &accepted.script, output),
+        Ok(accepted) => {
+            let status = write_check(alloc, &accepted.config, &accepted.script, output);
+            drop(accepted);
+            status
+        }
         Err(AcceptFault::Memory) => Status::Memory,
         Err(AcceptFault::Rule { number, line }) => put_rule(alloc, number, line, output),
     }

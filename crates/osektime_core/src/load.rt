@@ -131,6 +131,8 @@ pub(crate) fn write_load<O: Sink, L: Ledger>(
         steps.old steps.new }
 {
     let Ok(outline) = outline_of(alloc, &config) else {
+        drop(config);
+        drop(script);
         return Status::Memory;
     };
     let Ok(report) = run_report(alloc, config, script, steps) else {
