@@ -6,7 +6,6 @@ use Rattle.tt_io.specs.Gave.{GivesAll}
 use Rattle.tt_read.specs.Document.{document_of}
 use Rattle.osektime_core.specs.declared.words.Command.{Command}
 use Rattle.osektime_core.specs.declared.status.Status.{Status}
-use Rattle.osektime_core.specs.declared.status.Status.TheVariants.{Missed}
 use Rattle.osektime_core.specs.Words.{command_of}
 use Rattle.osektime_core.specs.Answer.{IsReading, document_answer}
 use Rattle.osektime_core.specs.Heard.{Heard, stop_after}

@@ -7,11 +7,14 @@ use Rattle.tt_io.specs.Gave.{GivesAll, bytes_in}
 use Rattle.tt_read.specs.Document.{document_of}
 use Rattle.stack_dispatch.specs.Reports.{Benched}
 use Rattle.osektime_core.specs.declared.words.Command.{Command}
+use Rattle.osektime_core.specs.declared.words.Command.TheVariants.{Bulk}
 use Rattle.osektime_core.specs.declared.status.Status.{Status}
 use Rattle.osektime_core.specs.Answer.{document_for}
 use Rattle.osektime_core.specs.InBounds.{OnRun}
 use Rattle.osektime_core.specs.Moves.{CountsMoves, document_run, run_of, words_run}
 use Rattle.osektime_core.specs.Words.{command_of}
+use Rattle.osektime_core.specs.BulkText.{bulk_text}
+use Rattle.osektime_core.proofs.Told.{bulk_bytes}
 
 -- nothing was counted, and no run has ended
 pub none_counted : (run : Option Benched) (status : Status) (before after : ℕ) → ((P : Type 0) → OnRun status P)
@@ -56,3 +59,12 @@ pub heard_counted : (words : List (List ℕ)) (command : Command) (gave now : Li
 heard_counted words command gave now bytes given status before after is fits taken all counted =
     subst (λ b. CountsMoves (run_of words b) status before after) (same_bytes gave now bytes given taken all)
     (subst (λ r. CountsMoves r status before after) (sym (run_is words command bytes is fits)) counted)
+
+-- what was counted for the document of `bulk`
+pub bulk_counted : (words : List (List ℕ)) (left : Option (List ℕ)) (number : ℕ) (bytes : List ℕ) (status : Status)
+    (before after : ℕ) → command_of words ≡ Some (Bulk number) → bytes ≡ bulk_text number → length bytes ≤ 2 ^ 20
+    → CountsMoves (document_run (Bulk number) (document_of bytes)) status before after
+    → IfSome (document_for words left) (λ b. CountsMoves (run_of words b) status before after)
+bulk_counted words left number bytes status before after is text fits counted =
+    bulk_bytes (λ b. CountsMoves (run_of words b) status before after) words left number bytes is text
+    (subst (λ r. CountsMoves r status before after) (sym (run_is words (Bulk number) bytes is fits)) counted)

@@ -9,6 +9,7 @@ use Rattle.osektime_core.specs.declared.words.Command.TheVariants.{Trace, Show, 
 use Rattle.osektime_core.specs.declared.status.Status.TheVariants.{Done, Memory, Usage, ReadFault, WriteFault, TooLong, Form, Rule, CheckNo, Missed, Shut}
 use Rattle.osektime_core.specs.declared.status.Status.{Status}
 use Rattle.osektime_core.specs.Words.{command_of}
+use Rattle.osektime_core.specs.BulkText.{bulk_text}
 use Rattle.osektime_core.specs.Answer.{Answer, IsReading, OnAnswered, answer_of, bytes_answer, command_answer, document_answer, document_by, document_for, silent, words_answer}
 
 -- ---- commands that read
@@ -102,3 +103,20 @@ pub told_answer : (P : Answer → Type 0) (words : List (List ℕ)) (command : C
 told_answer P words command left after bytes is reads all fits fact =
     told_bytes (λ b. P (answer_of words b)) words command left after bytes is reads all
     (subst P (sym (answer_is words command bytes is reads fits)) fact)
+
+-- ---- facts of the document of `bulk`
+
+-- a fact of its bytes
+pub bulk_bytes : (Q : List ℕ → Type 0) (words : List (List ℕ)) (left : Option (List ℕ)) (number : ℕ) (bytes : List ℕ)
+    → command_of words ≡ Some (Bulk number) → bytes ≡ bulk_text number → Q bytes → IfSome (document_for words left) Q
+bulk_bytes Q words left number bytes is text fact =
+    subst (λ (c : Option Command). IfSome (document_by c left) Q) (sym is) (subst Q text fact)
+
+-- a fact of the answer to it
+pub bulk_answer : (P : Answer → Type 0) (words : List (List ℕ)) (left : Option (List ℕ)) (number : ℕ) (bytes : List ℕ)
+    → command_of words ≡ Some (Bulk number) → bytes ≡ bulk_text number → length bytes ≤ 2 ^ 20
+    → P (document_answer (Bulk number) (document_of bytes)) → IfSome (document_for words left) (λ b. P (answer_of words b))
+bulk_answer P words left number bytes is text fits fact =
+    let same : answer_of words bytes ≡ document_answer (Bulk number) (document_of bytes) =
+    ap (λ c. words_answer c bytes) is ∙ ap (bytes_answer (Bulk number)) (sym text) ∙ few_bytes (Bulk number) bytes fits in
+    bulk_bytes (λ b. P (answer_of words b)) words left number bytes is text (subst P (sym same) fact)

@@ -1,4 +1,4 @@
-use Rattle.std.proofs.Common.{◌≡◌, ◌≢◌, refl, sym, subst, ◌∙◌}
+use Rattle.std.proofs.Common.{◌≡◌, ◌≢◌, Some, refl, ap, sym, subst, ◌∙◌}
 use Rattle.std.specs.Io.KnownBytes.{Appends}
 use Rattle.tt_io.specs.Known.{AppendsPart}
 use Rattle.osektime_core.specs.InBounds.{IsLoading}
@@ -8,10 +8,11 @@ use Rattle.osektime_core.specs.declared.words.Command.TheVariants.{Bulk}
 use Rattle.osektime_core.specs.Answer.{IsReading, IsAnswered}
 use Rattle.osektime_core.specs.Moves.{run_of}
 use Rattle.osektime_core.proofs.InBounds.{told_in_bounds}
-use Rattle.osektime_core.proofs.Moves.{heard_counted, none_counted, none_for}
+use Rattle.osektime_core.proofs.Moves.{bulk_counted, heard_counted, none_counted, none_for}
 use Rattle.osektime_core.specs.Heard.{Heard}
 use Rattle.osektime_core.proofs.Hearing.{heard_whole}
-use Rattle.osektime_core.proofs.Told.{is_reading, on_answered, told_answer, told_bytes, was_taken}
+use Rattle.osektime_core.proofs.Told.{bulk_answer, bulk_bytes, is_reading, on_answered, told_answer, told_bytes, was_taken}
+use Rattle.osektime_core.specs.Words.{command_of}
 use Rattle.osektime_core.proofs.command.serve.Given.{Over}
 use Rattle.osektime_core.proofs.command.serve.Goals as goal
 
@@ -79,6 +80,46 @@ returns-clause-no_miss g c =
     (g.I.Source.left c.take_all.new.source) c.in-Ok-take_all.bytes.items
     (sym c.command.ensures ∙ c.in-Some.is) (is_reading c.in-Some.command c.in_default-command.not-Bulk)
     c.in-Ok-take_all.ensures.bytes c.respond-2.ensures.no_miss
+
+-- the words name `bulk`
+bulk_is : (g : Over) (c : goal.After-respond g) → command_of c.args.words.now ≡ Some (Bulk c.in-Bulk.number)
+bulk_is g c = sym c.command.ensures ∙ c.in-Some.is ∙ ap Some c.in-Bulk.is
+
+-- the whole answer to the document of `bulk`, where one was given
+bulk_given : (g : Over) (c : goal.After-respond g) → c.respond.result ≢ Memory → c.respond.result ≢ WriteFault
+    → IsAnswered c.args.words.now (g.I.Source.left c.args.input.now) c.respond.result
+    (g.O.Sink.written c.args.output.now) (g.O.Sink.written c.respond.new.output)
+bulk_given g c ample whole =
+    bulk_answer (λ a. (c.respond.result ≡ a.status)
+    × Appends (g.O.Sink.written c.args.output.now) (g.O.Sink.written c.respond.new.output) a.text)
+    c.args.words.now (g.I.Source.left c.args.input.now) c.in-Bulk.number c.in-Ok.bytes.items (bulk_is g c)
+    c.in-Ok.ensures.document c.in-Ok.ensures.short (c.respond.ensures.responds.answered ample whole)
+
+pub returns-in-Bulk-clause-complete : goal.returns-in-Bulk-clause-complete
+returns-in-Bulk-clause-complete g c = λ calm_input calm_output ample.
+    bulk_given g c ample (λ fault. calm_output (c.respond.ensures.responds.cause fault))
+
+pub returns-in-Bulk-clause-answered : goal.returns-in-Bulk-clause-answered
+returns-in-Bulk-clause-answered g c = on_answered c.respond.result _ (bulk_given g c)
+
+pub returns-in-Bulk-clause-write_fault : goal.returns-in-Bulk-clause-write_fault
+returns-in-Bulk-clause-write_fault g c = λ fault. (
+  c.respond.ensures.responds.cause fault,
+  bulk_answer (λ a. AppendsPart (g.O.Sink.written c.args.output.now) (g.O.Sink.written c.respond.new.output) a.text)
+      c.args.words.now (g.I.Source.left c.args.input.now) c.in-Bulk.number c.in-Ok.bytes.items (bulk_is g c)
+      c.in-Ok.ensures.document c.in-Ok.ensures.short (c.respond.ensures.responds.part fault),
+)
+
+pub returns-in-Bulk-clause-no_miss : goal.returns-in-Bulk-clause-no_miss
+returns-in-Bulk-clause-no_miss g c =
+    bulk_bytes (λ bytes. IsSchedulable bytes → NoneIsMissed c.respond.result) c.args.words.now
+    (g.I.Source.left c.args.input.now) c.in-Bulk.number c.in-Ok.bytes.items (bulk_is g c)
+    c.in-Ok.ensures.document c.respond.ensures.no_miss
+
+pub returns-in-Bulk-clause-moves : goal.returns-in-Bulk-clause-moves
+returns-in-Bulk-clause-moves g c =
+    bulk_counted c.args.words.now (g.I.Source.left c.args.input.now) c.in-Bulk.number c.in-Ok.bytes.items
+    c.respond.result _ _ (bulk_is g c) c.in-Ok.ensures.document c.in-Ok.ensures.short c.respond.ensures.moves
 
 pub returns-in-Bulk-clause-bounded : goal.returns-in-Bulk-clause-bounded
 returns-in-Bulk-clause-bounded g c = λ loads.
