@@ -14,7 +14,7 @@ use Rattle.osektime_core.specs.InBounds.{OnRun}
 use Rattle.osektime_core.specs.Moves.{CountsMoves, document_run, run_of, words_run}
 use Rattle.osektime_core.specs.Words.{command_of}
 use Rattle.osektime_core.specs.BulkText.{bulk_text}
-use Rattle.osektime_core.proofs.Told.{bulk_bytes}
+use Rattle.osektime_core.proofs.Told.{any_bytes, bulk_bytes}
 
 -- nothing was counted, and no run has ended
 pub none_counted : (run : Option Benched) (status : Status) (before after : ℕ) → ((P : Type 0) → OnRun status P)
@@ -26,11 +26,9 @@ none_counted (Some b) status before after no_end same = (omega (arith, same), no
 pub none_for : (words : List (List ℕ)) (left : Option (List ℕ)) (status : Status) (before after : ℕ)
     → ((P : Type 0) → OnRun status P) → after ≡ before
     → IfSome (document_for words left) (λ bytes. CountsMoves (run_of words bytes) status before after)
-none_for words left status before after no_end same = all (document_for words left)
-  where
-    all : (document : Option (List ℕ)) → IfSome document (λ bytes. CountsMoves (run_of words bytes) status before after)
-    all None = tt
-    all (Some bytes) = none_counted (run_of words bytes) status before after no_end same
+none_for words left status before after no_end same =
+    any_bytes (λ bytes. CountsMoves (run_of words bytes) status before after) (document_for words left)
+    (λ bytes. none_counted (run_of words bytes) status before after no_end same)
 
 -- what the words run of few bytes is what their command runs of the document
 pub run_is : (words : List (List ℕ)) (command : Command) (bytes : List ℕ) → command_of words ≡ Some command

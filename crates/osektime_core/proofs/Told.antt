@@ -8,6 +8,7 @@ use Rattle.osektime_core.specs.declared.words.Command.{Command}
 use Rattle.osektime_core.specs.declared.words.Command.TheVariants.{Trace, Show, Table, Check, Load, Bulk}
 use Rattle.osektime_core.specs.declared.status.Status.TheVariants.{Done, Memory, Usage, ReadFault, WriteFault, TooLong, Form, Rule, CheckNo, Missed, Shut}
 use Rattle.osektime_core.specs.declared.status.Status.{Status}
+use Rattle.osektime_core.specs.NoMiss.{IsSchedulable, NoneIsMissed}
 use Rattle.osektime_core.specs.Words.{command_of}
 use Rattle.osektime_core.specs.BulkText.{bulk_text}
 use Rattle.osektime_core.specs.Answer.{Answer, IsReading, OnAnswered, answer_of, bytes_answer, command_answer, document_answer, document_by, document_for, silent, words_answer}
@@ -81,6 +82,17 @@ answer_is words command bytes is reads fits =
     ap (λ c. words_answer c bytes) is ∙ reading_answer command bytes reads ∙ few_bytes command bytes fits
 
 -- ---- facts of the bytes that are known
+
+-- a fact of any bytes
+pub any_bytes : (Q : List ℕ → Type 0) (document : Option (List ℕ)) → ((bytes : List ℕ) → Q bytes) → IfSome document Q
+any_bytes Q None fact = tt
+any_bytes Q (Some bytes) fact = fact bytes
+
+-- a status that says of no deadline that it was missed
+pub none_missed : (words : List (List ℕ)) (left : Option (List ℕ)) (status : Status) → NoneIsMissed status
+    → IfSome (document_for words left) (λ bytes. IsSchedulable bytes → NoneIsMissed status)
+none_missed words left status none =
+    any_bytes (λ bytes. IsSchedulable bytes → NoneIsMissed status) (document_for words left) (λ bytes schedulable. none)
 
 -- a fact of the bytes that a command has read
 pub told_bytes : (Q : List ℕ → Type 0) (words : List (List ℕ)) (command : Command) (left after : Option (List ℕ))

@@ -11,7 +11,7 @@ use Rattle.osektime_core.proofs.InBounds.{told_in_bounds}
 use Rattle.osektime_core.proofs.Moves.{bulk_counted, heard_counted, none_counted, none_for}
 use Rattle.osektime_core.specs.Heard.{Heard}
 use Rattle.osektime_core.proofs.Hearing.{heard_whole}
-use Rattle.osektime_core.proofs.Told.{bulk_answer, bulk_bytes, is_reading, on_answered, told_answer, told_bytes, was_taken}
+use Rattle.osektime_core.proofs.Told.{bulk_answer, bulk_bytes, is_reading, none_missed, on_answered, told_answer, told_bytes, was_taken}
 use Rattle.osektime_core.specs.Words.{command_of}
 use Rattle.osektime_core.proofs.command.serve.Given.{Over}
 use Rattle.osektime_core.proofs.command.serve.Goals as goal
@@ -134,6 +134,10 @@ returns-clause-bounded g c = λ loads.
     c.in-Ok-take_all.ensures.fits
     (λ ample whole. c.respond-2.ensures.responds.answered ample whole)
 
+pub returns-in-Err-Memory-clause-no_miss : goal.returns-in-Err-Memory-clause-no_miss
+returns-in-Err-Memory-clause-no_miss g c =
+    none_missed c.args.words.now (g.I.Source.left c.args.input.now) Memory (λ task tick is. cc is)
+
 pub returns-in-Err-Memory-clause-moves : goal.returns-in-Err-Memory-clause-moves
 returns-in-Err-Memory-clause-moves g c =
     none_for c.args.words.now (g.I.Source.left c.args.input.now) Memory _ _ (λ P. tt) refl
@@ -142,6 +146,10 @@ pub returns-in-Err-Memory-clause-heard_moves : goal.returns-in-Err-Memory-clause
 returns-in-Err-Memory-clause-heard_moves g c =
     λ reads bytes all. none_counted (run_of c.args.words.now bytes) Memory _ _ (λ P. tt) refl
 
+pub returns-in-Err-ReadFault-clause-no_miss : goal.returns-in-Err-ReadFault-clause-no_miss
+returns-in-Err-ReadFault-clause-no_miss g c =
+    none_missed c.args.words.now (g.I.Source.left c.args.input.now) ReadFault (λ task tick is. cc is)
+
 pub returns-in-Err-ReadFault-clause-moves : goal.returns-in-Err-ReadFault-clause-moves
 returns-in-Err-ReadFault-clause-moves g c =
     none_for c.args.words.now (g.I.Source.left c.args.input.now) ReadFault _ _ (λ P. tt) refl
@@ -149,6 +157,10 @@ returns-in-Err-ReadFault-clause-moves g c =
 pub returns-in-Err-ReadFault-clause-heard_moves : goal.returns-in-Err-ReadFault-clause-heard_moves
 returns-in-Err-ReadFault-clause-heard_moves g c =
     λ reads bytes all. none_counted (run_of c.args.words.now bytes) ReadFault _ _ (λ P. tt) refl
+
+pub returns-in-Err-TooLong-clause-no_miss : goal.returns-in-Err-TooLong-clause-no_miss
+returns-in-Err-TooLong-clause-no_miss g c =
+    none_missed c.args.words.now (g.I.Source.left c.args.input.now) TooLong (λ task tick is. cc is)
 
 pub returns-in-Err-TooLong-clause-moves : goal.returns-in-Err-TooLong-clause-moves
 returns-in-Err-TooLong-clause-moves g c =
