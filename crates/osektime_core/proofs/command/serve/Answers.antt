@@ -3,7 +3,7 @@ use Rattle.std.specs.Io.KnownBytes.{Appends}
 use Rattle.tt_io.specs.Known.{AppendsPart}
 use Rattle.osektime_core.specs.InBounds.{IsLoading}
 use Rattle.osektime_core.specs.NoMiss.{IsSchedulable, NoneIsMissed}
-use Rattle.osektime_core.specs.declared.status.Status.TheVariants.{Memory, ReadFault, TooLong, WriteFault}
+use Rattle.osektime_core.specs.declared.status.Status.TheVariants.{Memory, ReadFault, TooLong, Usage, WriteFault}
 use Rattle.osektime_core.specs.declared.words.Command.TheVariants.{Bulk}
 use Rattle.osektime_core.specs.Answer.{IsReading, IsAnswered}
 use Rattle.osektime_core.specs.Moves.{run_of}
@@ -176,3 +176,19 @@ returns-clause-heard_moves g c = λ reads bytes all.
     (g.I.Source.gave c.take_all.new.source) c.in-Ok-take_all.bytes.items bytes c.respond-2.result _ _
     (sym c.command.ensures ∙ c.in-Some.is) c.in-Ok-take_all.ensures.fits c.in-Ok-take_all.ensures.gave all
     c.respond-2.ensures.moves
+
+pub returns-in_default-clause-no_miss : goal.returns-in_default-clause-no_miss
+returns-in_default-clause-no_miss g c =
+    none_missed c.args.words.now (g.I.Source.left c.args.input.now) Usage (λ task tick is. cc is)
+
+pub returns-in_default-clause-moves : goal.returns-in_default-clause-moves
+returns-in_default-clause-moves g c =
+    none_for c.args.words.now (g.I.Source.left c.args.input.now) Usage _ _ (λ P. tt) refl
+
+pub returns-in_default-bulk_document-clause-no_miss : goal.returns-in_default-bulk_document-clause-no_miss
+returns-in_default-bulk_document-clause-no_miss g c =
+    none_missed c.args.words.now (g.I.Source.left c.args.input.now) Memory (λ task tick is. cc is)
+
+pub returns-in_default-bulk_document-clause-moves : goal.returns-in_default-bulk_document-clause-moves
+returns-in_default-bulk_document-clause-moves g c =
+    none_for c.args.words.now (g.I.Source.left c.args.input.now) Memory _ _ (λ P. tt) refl
