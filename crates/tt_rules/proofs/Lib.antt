@@ -5,7 +5,6 @@ pub mod Pairs
 pub mod Sorting
 pub mod ActivationLemmas
 pub mod ArrivalLemmas
-pub mod Table
 pub mod SoundDeclarations
 pub mod SoundTables
 pub mod EachBody

@@ -1,12 +1,12 @@
 -- The least of some lines.
-use Rattle.std.proofs.Common.{◌≡◌, ℕ, zero, suc, ◌+◌, ◌-◌, ◌<◌, ◌≤◌, min, cond, Bool, true, false, List, [], ◌∷◌, ◌++◌, length, map, drop, get_or, Option, Some, None, refl, ap, sym, ◌∙◌, arith}
+use Rattle.std.proofs.Common.{◌≡◌, ℕ, zero, suc, ◌+◌, ◌-◌, ◌<◌, ◌≤◌, min, cond, Bool, true, false, List, [], ◌∷◌, ◌++◌, length, drop, get_or, Option, Some, None, refl, ap, sym, ◌∙◌, arith}
 use Rattle.std.proofs.lemmas.Grind.{flat_map-append}
 use Rattle.std.proofs.lemmas.List.{at_drop_more, at_drop_all, append-nil}
 use Rattle.std.specs.Prelude.{flat_map}
 use Rattle.tt_rules.specs.Order.{below}
 use Rattle.tt_parts.specs.declared.located.At.{At}
-use Rattle.tt_rules.specs.Lines.{line_unless, lesser_of, least_of, least_line}
-use Rattle.tt_rules.specs.Shapes.{Shape, breaking, breaking_one, filter_at, lines}
+use Rattle.tt_rules.specs.Lines.{line_unless, lesser_of, least_line}
+use Rattle.tt_rules.specs.Shapes.{filter_at, lines}
 
 pub lesser_of-none : (a : Option ℕ) → lesser_of a None ≡ a
 lesser_of-none None = refl
@@ -19,11 +19,11 @@ lesser_of-assoc (Some a) (Some b) None = refl
 lesser_of-assoc (Some a) (Some b) (Some c) = let same : min (min a b) c ≡ min a (min b c) = omega arith in ap Some same
 
 -- the least of two lists of lines is the lesser of the least of each
-pub least_line-append : (lines others : List ℕ)
+pub least_line_append : (lines others : List ℕ)
     → least_line (lines ++ others) ≡ lesser_of (least_line lines) (least_line others)
-least_line-append [] others = refl
-least_line-append (line ∷ lines) others =
-    ap (lesser_of (Some line)) (least_line-append lines others)
+least_line_append [] others = refl
+least_line_append (line ∷ lines) others =
+    ap (lesser_of (Some line)) (least_line_append lines others)
     ∙ sym (lesser_of-assoc (Some line) (least_line lines) (least_line others))
 
 -- a line that a test adds
@@ -47,16 +47,6 @@ least-step test line found found' lines is =
 pub at_element : {A : Type 0} {Y : Type 0} (f : List A → Y) (xs : List A) (k : ℕ) (x : A) → k < length xs
     → x ≡ get_or xs k x → f (drop k xs) ≡ f (x ∷ drop (k + 1) xs)
 at_element f xs k x lt is = at_drop_more f xs k x lt ∙ ap (λ r. f (r ∷ drop (k + 1) xs)) (sym is)
-
--- ---- a rule of some shapes
-
--- the least line that breaks one of some shapes is the least of those of each
-pub least-each : {A : Type 0} (first : ℕ) (rules : List (Shape A)) (xs : List (At A))
-    → least_line (breaking_one first rules xs) ≡ least_of (map (λ rule. least_line (breaking first rule xs)) rules)
-least-each first [] xs = refl
-least-each first (rule ∷ rules) xs =
-    least_line-append (breaking first rule xs) (breaking_one first rules xs)
-    ∙ ap (lesser_of (least_line (breaking first rule xs))) (least-each first rules xs)
 
 -- ---- the parts that pass a test
 
@@ -120,7 +110,7 @@ pub flat-step : {A : Type 0} (f : A → List ℕ) (xs : List A) (k : ℕ) (x : A
 flat-step f xs k x lt found more all is before =
     ap (λ o. lesser_of o (least_line (flat_map f (drop (k + 1) xs)))) is
     ∙ lesser_of-assoc found (least_line (f (get_or xs k x))) (least_line (flat_map f (drop (k + 1) xs)))
-    ∙ ap (lesser_of found) (sym (least_line-append (f (get_or xs k x)) (flat_map f (drop (k + 1) xs))))
+    ∙ ap (lesser_of found) (sym (least_line_append (f (get_or xs k x)) (flat_map f (drop (k + 1) xs))))
     ∙ sym (ap (λ ls. lesser_of found (least_line ls)) (at_drop_more (flat_map f) xs k x lt)) ∙ before
 
 pub flat-end : {A : Type 0} (f : A → List ℕ) (xs : List A) (k : ℕ) → length xs ≤ k → (found all : Option ℕ)
@@ -133,7 +123,7 @@ flat-push : {A : Type 0} (f : A → List ℕ) (xs : List A) (x : A)
     → least_line (flat_map f (xs ++ x ∷ [])) ≡ lesser_of (least_line (flat_map f xs)) (least_line (f x))
 flat-push f xs x =
     ap least_line (flat_map-append f xs (x ∷ []) ∙ ap (λ ls. flat_map f xs ++ ls) (append-nil (f x)))
-    ∙ least_line-append (flat_map f xs) (f x)
+    ∙ least_line_append (flat_map f xs) (f x)
 
 -- the next of the numbers below one
 pub below-step : (f : ℕ → List ℕ) (n : ℕ) (found more : Option ℕ) → found ≡ least_line (flat_map f (below n))

@@ -1,11 +1,11 @@
 //! The least line that breaks a rule of each shape. Lines need not ascend.
 
-ghost use Rattle.std.specs.Prelude.{◌≡◌, ◌||◌, Bool, not, IfOk, OnOk, Option};
+ghost use Rattle.std.specs.Prelude.{◌≡◌, ◌||◌, Bool, not, [], drop, IfOk, OnOk, Option};
 ghost use Rattle.std.specs.HashSet.{contains};
 ghost use Rattle.tt_rows.specs.declared.row.Row.{Row};
 ghost use Rattle.tt_rules.specs.Document.{rows_at};
 ghost use Rattle.tt_rules.specs.Lines.{least_line};
-ghost use Rattle.tt_rules.specs.Shapes.{Answers, breaking, AtMost, Differ, Every, Present, filter_at, is_key, passes_key, same_by};
+ghost use Rattle.tt_rules.specs.Shapes.{Answers, failing, filter_at, is_key, lines, missing, passes_key, repeating, same_by};
 
 use crate::least::{lesser, with_line_unless};
 use std::alloc::Global;
@@ -18,8 +18,8 @@ use tt_rows::{NumberedRow, Row};
 /// The least line of the parts that fail a test.
 pub(crate) fn failing<T, F: Fn(&T) -> bool>(parts: &[At<T>], test: F) -> Option<u32>
     requires callable { F.IsAlwaysCallable test }
-    ensures { (first : _) (passes : T → Bool) → Answers F.Fn test passes
-        → result ≡ least_line (breaking first (Every passes) parts.now) }
+    ensures { (passes : T → Bool) → Answers F.Fn test passes
+        → result ≡ least_line (failing passes parts.now) }
 {
     let mut least = None;
     for at in parts {
@@ -31,8 +31,8 @@ pub(crate) fn failing<T, F: Fn(&T) -> bool>(parts: &[At<T>], test: F) -> Option<
 /// The least line of the rows that fail a test.
 pub(crate) fn failing_row<F: Fn(&Row) -> bool>(rows: &[NumberedRow], test: F) -> Option<u32>
     requires callable { F.IsAlwaysCallable test }
-    ensures { (first : _) (passes : Row → Bool) → Answers F.Fn test passes
-        → result ≡ least_line (breaking first (Every passes) (rows_at rows.now)) }
+    ensures { (passes : Row → Bool) → Answers F.Fn test passes
+        → result ≡ least_line (failing passes (rows_at rows.now)) }
 {
     let mut least = None;
     for row in rows {
@@ -43,7 +43,7 @@ pub(crate) fn failing_row<F: Fn(&Row) -> bool>(rows: &[NumberedRow], test: F) ->
 
 /// The least line of the parts after the first n.
 pub(crate) fn past<T>(parts: &[At<T>], most: usize) -> Option<u32>
-    ensures { (first : _) → result ≡ least_line (breaking first (AtMost most) parts.now) }
+    ensures { result ≡ least_line (drop most (lines parts.now)) }
 {
     let mut least = None;
     let mut left = most;
@@ -60,8 +60,8 @@ pub(crate) fn past<T>(parts: &[At<T>], most: usize) -> Option<u32>
 /// The least line of the parts that pass a test, after the first n of them.
 pub(crate) fn past_of<T, F: Fn(&T) -> bool>(parts: &[At<T>], most: usize, test: F) -> Option<u32>
     requires callable { F.IsAlwaysCallable test }
-    ensures { (first : _) (passes : T → Bool) → Answers F.Fn test passes
-        → result ≡ least_line (breaking first (AtMost most) (filter_at passes parts.now)) }
+    ensures { (passes : T → Bool) → Answers F.Fn test passes
+        → result ≡ least_line (drop most (lines (filter_at passes parts.now))) }
 {
     let mut least = None;
     let mut left = most;
@@ -79,7 +79,7 @@ pub(crate) fn past_of<T, F: Fn(&T) -> bool>(parts: &[At<T>], most: usize, test: 
 
 /// The first line of the document where there is no part.
 pub(crate) fn missing<T>(parts: &[At<T>], first: u32) -> Option<u32>
-    ensures { result ≡ least_line (breaking first Present parts.now) }
+    ensures { result ≡ least_line (missing first parts.now) }
 {
     if parts.is_empty() { Some(first) } else { None }
 }
@@ -88,7 +88,7 @@ pub(crate) fn missing<T>(parts: &[At<T>], first: u32) -> Option<u32>
 pub(crate) fn missing_of<T, F: Fn(&T) -> bool>(parts: &[At<T>], first: u32, test: F) -> Option<u32>
     requires callable { F.IsAlwaysCallable test }
     ensures { (passes : T → Bool) → Answers F.Fn test passes
-        → result ≡ least_line (breaking first Present (filter_at passes parts.now)) }
+        → result ≡ least_line (missing first (filter_at passes parts.now)) }
 {
     for at in parts {
         if test(&at.part) {
@@ -120,8 +120,8 @@ pub(crate) fn repeating<T, K: Eq + Hash + Drop, F: Fn(&T) -> Option<K>>(
     key_of: F,
 ) -> Result<Option<u32>, Memory>
     requires callable { F.IsAlwaysCallable key_of }
-    ensures { IfOk result (λ line. (first : _) (key : T → Option K) → Answers F.Fn key_of key
-        → line ≡ least_line (breaking first (Differ (same_by K.eq key)) parts.now)) }
+    ensures { IfOk result (λ line. (key : T → Option K) → Answers F.Fn key_of key
+        → line ≡ least_line (repeating (same_by K.eq key) [] parts.now)) }
 {
     let mut seen = HashSet::new(alloc);
     let mut least = None;

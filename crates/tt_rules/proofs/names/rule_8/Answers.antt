@@ -4,7 +4,7 @@ use Rattle.tt_base.specs.declared.names.NameKind.TheVariants as Kind
 use Rattle.tt_rules.specs.Lines.{least_line, lesser_of}
 use Rattle.tt_rules.specs.Shapes.{Present, breaking, filter_at}
 use Rattle.tt_rules.specs.NameRules.{is_of_kind, kinds, lines_past}
-use Rattle.tt_rules.proofs.LineLemmas.{least_line-append, flat-step, flat-end}
+use Rattle.tt_rules.proofs.LineLemmas.{least_line_append, flat-step, flat-end}
 use Rattle.tt_rules.proofs.names.rule_8.Goals as goal
 
 pub loop-kind-init : goal.loop-kind-init
@@ -15,7 +15,7 @@ loop-kind-init c =
           (c.missing_of-found.ensures (is_of_kind Kind.Mode) (search rules)
           ∙ ap (λ xs. least_line (breaking d.first Present (filter_at (is_of_kind Kind.Mode) xs)))
           c.as_slice-names.ensures)
-          ∙ sym (least_line-append (breaking d.first Present (filter_at (is_of_kind Kind.Mode) d.names))
+          ∙ sym (least_line_append (breaking d.first Present (filter_at (is_of_kind Kind.Mode) d.names))
           (flat_map (lines_past d) kinds)),
     )
 

@@ -10,6 +10,6 @@ pub returns : goal.returns
 returns c =
     let xs = c.args.entries.now in
     let keys = c.in_ok-keys.keys in
-    c.failing.ensures 1 (is_apart keys.keys) (search rules)
+    c.failing.ensures (is_apart keys.keys) (search rules)
     ∙ ap least_line (failing-same (is_apart keys.keys) (is_clear comes_between (parts xs)) xs
     (apart-exactly keys xs c.in_ok-keys.ensures))

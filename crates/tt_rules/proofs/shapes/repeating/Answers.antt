@@ -67,7 +67,7 @@ loop-at-preserved g c = λ key answers.
     )
 
 pub returns : goal.returns
-returns g c = λ first key answers.
+returns g c = λ key answers.
     let before = c.loop-at.invariant key answers in
     sym (lesser_of-none c.loop-at.least)
     ∙ sym (ap (λ ls. lesser_of c.loop-at.least (least_line ls))

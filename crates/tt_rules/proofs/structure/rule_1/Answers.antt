@@ -16,6 +16,6 @@ headed rows rest first is header =
 
 pub returns-then-is_header : goal.returns-then-is_header
 returns-then-is_header c =
-    c.failing_row.ensures 1 (λ row. not (is_header row)) (search rules)
+    c.failing_row.ensures (λ row. not (is_header row)) (search rules)
     ∙ sym (ap least_line (headed c.args.rows.now c.in-Some.rest.now c.in-Some.first.now c.in-Some.ensures.cases.0
     (sym c.is_header.ensures ∙ c.if-is_header.true)))

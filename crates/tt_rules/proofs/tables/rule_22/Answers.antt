@@ -3,4 +3,4 @@ use Rattle.tt_rules.specs.TableRules.{source_of}
 use Rattle.tt_rules.proofs.tables.rule_22.Goals as goal
 
 pub returns : goal.returns
-returns c = c.in_ok-line.ensures 1 source_of (search rules)
+returns c = c.in_ok-line.ensures source_of (search rules)
