@@ -18,7 +18,7 @@ use Rattle.tt_rules.specs.Shapes.{Present, AtMost, breaking, filter_at, parts, s
 use Rattle.tt_rules.specs.RoundRules.{is_within, rule_4, rule_6, lines_4, lines_6}
 use Rattle.tt_rules.specs.NameRules.{is_of_kind, kinds, lines_7, lines_8, lines_past, most_of, rule_7}
 use Rattle.tt_rules.proofs.Each.{Pairs, each_from_all, none_from_each, each_weaker}
-use Rattle.tt_rules.proofs.Kept.{kept, kept_one, none_left, none_right, filter_at-parts}
+use Rattle.tt_rules.proofs.Kept.{kept, kept_one, none_of_both, filter_at-parts}
 use Rattle.tt_rules.proofs.Pairs.{pairs_differ}
 
 -- ---- the round
@@ -83,7 +83,7 @@ counted d kind =
 -- no line for any of some things
 each_none : {A : Type 0} (f : A → List ℕ) (xs : List A) → flat_map f xs ≡ [] → Each (λ x. f x ≡ []) xs
 each_none f [] is = tt
-each_none f (x ∷ xs) is = (none_left (f x) (flat_map f xs) is, each_none f xs (none_right (f x) (flat_map f xs) is))
+each_none f (x ∷ xs) is = ((none_of_both (f x) (flat_map f xs) is).0, each_none f xs ((none_of_both (f x) (flat_map f xs) is).1))
 
 of_kinds : (P : NameKind → Type 0) → Each P kinds → (kind : NameKind) → P kind
 of_kinds P each Kind.Mode = each.0
@@ -99,7 +99,7 @@ few : (d : Declarations) → lines_8 d ≡ [] → (kind : NameKind) → count_of
 few d is kind =
     let none = of_kinds (λ k. lines_past d k ≡ [])
     (each_none (lines_past d) kinds
-    (none_right (breaking d.first Present (filter_at (is_of_kind Kind.Mode) d.names)) _ is)) kind in
+    ((none_of_both (breaking d.first Present (filter_at (is_of_kind Kind.Mode) d.names)) _ is).1)) kind in
     let xs = filter_at (is_of_kind kind) d.names in
     subst (λ n. n ≤ most_of kind) (counted d kind)
     (leb-true (length (parts xs)) (most_of kind) (kept_one d.first (AtMost (most_of kind)) xs none))
@@ -109,7 +109,7 @@ some_mode d is =
     let xs = filter_at (is_of_kind Kind.Mode) d.names in
     subst (λ n. 1 ≤ n) (counted d Kind.Mode)
     (leb-true 1 (length (parts xs))
-    (kept_one d.first Present xs (none_left (breaking d.first Present xs) (flat_map (lines_past d) kinds) is)))
+    (kept_one d.first Present xs ((none_of_both (breaking d.first Present xs) (flat_map (lines_past d) kinds) is).0)))
 
 pub declarations_sound : (d : Declarations) → lines_4 d ≡ [] → lines_6 d ≡ [] → lines_7 d ≡ [] → lines_8 d ≡ []
     → AreDeclarationsSound d

@@ -19,7 +19,7 @@ use Rattle.tt_rules.specs.Laws.{AreTablesKept}
 use Rattle.tt_rules.specs.Order.{ascending, below}
 use Rattle.tt_rules.specs.TableRules.{is_enable_early, is_deadline, has_deadline, same_place, same_enable, comes_between, is_of, lines_of_mode}
 use Rattle.tt_rules.specs.Tables.{is_entry_known, activation_in, enable_in, is_earlier, is_enabled_earlier, mode_with}
-use Rattle.tt_rules.proofs.Kept.{kept_one, none_left, none_right, filter_at-parts}
+use Rattle.tt_rules.proofs.Kept.{kept_one, none_of_both, filter_at-parts}
 use Rattle.tt_rules.proofs.Each.{Pairs, each_always, each_weaker, each_both, each_from_all, all_from_each, pairs_weaker, pairs_both, each_flat_map, pairs_flat_map}
 use Rattle.tt_rules.proofs.Sorting.{each_ascending, pairs_ascending, length-ascending, InOrder, order_ascending}
 use Rattle.tt_rules.proofs.Pairs.{pairs_differ, pairs_clear}
@@ -293,8 +293,8 @@ module _ (c : ConfigParts) (modes : ℕ) (located : List (At Entry))
     both = sym (flat_map-append f (below n) (n ∷ []) ∙ ap (λ ls. flat_map f (below n) ++ ls) (append-nil (f n))) ∙ is
 
     by : (last : Bool) → (mode == n) ≡ last → (mode < n → flat_map f (below n) ≡ [] → f mode ≡ []) → f mode ≡ []
-    by true same rest = ap f (eqb-true mode n same) ∙ none_right (flat_map f (below n)) (f n) both
-    by false other rest = rest (grind (arith, nat_tests)) (none_left (flat_map f (below n)) (f n) both)
+    by true same rest = ap f (eqb-true mode n same) ∙ (none_of_both (flat_map f (below n)) (f n) both).1
+    by false other rest = rest (grind (arith, nat_tests)) ((none_of_both (flat_map f (below n)) (f n) both).0)
 
   pub mode_sound : (mode : ℕ) → mode < modes → IsMode c (mode_with xs mode)
   mode_sound mode lt =

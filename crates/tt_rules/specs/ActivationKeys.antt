@@ -7,7 +7,7 @@ use Rattle.std.specs.BTreeSet.{BTreeSet, contains}
 use Rattle.tt_parts.specs.declared.located.At.{At}
 use Rattle.tt_parts.specs.declared.entries.Entry.{Entry}
 use Rattle.tt_parts.specs.declared.entries.Entry.TheVariants as entry
-use Rattle.tt_rules.specs.Shapes.{is_key}
+use Rattle.tt_rules.specs.Shapes.{passes_key}
 
 -- the mode, the task and the offset of an activation
 abbrev pub Key : Type 0
@@ -24,7 +24,7 @@ key_cmp x y = ordering_then (ordering_then (nat_cmp x.0 y.0) (nat_cmp x.1 y.1)) 
 -- a set has exactly the keys of some entries
 abbrev pub HasKeys : BTreeSet Key → List (At Entry) → Type 0
 HasKeys set xs = (key : Key)
-    → contains key_cmp set key ≡ list_any (λ (x : At Entry). is_key (eq_by_cmp key_cmp) key (key_of x.part)) xs
+    → contains key_cmp set key ≡ list_any (λ (x : At Entry). passes_key (eq_by_cmp key_cmp key) (key_of x.part)) xs
 
 -- a key has the mode and the task of another, and an offset above that of the other and below a deadline
 abbrev pub comes_between_key : Key → ℕ → Key → Bool
