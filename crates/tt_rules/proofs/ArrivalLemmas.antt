@@ -1,10 +1,11 @@
 -- The latest arrival of each source decides whether an arrival is after all above of its source.
-use Rattle.std.proofs.Common.{◌≡◌, ℕ, ◌+◌, ◌<◌, ◌≤◌, Bool, true, false, not, List, [], ◌∷◌, ◌++◌, length, drop, get_or, Option, Some, None, refl, ap, sym, ◌∙◌, arith, if◌then◌else◌}
-use Rattle.std.proofs.lemmas.List.{append-nil, at_drop_all, at_drop_more}
+use Rattle.std.proofs.Common.{◌≡◌, ℕ, ◌+◌, ◌<◌, ◌≤◌, Bool, true, false, not, List, [], ◌∷◌, ◌++◌, length, drop, get_or, Option, Some, None, refl, ap, sym, ◌∙◌, arith}
+use Rattle.std.proofs.lemmas.List.{append-nil, at_drop_all}
 use Rattle.tt_parts.specs.declared.located.At.{At}
 use Rattle.tt_rules.specs.Lines.{least_line, lesser_of, line_unless}
-use Rattle.tt_rules.proofs.LineLemmas.{lesser_of-none, least-step}
-use Rattle.std.specs.Prelude.{◌||◌, ◌&&◌, nat_le, nat_lt}
+use Rattle.tt_rules.proofs.LineLemmas.{lesser_of-none, least-at}
+use Rattle.tt_rules.proofs.ActivationLemmas.{none_passes}
+use Rattle.std.specs.Prelude.{◌||◌, ◌&&◌, nat_le}
 use Rattle.std.specs.List.{list_any}
 use Rattle.std.proofs.lemmas.Bool.Decides.{nat_tests}
 use Rattle.tt_base.specs.declared.names.Declared.{Declared}
@@ -14,62 +15,38 @@ use Rattle.tt_rules.specs.Latest.{is_after, is_thing, latest_at, latest_in, late
 use Rattle.tt_rules.specs.Shapes.{is_new, repeating}
 
 -- one more arrival, of the same thing or of another
-late-step : (it : Bool) (tick other : ℕ) (latest : Option ℕ)
-    → ((it && nat_le tick other) || not (is_after tick latest)) ≡ not (is_after tick (latest_then it other latest))
-late-step false tick other latest = refl
-late-step true tick other None = grind (arith, nat_tests)
-late-step true tick other (Some latest) = by (nat_lt latest other) refl where
-  by : (after : Bool) → nat_lt latest other ≡ after
-      → (nat_le tick other || not (nat_lt latest tick))
-      ≡ not (is_after tick (if after then Some other else Some latest))
-  by true is = grind (arith, nat_tests)
-  by false is = grind (arith, nat_tests)
+late-step : (it : Bool) (tick other : ℕ) (latest : Option ℕ) (some : Bool) → is_after tick latest ≡ not some
+    → is_after tick (latest_then it other latest) ≡ not ((it && nat_le tick other) || some)
+late-step it tick other None some is = grind (arith, nat_tests)
+late-step it tick other (Some latest) some is = grind (arith, nat_tests)
 
--- an arrival of a source that is not after one above is not after the latest
-late : (tick : ℕ) (d : Declared) (above : List Arrival)
-    → list_any (λ (o : Arrival). is_same_source o.source (Some d) && nat_le tick o.tick) above
-    ≡ not (is_after tick (latest_in (thing_of d) above))
-late tick d [] = refl
-late tick d (o ∷ above) = by o.source (late tick d above) where
-  rest : Option ℕ
-  rest = latest_in (thing_of d) above
-
+-- an arrival is after all above of its source exactly where it is after the latest
+late : (tick : ℕ) (source : Option Declared) (above : List Arrival)
+    → is_after tick (latest_at (λ q. latest_in q above) source)
+    ≡ not (list_any (λ (o : Arrival). is_same_source o.source source && nat_le tick o.tick) above)
+late tick None above = sym (ap not (none_passes _ above (λ (o : Arrival). by o.source (nat_le tick o.tick)))) where
+  by : (source : Option Declared) (b : Bool) → (is_same_source source None && b) ≡ false
+  by None b = refl
+  by (Some e) b = refl
+late tick (Some d) [] = refl
+late tick (Some d) (o ∷ above) = by o.source (late tick (Some d) above) where
   others : Bool
   others = list_any (λ (o : Arrival). is_same_source o.source (Some d) && nat_le tick o.tick) above
 
-  by : (source : Option Declared) → others ≡ not (is_after tick rest)
-      → ((is_same_source source (Some d) && nat_le tick o.tick) || others)
-      ≡ not (is_after tick (latest_then (is_thing (thing_of d) source) o.tick rest))
+  by : (source : Option Declared) → is_after tick (latest_in (thing_of d) above) ≡ not others
+      → is_after tick (latest_then (is_thing (thing_of d) source) o.tick (latest_in (thing_of d) above))
+      ≡ not ((is_same_source source (Some d) && nat_le tick o.tick) || others)
   by None is = is
-  by (Some e) is = ap (λ b. (is_same_thing e d && nat_le tick o.tick) || b) is
-      ∙ late-step (is_same_thing e d) tick o.tick rest
+  by (Some e) is = late-step (is_same_thing e d) tick o.tick (latest_in (thing_of d) above) others is
 
-none : (tick : ℕ) (above : List Arrival)
-    → list_any (λ (o : Arrival). is_same_source o.source None && nat_le tick o.tick) above ≡ false
-none tick [] = refl
-none tick (o ∷ above) = by o.source ∙ none tick above where
-  others : Bool
-  others = list_any (λ (o : Arrival). is_same_source o.source None && nat_le tick o.tick) above
-
-  by : (source : Option Declared) → ((is_same_source source None && nat_le tick o.tick) || others) ≡ others
-  by None = refl
-  by (Some e) = refl
-
-not-not : (b : Bool) → not (not b) ≡ b
-not-not true = refl
-not-not false = refl
-
--- an arrival is after all above of its source exactly where it is after the latest
 pub after-exactly : (x : Arrival) (above : List Arrival) (found : (ℕ × ℕ) → Option ℕ)
     → ((q : ℕ × ℕ) → found q ≡ latest_in q above)
     → is_after x.tick (latest_at found x.source) ≡ is_new is_not_after above x
-after-exactly x above found has = by x.source where
+after-exactly x above found has = by x.source ∙ late x.tick x.source above where
   by : (source : Option Declared)
-      → is_after x.tick (latest_at found source)
-      ≡ not (list_any (λ (o : Arrival). is_same_source o.source source && nat_le x.tick o.tick) above)
-  by None = sym (ap not (none x.tick above))
+      → is_after x.tick (latest_at found source) ≡ is_after x.tick (latest_at (λ q. latest_in q above) source)
+  by None = refl
   by (Some d) = ap (is_after x.tick) (has (thing_of d))
-      ∙ sym (ap not (late x.tick d above) ∙ not-not (is_after x.tick (latest_in (thing_of d) above)))
 
 -- the first k arrivals are read: the map has the latest of each source, and the least line so far is this one
 pub record AreNoted (found : (ℕ × ℕ) → Option ℕ) (least : Option ℕ) (xs : List (At Arrival)) (k : ℕ) : Type 0 where
@@ -88,12 +65,8 @@ pub noted-more : (found more : (ℕ × ℕ) → Option ℕ) (least lesser : Opti
 noted-more found more least lesser xs k x after lt noted is put less = record {
   above = here.part ∷ noted.above;
   has = λ q. put q ∙ ap (latest_then (is_thing q here.part.source) here.part.tick) (noted.has q);
-  lines = least-step (is_new is_not_after noted.above here.part) here.line least lesser
-      (repeating is_not_after (here.part ∷ noted.above) (drop (k + 1) xs))
-      (less ∙ ap (λ b. lesser_of least (least_line (line_unless b here.line [])))
-      (is ∙ after-exactly here.part noted.above found noted.has))
-      ∙ sym (ap (λ ls. lesser_of least (least_line ls)) (at_drop_more (repeating is_not_after noted.above) xs k x lt))
-      ∙ noted.lines;
+  lines = least-at (repeating is_not_after noted.above) xs k here x _ _ _ _ _ _ lt refl
+      (is ∙ after-exactly here.part noted.above found noted.has) refl less noted.lines;
 } where
   here : At Arrival
   here = get_or xs k x

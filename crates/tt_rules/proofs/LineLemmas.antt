@@ -1,12 +1,12 @@
 -- The least of some lines.
-use Rattle.std.proofs.Common.{◌≡◌, ℕ, zero, suc, ◌+◌, ◌-◌, ◌<◌, ◌≤◌, min, cond, Bool, true, false, List, [], ◌∷◌, ◌++◌, length, drop, get_or, Option, Some, None, refl, ap, sym, ◌∙◌, arith}
+use Rattle.std.proofs.Common.{◌≡◌, ℕ, zero, suc, ◌+◌, ◌-◌, ◌<◌, ◌≤◌, min, Bool, true, false, List, [], ◌∷◌, ◌++◌, length, drop, get_or, Option, Some, None, refl, ap, sym, ◌∙◌, arith}
 use Rattle.std.proofs.lemmas.Grind.{flat_map-append}
 use Rattle.std.proofs.lemmas.List.{at_drop_more, at_drop_all, append-nil}
 use Rattle.std.specs.Prelude.{flat_map}
 use Rattle.tt_rules.specs.Order.{below}
 use Rattle.tt_parts.specs.declared.located.At.{At}
 use Rattle.tt_rules.specs.Lines.{line_unless, lesser_of, least_line}
-use Rattle.tt_rules.specs.Shapes.{filter_at, lines}
+use Rattle.tt_rules.specs.Shapes.{lines}
 
 pub lesser_of-none : (a : Option ℕ) → lesser_of a None ≡ a
 lesser_of-none None = refl
@@ -43,61 +43,22 @@ least-step test line found found' lines is =
 
 -- ---- a loop over a list
 
--- a function of the elements from one on, at that element; the elements that a loop has not passed are `drop k xs`
-pub at_element : {A : Type 0} {Y : Type 0} (f : List A → Y) (xs : List A) (k : ℕ) (x : A) → k < length xs
-    → x ≡ get_or xs k x → f (drop k xs) ≡ f (x ∷ drop (k + 1) xs)
-at_element f xs k x lt is = at_drop_more f xs k x lt ∙ ap (λ r. f (r ∷ drop (k + 1) xs)) (sym is)
+-- One more element of a loop, at which the lines that are left are those after it and its own where a test fails.
+pub least-at : {A : Type 0} (f : List (At A) → List ℕ) (xs : List (At A)) (k : ℕ) (x d : At A)
+    (test passed : Bool) (later : List ℕ) (least more all : Option ℕ)
+    → k < length xs → x ≡ get_or xs k d → passed ≡ test → f (x ∷ drop (k + 1) xs) ≡ line_unless test x.line later
+    → more ≡ lesser_of least (least_line (line_unless passed x.line []))
+    → lesser_of least (least_line (f (drop k xs))) ≡ all → lesser_of more (least_line later) ≡ all
+least-at f xs k x d test passed later least more all lt is same here less before =
+    least-step test x.line least more later (less ∙ ap (λ b. lesser_of least (least_line (line_unless b x.line []))) same)
+    ∙ sym (ap (λ ls. lesser_of least (least_line ls))
+    (at_drop_more f xs k d lt ∙ ap (λ r. f (r ∷ drop (k + 1) xs)) (sym is) ∙ here)) ∙ before
 
--- ---- the parts that pass a test
-
-module _ {A : Type 0} (passes : A → Bool) where
-  filter_at-true : (x : At A) (xs : List (At A)) → passes x.part ≡ true
-      → filter_at passes (x ∷ xs) ≡ x ∷ filter_at passes xs
-  filter_at-true x xs is = ap (λ b. cond b (x ∷ filter_at passes xs) (filter_at passes xs)) is
-
-  filter_at-false : (x : At A) (xs : List (At A)) → passes x.part ≡ false
-      → filter_at passes (x ∷ xs) ≡ filter_at passes xs
-  filter_at-false x xs is = ap (λ b. cond b (x ∷ filter_at passes xs) (filter_at passes xs)) is
-
-  module _ (xs : List (At A)) (k : ℕ) (x : At A) (lt : k < length xs) (is : x ≡ get_or xs k x) where
-    pub passing : passes x.part ≡ true → filter_at passes (drop k xs) ≡ x ∷ filter_at passes (drop (k + 1) xs)
-    passing true_ = at_element (filter_at passes) xs k x lt is ∙ filter_at-true x (drop (k + 1) xs) true_
-
-    pub not_passing : passes x.part ≡ false → filter_at passes (drop k xs) ≡ filter_at passes (drop (k + 1) xs)
-    not_passing false_ = at_element (filter_at passes) xs k x lt is ∙ filter_at-false x (drop (k + 1) xs) false_
-
-    module _ (least all : Option ℕ) (left : ℕ)
-        (before : lesser_of least (least_line (drop left (lines (filter_at passes (drop k xs))))) ≡ all) where
-      -- a part that does not pass
-      pub past-other : passes x.part ≡ false
-          → lesser_of least (least_line (drop left (lines (filter_at passes (drop (k + 1) xs))))) ≡ all
-      past-other other = sym (ap (λ ys. lesser_of least (least_line (drop left (lines ys)))) (not_passing other))
-          ∙ before
-
-      -- one of the first n that pass
-      pub past-first : passes x.part ≡ true → 0 < left
-          → lesser_of least (least_line (drop (left - 1) (lines (filter_at passes (drop (k + 1) xs))))) ≡ all
-      past-first here more = by left more before where
-        by : (n : ℕ) → 0 < n → lesser_of least (least_line (drop n (lines (filter_at passes (drop k xs))))) ≡ all
-            → lesser_of least (least_line (drop (n - 1) (lines (filter_at passes (drop (k + 1) xs))))) ≡ all
-        by zero some h = absurd (omega arith)
-        by (suc n) some h =
-            let less : suc n - 1 ≡ n = omega arith in
-            ap (λ m. lesser_of least (least_line (drop m (lines (filter_at passes (drop (k + 1) xs)))))) less
-            ∙ sym (ap (λ ys. lesser_of least (least_line (drop (suc n) (lines ys)))) (passing here)) ∙ h
-
-      -- one that passes, after the first n
-      pub past-found : passes x.part ≡ true → left ≡ 0
-          → lesser_of (lesser_of least (Some x.line))
-          (least_line (drop left (lines (filter_at passes (drop (k + 1) xs))))) ≡ all
-      past-found here none = by left none before where
-        by : (n : ℕ) → n ≡ 0 → lesser_of least (least_line (drop n (lines (filter_at passes (drop k xs))))) ≡ all
-            → lesser_of (lesser_of least (Some x.line))
-            (least_line (drop n (lines (filter_at passes (drop (k + 1) xs))))) ≡ all
-        by (suc n) zero_ h = absurd (omega arith)
-        by zero zero_ h =
-            lesser_of-assoc least (Some x.line) (least_line (lines (filter_at passes (drop (k + 1) xs))))
-            ∙ sym (ap (λ ys. lesser_of least (least_line (lines ys))) (passing here)) ∙ h
+-- One of the first n lines.
+pub past-first : {A : Type 0} (n : ℕ) (x : At A) (xs : List (At A)) → 0 < n
+    → drop n (lines (x ∷ xs)) ≡ drop (n - 1) (lines xs)
+past-first zero x xs lt = absurd (omega arith)
+past-first (suc n) x xs lt = let less : suc n - 1 ≡ n = omega arith in rw less refl
 
 -- ---- the lines of each of some things
 

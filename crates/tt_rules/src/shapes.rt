@@ -1,11 +1,11 @@
 //! The least line that breaks a rule of each shape. Lines need not ascend.
 
-ghost use Rattle.std.specs.Prelude.{◌≡◌, ◌||◌, Bool, not, [], drop, IfOk, OnOk, Option};
+ghost use Rattle.std.specs.Prelude.{◌≡◌, ◌||◌, Bool, not, [], drop, IfOk, OnOk, Option, Some};
 ghost use Rattle.std.specs.HashSet.{contains};
 ghost use Rattle.tt_rows.specs.declared.row.Row.{Row};
 ghost use Rattle.tt_rules.specs.Document.{rows_at};
 ghost use Rattle.tt_rules.specs.Lines.{least_line};
-ghost use Rattle.tt_rules.specs.Shapes.{Answers, failing, filter_at, is_key, lines, missing, passes_key, repeating, same_by};
+ghost use Rattle.tt_rules.specs.Shapes.{Answers, failing, filter_at, lines, missing, passes_key, repeating, same_by, same_keys};
 
 use crate::least::{lesser, with_line_unless};
 use std::alloc::Global;
@@ -102,7 +102,7 @@ pub(crate) fn missing_of<T, F: Fn(&T) -> bool>(parts: &[At<T>], first: u32, test
 fn note<K: Eq + Hash + Drop>(seen: &mut HashSet<K>, key: Option<K>) -> Result<bool, Memory>
     ensures new { IfOk result (λ is_new. is_new ≡ not (passes_key (contains K.eq seen.old) key)) }
     ensures seen { OnOk result ((q : _)
-        → contains K.eq seen.new q ≡ is_key K.eq q key || contains K.eq seen.old q) }
+        → contains K.eq seen.new q ≡ same_keys K.eq key (Some q) || contains K.eq seen.old q) }
 {
     match key {
         None => Ok(true),
