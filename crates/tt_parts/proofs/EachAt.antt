@@ -1,14 +1,11 @@
 -- What each row gives, with one more row.
-use Rattle.std.proofs.Common.{◌≡◌, ℕ, ◌+◌, ◌<◌, List, [], ◌∷◌, ◌++◌, length, take, get_or, Option, Some, None, refl, ap, sym, ◌∙◌}
+use Rattle.std.proofs.Common.{◌≡◌, ℕ, List, [], ◌∷◌, ◌++◌, Option, Some, None, refl, ap, ◌∙◌}
 use Rattle.std.specs.Prelude.{IfSome}
 use Rattle.std.specs.List.{AllByRecursion as Each}
-use Rattle.std.proofs.lemmas.List.{take_more}
 use Rattle.tt_base.specs.declared.names.NameEntry.{NameEntry}
 use Rattle.tt_rows.specs.declared.row.Row.{Row}
 use Rattle.tt_rows.specs.declared.row.NumberedRow.{NumberedRow}
-use Rattle.tt_parts.specs.declared.declared_parts.Declarations.{Declarations}
 use Rattle.tt_parts.specs.declared.located.At.{At}
-use Rattle.tt_parts.specs.declared.said.Said.{Said}
 use Rattle.tt_parts.specs.Located.{at_then, each_at}
 use Rattle.tt_parts.specs.Names.{declared_in}
 use Rattle.tt_parts.specs.Entries.{round_in, adjust_in, var_in, demand_in, entry_in, start_in, rounds_in, value_in, arrival_in, time_in}
@@ -27,27 +24,15 @@ module _ {A : Type 0} (part_of : Row → Option A) where
       ap (at_then first.line (part_of first.row)) (each_at-push rows row)
       ∙ then-append first.line (part_of first.row) (each_at part_of rows) (at_then row.line (part_of row.row) [])
 
--- the rows up to one, and that row
-take-row : (rows : List NumberedRow) (k : ℕ) (row : NumberedRow) → k < length rows → row ≡ get_or rows k row
-    → take (k + 1) rows ≡ take k rows ++ row ∷ []
-take-row rows k row lt is = take_more rows k row lt ∙ ap (λ r. take k rows ++ r ∷ []) (sym is)
-
-declarations_of-push : (first : ℕ) (rows : List NumberedRow) (row : NumberedRow)
+-- One more row declares what it declares besides.
+pub declarations_of-push : (first : ℕ) (rows : List NumberedRow) (row : NumberedRow)
     → record (declarations_of (rows ++ row ∷ [])) { first = first }
     ≡ declared_then row (record (declarations_of rows) { first = first })
 declarations_of-push first rows row =
     cc (each_at-push round_in rows row, each_at-push adjust_in rows row, each_at-push declared_in rows row)
 
--- what the rows up to one declare, and with it
-pub declarations_of-more : (first : ℕ) (rows : List NumberedRow) (k : ℕ) (row : NumberedRow)
-    (before after : Declarations) → k < length rows → row ≡ get_or rows k row
-    → before ≡ record (declarations_of (take k rows)) { first = first } → after ≡ declared_then row before
-    → after ≡ record (declarations_of (take (k + 1) rows)) { first = first }
-declarations_of-more first rows k row before after lt is so_far put =
-    put ∙ ap (declared_then row) so_far ∙ sym (declarations_of-push first (take k rows) row)
-    ∙ ap (λ rs. record (declarations_of rs) { first = first }) (sym (take-row rows k row lt is))
-
-said_in-push : (names : List NameEntry) (rows : List NumberedRow) (row : NumberedRow)
+-- One more row says what it says besides.
+pub said_in-push : (names : List NameEntry) (rows : List NumberedRow) (row : NumberedRow)
     → said_in names (rows ++ row ∷ []) ≡ said_then names row (said_in names rows)
 said_in-push names rows row = cc (
   each_at-push var_in rows row,
@@ -59,14 +44,6 @@ said_in-push names rows row = cc (
   each_at-push (arrival_in names) rows row,
   each_at-push time_in rows row,
 )
-
--- what the rows up to one say, and with it
-pub said_in-more : (names : List NameEntry) (rows : List NumberedRow) (k : ℕ) (row : NumberedRow)
-    (before after : Said) → k < length rows → row ≡ get_or rows k row → before ≡ said_in names (take k rows)
-    → after ≡ said_then names row before → after ≡ said_in names (take (k + 1) rows)
-said_in-more names rows k row before after lt is so_far put =
-    put ∙ ap (said_then names row) so_far ∙ sym (said_in-push names (take k rows) row)
-    ∙ ap (said_in names) (sym (take-row rows k row lt is))
 
 -- what holds of a part, if there is one, and of others, holds of each
 pub each_then : {A : Type 0} (P : A → Type 0) (line : ℕ) (part : Option A) (others : List (At A)) → IfSome part P

@@ -1,5 +1,2 @@
-pub mod Terms
 pub mod EachAt
-pub mod Reading
-pub mod Named
 pub mod Fronts
