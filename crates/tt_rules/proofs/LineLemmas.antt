@@ -74,12 +74,6 @@ flat-step f xs k x lt found more all is before =
     ∙ ap (lesser_of found) (sym (least_line_append (f (get_or xs k x)) (flat_map f (drop (k + 1) xs))))
     ∙ sym (ap (λ ls. lesser_of found (least_line ls)) (at_drop_more (flat_map f) xs k x lt)) ∙ before
 
-pub flat-end : {A : Type 0} (f : A → List ℕ) (xs : List A) (k : ℕ) → length xs ≤ k → (found all : Option ℕ)
-    → lesser_of found (least_line (flat_map f (drop k xs))) ≡ all → found ≡ all
-flat-end f xs k le found all before =
-    sym (lesser_of-none found) ∙ sym (ap (λ ls. lesser_of found (least_line ls)) (at_drop_all (flat_map f) xs k le))
-    ∙ before
-
 flat-push : {A : Type 0} (f : A → List ℕ) (xs : List A) (x : A)
     → least_line (flat_map f (xs ++ x ∷ [])) ≡ lesser_of (least_line (flat_map f xs)) (least_line (f x))
 flat-push f xs x =

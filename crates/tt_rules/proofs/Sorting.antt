@@ -1,6 +1,7 @@
 -- A list put in order has the same elements, in order.
 use Rattle.std.proofs.Common.{◌≡◌, suc, Bool, true, false, List, [], ◌∷◌, length, ap, refl, ◌∙◌, if◌then◌else◌}
 use Rattle.std.specs.List.{AllByRecursion as Each}
+use Rattle.std.proofs.lemmas.Bool.{cond_both}
 use Rattle.tt_rules.specs.Order.{inserted, ascending}
 use Rattle.tt_rules.proofs.Each.{Pairs, each_weaker}
 
@@ -9,11 +10,8 @@ module _ {A : Type 0} (is_before : A → A → Bool) where
 
   length-inserted : (x : A) (ys : List A) → length (inserted is_before x ys) ≡ suc (length ys)
   length-inserted x [] = refl
-  length-inserted x (y ∷ ys) = by (is_before y x) (length-inserted x ys) where
-    by : (b : Bool) → length (inserted is_before x ys) ≡ suc (length ys)
-        → length (if b then y ∷ inserted is_before x ys else x ∷ (y ∷ ys)) ≡ suc (suc (length ys))
-    by true rest = ap suc rest
-    by false rest = refl
+  length-inserted x (y ∷ ys) = cond_both (is_before y x) _ _ (λ zs. length zs ≡ suc (suc (length ys)))
+      (λ is. ap suc (length-inserted x ys)) (λ is. refl)
 
   pub length-ascending : (xs : List A) → length (ascending is_before xs) ≡ length xs
   length-ascending [] = refl
@@ -21,11 +19,8 @@ module _ {A : Type 0} (is_before : A → A → Bool) where
 
   each_inserted : (P : A → Type 0) (x : A) (ys : List A) → P x → Each P ys → Each P (inserted is_before x ys)
   each_inserted P x [] here h = (here, tt)
-  each_inserted P x (y ∷ ys) here h = by (is_before y x) (each_inserted P x ys here h.1) where
-    by : (b : Bool) → Each P (inserted is_before x ys)
-        → Each P (if b then y ∷ inserted is_before x ys else x ∷ (y ∷ ys))
-    by true rest = (h.0, rest)
-    by false rest = (here, h)
+  each_inserted P x (y ∷ ys) here h = cond_both (is_before y x) _ _ (Each P)
+      (λ is. (h.0, each_inserted P x ys here h.1)) (λ is. (here, h))
 
   pub each_ascending : (P : A → Type 0) (xs : List A) → Each P xs → Each P (ascending is_before xs)
   each_ascending P [] h = tt
@@ -35,11 +30,9 @@ module _ {A : Type 0} (is_before : A → A → Bool) where
   pairs_inserted : (R : A → A → Type 0) → ((x y : A) → R x y → R y x) → (x : A) (ys : List A) → Each (R x) ys
       → Pairs R ys → Pairs R (inserted is_before x ys)
   pairs_inserted R turned x [] own h = (tt, tt)
-  pairs_inserted R turned x (y ∷ ys) own h = by (is_before y x) (pairs_inserted R turned x ys own.1 h.1) where
-    by : (b : Bool) → Pairs R (inserted is_before x ys)
-        → Pairs R (if b then y ∷ inserted is_before x ys else x ∷ (y ∷ ys))
-    by true rest = (each_inserted (R y) x ys (turned x y own.0) h.0, rest)
-    by false rest = (own, h)
+  pairs_inserted R turned x (y ∷ ys) own h = cond_both (is_before y x) _ _ (Pairs R)
+      (λ is. (each_inserted (R y) x ys (turned x y own.0) h.0, pairs_inserted R turned x ys own.1 h.1))
+      (λ is. (own, h))
 
   pub pairs_ascending : (R : A → A → Type 0) → ((x y : A) → R x y → R y x) → (xs : List A) → Pairs R xs
       → Pairs R (ascending is_before xs)
@@ -57,11 +50,9 @@ module _ {A : Type 0} (is_before : A → A → Bool) where
       (through : (x y z : A) → InOrder x y → InOrder y z → InOrder x z) where
     order_inserted : (x : A) (ys : List A) → Pairs InOrder ys → Pairs InOrder (inserted is_before x ys)
     order_inserted x [] h = (tt, tt)
-    order_inserted x (y ∷ ys) h = by (is_before y x) refl (order_inserted x ys h.1) where
-      by : (b : Bool) → is_before y x ≡ b → Pairs InOrder (inserted is_before x ys)
-          → Pairs InOrder (if b then y ∷ inserted is_before x ys else x ∷ (y ∷ ys))
-      by true is rest = (each_inserted (InOrder y) x ys (one_way y x is) h.0, rest)
-      by false is rest = ((is, each_weaker (InOrder y) (InOrder x) (λ z k. through x y z is k) ys h.0), h)
+    order_inserted x (y ∷ ys) h = cond_both (is_before y x) _ _ (Pairs InOrder)
+        (λ is. (each_inserted (InOrder y) x ys (one_way y x is) h.0, order_inserted x ys h.1))
+        (λ is. ((is, each_weaker (InOrder y) (InOrder x) (λ z k. through x y z is k) ys h.0), h))
 
     pub order_ascending : (xs : List A) → Pairs InOrder (ascending is_before xs)
     order_ascending [] = tt

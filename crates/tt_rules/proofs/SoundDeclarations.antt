@@ -5,7 +5,8 @@ use Rattle.std.specs.List.{AllByRecursion as Each, list_all, list_any}
 use Rattle.std.specs.Str.{bytes_eq}
 use Rattle.std.specs.Cmp.Lexicographic.{nat_list_eq_equiv}
 use Rattle.std.proofs.lemmas.List.{length-map}
-use Rattle.std.proofs.lemmas.Bool.{and_parts, and_from, leb-true}
+use Rattle.std.proofs.lemmas.Bool.{and_parts, leb-true}
+use Rattle.std.proofs.lemmas.Bool.Decides.{nat_tests}
 use Rattle.tt_base.specs.declared.names.NameKind.{NameKind}
 use Rattle.tt_base.specs.declared.names.NameKind.TheVariants as Kind
 use Rattle.tt_base.specs.declared.names.NameEntry.{NameEntry}
@@ -14,7 +15,7 @@ use Rattle.tt_world.specs.ConfigRules.{is_reserved, are_names_free}
 use Rattle.tt_parts.specs.declared.declared_parts.Declarations.{Declarations}
 use Rattle.tt_rules.specs.Document.{first_or_zero, round_of, adjust_of}
 use Rattle.tt_rules.specs.Laws.{AreDeclarationsSound}
-use Rattle.tt_rules.specs.Shapes.{Present, AtMost, breaking, filter_at, parts, same_by, differ_from}
+use Rattle.tt_rules.specs.Shapes.{Present, AtMost, breaking, filter_at, parts, same_by, differ_from, keeps_each}
 use Rattle.tt_rules.specs.RoundRules.{is_within, rule_4, rule_6, lines_4, lines_6}
 use Rattle.tt_rules.specs.NameRules.{is_of_kind, kinds, lines_7, lines_8, lines_past, most_of, rule_7}
 use Rattle.tt_rules.proofs.Each.{Pairs, each_from_all, none_from_each, each_weaker}
@@ -29,25 +30,14 @@ first-passes test [] some is = absurd (omega arith)
 first-passes test (n ∷ ns) some is = (and_parts (test n) (list_all test ns) is).0
 
 -- 4. The round is within its range.
-round_within : (d : Declarations) → lines_4 d ≡ [] → is_within 2 10000000 (round_of d) ≡ true
-round_within d is =
-    let ns = parts d.rounds in
-    let all = kept d.first rule_4 d.rounds is in
-    let some = and_parts (nat_le 1 (length ns)) _ all in
-    first-passes (is_within 2 10000000) ns (leb-true 1 (length ns) some.0)
-    (and_parts (list_all (is_within 2 10000000) ns) _ some.1).0
-
-zero-or-first : (test : ℕ → Bool) (ns : List ℕ) → test 0 ≡ true → list_all test ns ≡ true
-    → test (first_or_zero ns) ≡ true
-zero-or-first test [] here is = here
-zero-or-first test (n ∷ ns) here is = (and_parts (test n) (list_all test ns) is).0
+round_within : (ns : List ℕ) → keeps_each rule_4 ns ≡ true → (2 ≤ first_or_zero ns) × (first_or_zero ns ≤ 10000000)
+round_within [] is = cc
+round_within (n ∷ ns) is = (grind (arith, nat_tests), grind (arith, nat_tests))
 
 -- 6. Its correction is at most a quarter.
-adjust_within : (d : Declarations) → lines_6 d ≡ [] → 4 * adjust_of d ≤ round_of d
-adjust_within d is =
-    let test = λ (most : ℕ). nat_le (4 * most) (round_of d) in
-    let all = and_parts (list_all test (parts d.adjusts)) true (kept d.first (rule_6 (round_of d)) d.adjusts is) in
-    leb-true (4 * adjust_of d) (round_of d) (zero-or-first test (parts d.adjusts) (grind arith) all.0)
+adjust_within : (round : ℕ) (ns : List ℕ) → keeps_each (rule_6 round) ns ≡ true → 4 * first_or_zero ns ≤ round
+adjust_within round [] is = omega arith
+adjust_within round (n ∷ ns) is = grind (arith, nat_tests)
 
 -- ---- names
 
@@ -56,13 +46,10 @@ free : (xs : List NameEntry) → Each (λ (e : NameEntry). not (is_reserved e.na
     → are_names_free xs ≡ true
 free [] fit apart = refl
 free (x ∷ xs) fit apart =
-    and_from (not (is_reserved x.name)) _ fit.0
-    (and_from (not (list_any (λ (other : NameEntry). bytes_eq other.name x.name) xs)) (are_names_free xs)
-    (ap not (none_from_each (λ (other : NameEntry). bytes_eq other.name x.name) xs
-    (each_weaker (λ (b : NameEntry). bytes_eq x.name b.name ≡ false)
-    (λ (b : NameEntry). bytes_eq b.name x.name ≡ false)
-    (λ b k. nat_list_eq_equiv.symm b.name x.name ∙ k) xs apart.0)))
-    (free xs fit.1 apart.1))
+    let none = none_from_each (λ (other : NameEntry). bytes_eq other.name x.name) xs
+    (each_weaker (λ (b : NameEntry). bytes_eq x.name b.name ≡ false) _
+    (λ b k. nat_list_eq_equiv.symm b.name x.name ∙ k) xs apart.0) in
+    grind (arith, nat_tests, fit.0, none, free xs fit.1 apart.1)
 
 -- 7. The names differ, and none is reserved.
 names_free : (d : Declarations) → lines_7 d ≡ [] → are_names_free (parts d.names) ≡ true
@@ -83,7 +70,7 @@ counted d kind =
 -- no line for any of some things
 each_none : {A : Type 0} (f : A → List ℕ) (xs : List A) → flat_map f xs ≡ [] → Each (λ x. f x ≡ []) xs
 each_none f [] is = tt
-each_none f (x ∷ xs) is = ((none_of_both (f x) (flat_map f xs) is).0, each_none f xs ((none_of_both (f x) (flat_map f xs) is).1))
+each_none f (x ∷ xs) is = let both = none_of_both (f x) (flat_map f xs) is in (both.0, each_none f xs both.1)
 
 of_kinds : (P : NameKind → Type 0) → Each P kinds → (kind : NameKind) → P kind
 of_kinds P each Kind.Mode = each.0
@@ -99,7 +86,7 @@ few : (d : Declarations) → lines_8 d ≡ [] → (kind : NameKind) → count_of
 few d is kind =
     let none = of_kinds (λ k. lines_past d k ≡ [])
     (each_none (lines_past d) kinds
-    ((none_of_both (breaking d.first Present (filter_at (is_of_kind Kind.Mode) d.names)) _ is).1)) kind in
+    (none_of_both (breaking d.first Present (filter_at (is_of_kind Kind.Mode) d.names)) _ is).1) kind in
     let xs = filter_at (is_of_kind kind) d.names in
     subst (λ n. n ≤ most_of kind) (counted d kind)
     (leb-true (length (parts xs)) (most_of kind) (kept_one d.first (AtMost (most_of kind)) xs none))
@@ -109,16 +96,16 @@ some_mode d is =
     let xs = filter_at (is_of_kind Kind.Mode) d.names in
     subst (λ n. 1 ≤ n) (counted d Kind.Mode)
     (leb-true 1 (length (parts xs))
-    (kept_one d.first Present xs ((none_of_both (breaking d.first Present xs) (flat_map (lines_past d) kinds) is).0)))
+    (kept_one d.first Present xs (none_of_both (breaking d.first Present xs) (flat_map (lines_past d) kinds) is).0))
 
 pub declarations_sound : (d : Declarations) → lines_4 d ≡ [] → lines_6 d ≡ [] → lines_7 d ≡ [] → lines_8 d ≡ []
     → AreDeclarationsSound d
 declarations_sound d is_4 is_6 is_7 is_8 =
-    let within = and_parts (nat_le 2 (round_of d)) (nat_le (round_of d) 10000000) (round_within d is_4) in
+    let within = round_within (parts d.rounds) (kept d.first rule_4 d.rounds is_4) in
     record {
-      round_long = leb-true 2 (round_of d) within.0;
-      round_short = leb-true (round_of d) 10000000 within.1;
-      adjust = adjust_within d is_6;
+      round_long = within.0;
+      round_short = within.1;
+      adjust = adjust_within (round_of d) (parts d.adjusts) (kept d.first (rule_6 (round_of d)) d.adjusts is_6);
       names = names_free d is_7;
       some_mode = some_mode d is_8;
       few = few d is_8;

@@ -1,22 +1,20 @@
-use Rattle.std.proofs.Common.{rules, refl, ap, sym, ◌∙◌}
+use Rattle.std.proofs.Common.{rules, arith, refl, ap, sym, ◌∙◌}
 use Rattle.std.specs.Prelude.{flat_map}
 use Rattle.tt_base.specs.declared.names.NameKind.TheVariants as Kind
-use Rattle.tt_rules.specs.Lines.{least_line, lesser_of}
-use Rattle.tt_rules.specs.Shapes.{Present, breaking, filter_at}
+use Rattle.std.proofs.lemmas.Grind.{common_steps}
+use Rattle.tt_rules.specs.Lines.{lesser_of}
+use Rattle.tt_rules.specs.Shapes.{missing, filter_at}
 use Rattle.tt_rules.specs.NameRules.{is_of_kind, kinds, lines_past}
-use Rattle.tt_rules.proofs.LineLemmas.{least_line_append, flat-step, flat-end}
+use Rattle.tt_rules.proofs.LineLemmas.{least_line_append, flat-step}
 use Rattle.tt_rules.proofs.names.rule_8.Goals as goal
 
 pub loop-kind-init : goal.loop-kind-init
 loop-kind-init c =
-    let d = c.args.declared.now in (
+    let d = c.args.declared.now in
+    let found = c.missing_of-found.ensures (is_of_kind Kind.Mode) (search rules) in (
       refl,
-      ap (λ o. lesser_of o (least_line (flat_map (lines_past d) kinds)))
-          (c.missing_of-found.ensures (is_of_kind Kind.Mode) (search rules)
-          ∙ ap (λ xs. least_line (breaking d.first Present (filter_at (is_of_kind Kind.Mode) xs)))
-          c.as_slice-names.ensures)
-          ∙ sym (least_line_append (breaking d.first Present (filter_at (is_of_kind Kind.Mode) d.names))
-          (flat_map (lines_past d) kinds)),
+      rw (found, c.as_slice-names.ensures) (sym (least_line_append
+      (missing d.first (filter_at (is_of_kind Kind.Mode) d.names)) (flat_map (lines_past d) kinds))),
     )
 
 pub loop-kind-preserved : goal.loop-kind-preserved
@@ -28,5 +26,4 @@ loop-kind-preserved c = (
 )
 
 pub returns : goal.returns
-returns c = flat-end (lines_past c.args.declared.now) kinds c.loop-kind.kind-index c.loop-kind-test.false
-    c.loop-kind.found _ c.loop-kind.invariant.1
+returns c = grind (arith, common_steps, c.loop-kind.invariant.1)
