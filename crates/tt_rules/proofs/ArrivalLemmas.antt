@@ -1,9 +1,8 @@
 -- The latest arrival of each source decides whether an arrival is after all above of its source.
-use Rattle.std.proofs.Common.{◌≡◌, ℕ, ◌+◌, ◌<◌, ◌≤◌, Bool, true, false, not, List, [], ◌∷◌, ◌++◌, length, drop, get_or, Option, Some, None, refl, ap, sym, ◌∙◌, arith}
-use Rattle.std.proofs.lemmas.List.{append-nil, at_drop_all}
+use Rattle.std.proofs.Common.{◌≡◌, ℕ, ◌+◌, ◌<◌, Bool, false, not, List, [], ◌∷◌, length, drop, get_or, Option, Some, None, refl, ap, sym, ◌∙◌, arith}
 use Rattle.tt_parts.specs.declared.located.At.{At}
 use Rattle.tt_rules.specs.Lines.{least_line, lesser_of, line_unless}
-use Rattle.tt_rules.proofs.LineLemmas.{lesser_of-none, least-at}
+use Rattle.tt_rules.proofs.LineLemmas.{least-at}
 use Rattle.tt_rules.proofs.ActivationLemmas.{none_passes}
 use Rattle.std.specs.Prelude.{◌||◌, ◌&&◌, nat_le}
 use Rattle.std.specs.List.{list_any}
@@ -70,11 +69,3 @@ noted-more found more least lesser xs k x after lt noted is put less = record {
 } where
   here : At Arrival
   here = get_or xs k x
-
-pub noted-end : (found : (ℕ × ℕ) → Option ℕ) (least : Option ℕ) (xs : List (At Arrival)) (k : ℕ) → length xs ≤ k
-    → AreNoted found least xs k
-    → least ≡ least_line (repeating is_not_after [] xs ++ [])
-noted-end found least xs k le noted =
-    sym (lesser_of-none least) ∙ sym
-    (ap (λ ls. lesser_of least (least_line ls)) (at_drop_all (repeating is_not_after noted.above) xs k le))
-    ∙ noted.lines ∙ ap least_line (sym (append-nil (repeating is_not_after [] xs)))

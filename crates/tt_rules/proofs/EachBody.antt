@@ -17,7 +17,7 @@ use Rattle.tt_parts.specs.declared.structure.Standing.TheVariants.{Opener, Plain
 use Rattle.tt_parts.specs.declared.bodies.Owner.{Owner}
 use Rattle.tt_parts.specs.declared.bodies.BodyPart.{BodyPart}
 use Rattle.tt_parts.specs.Structure.{standing_of}
-use Rattle.tt_parts.specs.Bodies.{Head, Branches, statement_of, head_of, owner_in, body_of, bodies_of, branches_from, first_branch, row_then, plain_then, block_then, else_then}
+use Rattle.tt_parts.specs.Bodies.{Head, Branches, statement_of, head_of, owner_in, body_of, bodies_of, branches_from, first_branch, row_then, block_then}
 use Rattle.tt_parts.proofs.EachAt.{each_then}
 use Rattle.tt_rules.specs.BodyRules.{owner_after}
 use Rattle.tt_rules.specs.Laws.{kind_of}
@@ -90,13 +90,6 @@ module _ (names : List NameEntry) (H : List Open → OwnerKind → Bool → Opti
     Fits (open_ ∷ outside) k [] = Unit {0}
     Fits (open_ ∷ outside) k (b ∷ rest) = P outside k b.first × (P outside k b.second × Fits outside k rest)
 
-    fits-plain : (inner : Open) (outer : List Open) (k : OwnerKind) (head : Option Head) (rest : List Branches)
-        → H (inner ∷ outer) k false head → Fits (inner ∷ outer) k rest → Fits (inner ∷ outer) k (plain_then head rest)
-    fits-plain inner outer k None rest here there = there
-    fits-plain inner outer k (Some head) [] here there = tt
-    fits-plain inner outer k (Some head) (b ∷ rest) here there =
-        (kept.plain inner outer k head b.first here there.0, there.1)
-
     fits-block : (own inner : Open) (outer : List Open) (k : OwnerKind) (head : Option Head) (rest : List Branches)
         → is_some head ≡ true → H (inner ∷ outer) k true head
         → Fits (own ∷ inner ∷ outer) k rest → Fits (inner ∷ outer) k (block_then head rest)
@@ -108,23 +101,20 @@ module _ (names : List NameEntry) (H : List Open → OwnerKind → Bool → Opti
       there.1.1.1,
     )
 
-    fits-else : (inner : Open) (outer : List Open) (k : OwnerKind) (rest : List Branches)
-        → is_misplaced (inner ∷ outer) OfElse ≡ false
-        → Fits (stack_then (inner ∷ outer) OfElse) k rest → Fits (inner ∷ outer) k (else_then rest)
-    fits-else If outer k [] ok there = tt
-    fits-else If outer k (b ∷ rest) ok there = (kept.none outer k, (there.0, there.1.1))
-    fits-else inner outer k rest ok there = cc
-
     fits-row : (stack : List Open) (k : OwnerKind) (standing : Standing) (head : Option Head) (rest : List Branches)
         → is_misplaced stack standing ≡ false → has_block standing head ≡ true → H stack k (opens standing) head
         → Fits (stack_then stack standing) (owner_after k standing) rest → Fits stack k (row_then standing head rest)
     fits-row [] k standing head rest ok block here there = tt
-    fits-row (inner ∷ outer) k Plain head rest ok block here there = fits-plain inner outer k head rest here there
+    fits-row (inner ∷ outer) k Plain None rest ok block here there = there
+    fits-row (inner ∷ outer) k Plain (Some head) [] ok block here there = tt
+    fits-row (inner ∷ outer) k Plain (Some head) (b ∷ rest) ok block here there =
+        (kept.plain inner outer k head b.first here there.0, there.1)
     fits-row (inner ∷ outer) k OfIf head rest ok block here there =
         fits-block If inner outer k head rest block here there
     fits-row (inner ∷ outer) k OfRepeat head rest ok block here there =
         fits-block Repeat inner outer k head rest block here there
-    fits-row (inner ∷ outer) k OfElse head rest ok block here there = fits-else inner outer k rest ok there
+    fits-row (If ∷ outer) k OfElse head [] ok block here there = tt
+    fits-row (If ∷ outer) k OfElse head (b ∷ rest) ok block here there = (kept.none outer k, (there.0, there.1.1))
     fits-row (inner ∷ outer) k OfEnd head rest ok block here there = (kept.none outer k, (kept.none outer k, there))
     fits-row (inner ∷ outer) k standing head rest ok block here there = cc
 

@@ -1,7 +1,7 @@
 -- The least of some lines.
-use Rattle.std.proofs.Common.{◌≡◌, ℕ, zero, suc, ◌+◌, ◌-◌, ◌<◌, ◌≤◌, min, Bool, true, false, List, [], ◌∷◌, ◌++◌, length, drop, get_or, Option, Some, None, refl, ap, sym, ◌∙◌, arith}
+use Rattle.std.proofs.Common.{◌≡◌, ℕ, zero, suc, ◌+◌, ◌-◌, ◌<◌, min, Bool, true, false, List, [], ◌∷◌, ◌++◌, length, drop, get_or, Option, Some, None, refl, ap, sym, ◌∙◌, arith}
 use Rattle.std.proofs.lemmas.Grind.{flat_map-append}
-use Rattle.std.proofs.lemmas.List.{at_drop_more, at_drop_all, append-nil}
+use Rattle.std.proofs.lemmas.List.{at_drop_more, append-nil}
 use Rattle.std.specs.Prelude.{flat_map}
 use Rattle.tt_rules.specs.Order.{below}
 use Rattle.tt_parts.specs.declared.located.At.{At}
@@ -32,15 +32,6 @@ pub least_line-unless : (test : Bool) (line : ℕ) (lines : List ℕ)
 least_line-unless true line lines = refl
 least_line-unless false line lines = refl
 
--- the least of the lines after an element, together with what was found before it
-pub least-step : (test : Bool) (line : ℕ) (found found' : Option ℕ) (lines : List ℕ)
-    → found' ≡ lesser_of found (least_line (line_unless test line []))
-    → lesser_of found' (least_line lines) ≡ lesser_of found (least_line (line_unless test line lines))
-least-step test line found found' lines is =
-    ap (λ o. lesser_of o (least_line lines)) is
-    ∙ lesser_of-assoc found (least_line (line_unless test line [])) (least_line lines)
-    ∙ ap (lesser_of found) (sym (least_line-unless test line lines))
-
 -- ---- a loop over a list
 
 -- One more element of a loop, at which the lines that are left are those after it and its own where a test fails.
@@ -50,7 +41,10 @@ pub least-at : {A : Type 0} (f : List (At A) → List ℕ) (xs : List (At A)) (k
     → more ≡ lesser_of least (least_line (line_unless passed x.line []))
     → lesser_of least (least_line (f (drop k xs))) ≡ all → lesser_of more (least_line later) ≡ all
 least-at f xs k x d test passed later least more all lt is same here less before =
-    least-step test x.line least more later (less ∙ ap (λ b. lesser_of least (least_line (line_unless b x.line []))) same)
+    ap (λ o. lesser_of o (least_line later))
+    (less ∙ ap (λ b. lesser_of least (least_line (line_unless b x.line []))) same)
+    ∙ lesser_of-assoc least (least_line (line_unless test x.line [])) (least_line later)
+    ∙ ap (lesser_of least) (sym (least_line-unless test x.line later))
     ∙ sym (ap (λ ls. lesser_of least (least_line ls))
     (at_drop_more f xs k d lt ∙ ap (λ r. f (r ∷ drop (k + 1) xs)) (sym is) ∙ here)) ∙ before
 

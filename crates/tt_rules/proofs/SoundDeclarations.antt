@@ -1,7 +1,7 @@
 -- The round and the names are those of a configuration, where no line breaks the rules on them.
 use Rattle.std.proofs.Common.{◌≡◌, ℕ, ◌*◌, ◌≤◌, Bool, true, false, not, List, [], ◌∷◌, length, filter, refl, ap, sym, ◌∙◌, arith, subst}
-use Rattle.std.specs.Prelude.{nat_le, flat_map, Some}
-use Rattle.std.specs.List.{AllByRecursion as Each, list_all, list_any}
+use Rattle.std.specs.Prelude.{flat_map, Some}
+use Rattle.std.specs.List.{AllByRecursion as Each, list_all}
 use Rattle.std.specs.Str.{bytes_eq}
 use Rattle.std.specs.Cmp.Lexicographic.{nat_list_eq_equiv}
 use Rattle.std.proofs.lemmas.List.{length-map}
@@ -13,10 +13,10 @@ use Rattle.tt_base.specs.declared.names.NameEntry.{NameEntry}
 use Rattle.tt_base.specs.Names.{count_of}
 use Rattle.tt_world.specs.ConfigRules.{is_reserved, are_names_free}
 use Rattle.tt_parts.specs.declared.declared_parts.Declarations.{Declarations}
-use Rattle.tt_rules.specs.Document.{first_or_zero, round_of, adjust_of}
+use Rattle.tt_rules.specs.Document.{first_or_zero, round_of}
 use Rattle.tt_rules.specs.Laws.{AreDeclarationsSound}
 use Rattle.tt_rules.specs.Shapes.{Present, AtMost, breaking, filter_at, parts, same_by, differ_from, keeps_each}
-use Rattle.tt_rules.specs.RoundRules.{is_within, rule_4, rule_6, lines_4, lines_6}
+use Rattle.tt_rules.specs.RoundRules.{rule_4, rule_6, lines_4, lines_6}
 use Rattle.tt_rules.specs.NameRules.{is_of_kind, kinds, lines_7, lines_8, lines_past, most_of, rule_7}
 use Rattle.tt_rules.proofs.Each.{Pairs, each_from_all, none_from_each, each_weaker}
 use Rattle.tt_rules.proofs.Kept.{kept, kept_one, none_of_both, filter_at-parts}

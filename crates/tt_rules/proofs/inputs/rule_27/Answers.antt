@@ -1,7 +1,8 @@
-use Rattle.std.proofs.Common.{[], refl}
+use Rattle.std.proofs.Common.{[], refl, arith}
 use Rattle.std.specs.HashMap.{get}
+use Rattle.std.proofs.lemmas.Grind.{common_steps}
 use Rattle.tt_rules.specs.TableRules.{same_pair}
-use Rattle.tt_rules.proofs.ArrivalLemmas.{noted-more, noted-end}
+use Rattle.tt_rules.proofs.ArrivalLemmas.{noted-more}
 use Rattle.tt_rules.proofs.inputs.rule_27.Goals as goal
 
 pub loop-at-init : goal.loop-at-init
@@ -14,4 +15,4 @@ loop-at-preserved c =
     c.in_ok-is_after.ensures.after c.in_ok-is_after.ensures.latest c.with_line_unless-least.ensures
 
 pub returns : goal.returns
-returns c = noted-end _ c.loop-at.least c.args.arrivals.now c.loop-at.at-index c.loop-at-test.false c.loop-at.invariant
+returns c = grind (arith, common_steps, c.loop-at.invariant.lines)

@@ -1,4 +1,4 @@
-use Rattle.std.proofs.Common.{◌+◌, Bor, length, ap, sym, ◌∙◌}
+use Rattle.std.proofs.Common.{Bor, length, ap, sym, ◌∙◌}
 use Rattle.std.specs.Prelude.{nat_lt}
 use Rattle.tt_rules.specs.ActivationKeys.{Key, comes_between_key}
 use Rattle.tt_rules.proofs.ActivationLemmas.{range-between, some-filter, none_passes, comes_between-none, key-upto, first-some}
