@@ -1,5 +1,5 @@
 -- Sound rows that break no rule give a configuration and a script that keep the rules of theirs.
-use Rattle.std.proofs.Common.{◌≡◌, ℕ, zero, suc, ◌-◌, ◌^◌, ◌<◌, ◌≤◌, Bool, true, List, [], ◌∷◌, All, None, length, arith, ap, subst, sym, ◌∙◌}
+use Rattle.std.proofs.Common.{◌≡◌, ℕ, zero, suc, ◌-◌, ◌^◌, ◌<◌, ◌≤◌, Bool, true, List, [], ◌∷◌, All, None, length, arith, subst}
 use Rattle.std.specs.Prelude.{◌&&◌, nat_le, nat_lt, IfSome}
 use Rattle.std.specs.List.{AllByRecursion as Each, list_all}
 use Rattle.std.proofs.lemmas.Bool.{and_parts, and_from, leb-true, lt-ltb}
@@ -9,7 +9,6 @@ use Rattle.tt_base.specs.declared.names.NameKind.TheVariants as Kind
 use Rattle.tt_base.specs.declared.names.NameEntry.{NameEntry}
 use Rattle.tt_base.specs.Names.{count_of}
 use Rattle.tt_world.specs.declared.config.ConfigParts.{ConfigParts}
-use Rattle.tt_world.specs.declared.script.ScriptParts.{ScriptParts}
 use Rattle.tt_world.specs.ConfigRules.{IsConfig, IsMode}
 use Rattle.tt_world.specs.ScriptRules.{IsScript}
 use Rattle.tt_rows.specs.declared.row.Row.{Row}
@@ -31,12 +30,11 @@ use Rattle.tt_rules.specs.Tables.{is_entry_known, mode_with}
 use Rattle.tt_rules.proofs.Each.{all_from_each, each_append, each_map, each_weaker}
 use Rattle.tt_rules.proofs.SoundDeclarations.{declarations_sound}
 use Rattle.tt_rules.proofs.SoundTables.{mode_sound}
-use Rattle.tt_config.specs.declared.document.Elaborated.{Elaborated}
 use Rattle.tt_config.specs.BodyRules.{HasSoundBodies, KeepBodyRules}
 use Rattle.tt_config.specs.Broken.{broken_rule}
 use Rattle.tt_config.specs.Document.{elaborated_of}
-use Rattle.tt_config.specs.Owners.{AreFit}
-use Rattle.tt_config.specs.Parts.{config_of, config_with, script_of, script_with}
+use Rattle.tt_config.specs.Parts.{config_of, config_with, script_of}
+use Rattle.tt_config.specs.Sound.{IsSound}
 use Rattle.tt_config.proofs.Asked.{none_broken}
 use Rattle.tt_config.proofs.Counted.{few, named}
 use Rattle.tt_config.proofs.Distinct.{levels, osek_priorities, oisr_priorities}
@@ -163,36 +161,15 @@ pub script_is_sound : (rows : List NumberedRow) → AreSound rows → broken_rul
 unfolding config_of script_of
 script_is_sound rows sound is = script_sound rows (none_broken rows is) sound
 
--- what is built from rows is their configuration and their script
-module _ (rows : List NumberedRow) (d : Elaborated) (is : d ≡ elaborated_of rows) where
-  pub config_is : (c : ConfigParts) → c ≡ config_with d → c ≡ config_of rows
-  unfolding config_of
-  config_is c built = built ∙ ap config_with is
-
-  pub script_is : (s : ScriptParts) → s ≡ script_with (parts d.declared.names) d.said → s ≡ script_of rows
-  unfolding script_of
-  script_is s built = built ∙ ap (λ (e : Elaborated). script_with (parts e.declared.names) e.said) is
-
-  pub config_fits : (c : ConfigParts) → AreSound rows → length rows < 2 ^ 32 → broken_rule rows ≡ None
-      → c ≡ config_with d → IsConfig c
-  config_fits c sound short none built =
-      subst IsConfig (sym (config_is c built)) (config_is_sound rows sound short none)
-
-  pub script_fits : (c : ConfigParts) (s : ScriptParts) → AreSound rows → broken_rule rows ≡ None → c ≡ config_with d
-      → s ≡ script_with (parts d.declared.names) d.said → IsScript c s
-  script_fits c s sound none built made =
-      subst (λ p. IsScript p s) (sym (config_is c built))
-      (subst (IsScript (config_of rows)) (sym (script_is s made)) (script_is_sound rows sound none))
-
-  pub bodies_are_fit : AreSound rows → length rows < 2 ^ 32 → broken_rule rows ≡ None → AreFit d.demands d.bodies
-  bodies_are_fit sound short none =
-      subst (λ (e : Elaborated). AreFit e.demands e.bodies) (sym is)
-      (bodies_fit rows (body_rules rows sound (none_broken rows none) short))
-
-  -- 26. The number of rounds fits the width of that of a script.
-  pub rounds_fit : broken_rule rows ≡ None → first_or_zero (parts d.said.counts) ≤ 100000
-  rounds_fit none =
-      let rounds = first_or_zero (parts (each_at rounds_in rows)) in
-      subst (λ (e : Elaborated). first_or_zero (parts e.said.counts) ≤ 100000) (sym is)
-      (leb-true rounds 100000 (and_parts (nat_le 1 rounds) (nat_le rounds 100000)
-      (rounds_within rows (none_broken rows none))).1)
+-- what is elaborated from rows that break no rule
+pub elaborated_sound : (rows : List NumberedRow) → AreSound rows → length rows < 2 ^ 32 → broken_rule rows ≡ None
+    → IsSound (elaborated_of rows)
+elaborated_sound rows sound short is =
+    let none = none_broken rows is in
+    let rounds = first_or_zero (parts (each_at rounds_in rows)) in
+    record {
+      bodies = bodies_fit rows (body_rules rows sound none short);
+      rounds = leb-true rounds 100000 (and_parts (nat_le 1 rounds) (nat_le rounds 100000) (rounds_within rows none)).1;
+      config = config_sound rows sound none short;
+      script = script_sound rows none sound;
+    }

@@ -3,6 +3,7 @@ pub mod Owners
 pub mod Tables
 pub mod Document
 pub mod Parts
+pub mod Sound
 pub mod Broken
 pub mod BodyRules
 pub mod Accept

@@ -4,7 +4,9 @@ ghost use Rattle.std.specs.Prelude.{◌≡◌, ◌<◌, ◌^◌, length, None, S
 ghost use Rattle.tt_config.specs.Accept.{IfRule};
 ghost use Rattle.tt_config.specs.Broken.{broken_rule};
 ghost use Rattle.tt_config.specs.Document.{elaborated_of};
-ghost use Rattle.tt_config.specs.Parts.{config_of, script_of};
+ghost use Rattle.tt_config.specs.Parts.{config_of, config_with, script_of, script_with};
+ghost use Rattle.tt_config.specs.Sound.{IsSound};
+ghost use Rattle.tt_parts.specs.Located.{parts};
 ghost use Rattle.tt_parts.specs.Parts.{declarations_of};
 ghost use Rattle.tt_rows.specs.Sound.{AreSound};
 ghost use Rattle.tt_rules.specs.Document.{document_of};
@@ -21,7 +23,7 @@ use tt_base::Memory;
 use tt_parts::{Declarations, declarations_of};
 use tt_rows::{NumberedRow, Rows};
 use tt_rules::Broken;
-use tt_world::{Config, Script};
+use tt_world::{Config, Script, ScriptParts};
 
 /// Why rows were not accepted.
 #[derive(Clone, Copy, Debug, PartialEq, Eq, Error)]
@@ -51,24 +53,42 @@ impl From<Memory> for AcceptFault {
     }
 }
 
-/// The configuration and the script of rows that break no rule.
-fn build_accepted(
-    alloc: Global,
-    rows: &[NumberedRow],
-    document: Elaborated,
-) -> Result<Accepted, Memory>
-    requires sound { AreSound rows.now }
-    requires few { length rows.now < 2 ^ 32 }
-    requires kept { broken_rule rows.now ≡ None }
-    requires elaborated { document ≡ elaborated_of rows.now }
-    ensures config { IfOk result (λ accepted. accepted.config ≡ config_of rows.now) }
-    ensures script { IfOk result (λ accepted. accepted.script ≡ script_of rows.now) }
-    ensures script_rules { IfOk result (λ accepted. IsScript accepted.config accepted.script) }
+/// The configuration and the script of what is elaborated from rows that break no rule.
+fn build_accepted(alloc: Global, document: Elaborated) -> Result<Accepted, Memory>
+    requires { IsSound document }
+    ensures config { IfOk result (λ accepted. accepted.config ≡ config_with document) }
+    ensures script { IfOk result (λ accepted. accepted.script
+        ≡ script_with (parts document.declared.names) document.said) }
+    ensures rules { IfOk result (λ accepted. IsScript accepted.config accepted.script) }
 {
-    let script = script_parts(alloc, document.declared.names.as_slice(), &document.said)?;
-    let config = Config::new(config_parts(alloc, document)?);
-    let script = Script::new(script, &config);
-    Ok(Accepted { config, script })
+    match script_parts(alloc, document.declared.names.as_slice(), &document.said) {
+        Ok(script) => join_config(alloc, document, script),
+        Err(Memory) => {
+            drop(document);
+            Err(Memory)
+        }
+    }
+}
+
+/// The configuration of such a document, with its script.
+fn join_config(alloc: Global, document: Elaborated, script: ScriptParts) -> Result<Accepted, Memory>
+    requires sound { IsSound document }
+    requires script { IsScript (config_with document) script }
+    ensures config { IfOk result (λ accepted. accepted.config ≡ config_with document) }
+    ensures script { IfOk result (λ accepted. accepted.script ≡ script) }
+    ensures rules { IfOk result (λ accepted. IsScript accepted.config accepted.script) }
+{
+    match config_parts(alloc, document) {
+        Ok(parts) => {
+            let config = Config::new(parts);
+            let script = Script::new(script, &config);
+            Ok(Accepted { config, script })
+        }
+        Err(Memory) => {
+            drop(script);
+            Err(Memory)
+        }
+    }
 }
 
 /// Refuses rows that break one of rules 1 to 8.
@@ -89,10 +109,12 @@ fn keep_first(
 
 /// Refuses rows that break one of rules 9 to 28, and none of those before.
 fn keep_later(alloc: Global, rows: &[NumberedRow], document: &Elaborated) -> Result<(), AcceptFault>
+    requires rows { AreSound rows.now }
     requires elaborated { document.now ≡ elaborated_of rows.now }
     requires few { length rows.now < 2 ^ 32 }
     requires first { None ≡ first_broken 1 first_rules (document_of rows.now) }
     ensures kept { OnOk result (broken_rule rows.now ≡ None) }
+    ensures sound { OnOk result (IsSound document.now) }
     ensures rule { IfErr result (λ fault. IfRule fault (λ rule. broken_rule rows.now ≡ Some rule)) }
 {
     match later_broken(alloc, rows, document)? {
@@ -116,6 +138,7 @@ fn elaborate_rows(alloc: Global, rows: &[NumberedRow]) -> Result<Elaborated, Acc
 }
 
 /// Accepts borrowed rows.
+#[tactic(auto, unfolding(crate::specs::Parts::config_of, crate::specs::Parts::script_of))]
 fn accept_rows(alloc: Global, rows: &[NumberedRow]) -> Result<Accepted, AcceptFault>
     requires { AreSound rows.now }
     ensures kept { OnOk result (broken_rule rows.now ≡ None) }
@@ -125,8 +148,13 @@ fn accept_rows(alloc: Global, rows: &[NumberedRow]) -> Result<Accepted, AcceptFa
     ensures rule { IfErr result (λ fault. IfRule fault (λ rule. broken_rule rows.now ≡ Some rule)) }
 {
     let document = elaborate_rows(alloc, rows)?;
-    keep_later(alloc, rows, &document)?;
-    Ok(build_accepted(alloc, rows, document)?)
+    match keep_later(alloc, rows, &document) {
+        Ok(()) => Ok(build_accepted(alloc, document)?),
+        Err(fault) => {
+            drop(document);
+            Err(fault)
+        }
+    }
 }
 
 /// Accepts the rows of a document: gives the configuration of the node and the script of the run,

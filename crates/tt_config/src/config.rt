@@ -29,7 +29,10 @@ pub(crate) fn config_parts(alloc: Global, document: Elaborated) -> Result<Config
         demands,
         bodies,
     } = document;
-    config_of(alloc, &declared, names, &said, demands, bodies)
+    let config = config_of(alloc, &declared, names, &said, demands, bodies);
+    drop(declared);
+    drop(said);
+    config
 }
 
 /// The configuration that parts give. It borrows what it only reads, so that no way out drops that.

@@ -62,10 +62,16 @@ fn said_with(
     ensures demands { IfOk result (λ told. told.1 ≡ parts (said_in names.now rows.now).demands) }
     ensures bodies { IfOk result (λ told. told.2 ≡ bodies_of names.now rows.now) }
 {
-    let said = said_in(alloc, names, rows)?;
-    let demands = parts(alloc, said.demands.as_slice())?;
     let bodies = bodies_of(alloc, names, rows)?;
-    Ok((said, demands, bodies))
+    let said = said_in(alloc, names, rows)?;
+    match parts(alloc, said.demands.as_slice()) {
+        Ok(demands) => Ok((said, demands, bodies)),
+        Err(Memory) => {
+            drop(said);
+            drop(bodies);
+            Err(Memory)
+        }
+    }
 }
 
 /// What rows say. No kind has more than 1,024 names.

@@ -1,7 +1,9 @@
-use Rattle.std.proofs.Common.{sym, ◌∙◌}
+use Rattle.std.proofs.Common.{sym, subst, ◌∙◌}
 use Rattle.tt_base.specs.declared.names.NameKind.TheVariants as Kind
+use Rattle.tt_config.specs.Sound.{IsSound}
 use Rattle.tt_config.proofs.Asked.{all_none, all_second}
 use Rattle.tt_config.proofs.Elaboration.{few_by_kind, well_formed, well_nested}
+use Rattle.tt_config.proofs.SoundConfig.{elaborated_sound}
 use Rattle.tt_config.proofs.acceptance.keep_later.Goals as goal
 
 pub later_broken-requires-clause-formed : goal.later_broken-requires-clause-formed
@@ -20,3 +22,9 @@ returns-in-Some-clause-rule c =
 pub returns-in-None-clause-kept : goal.returns-in-None-clause-kept
 returns-in-None-clause-kept c =
     all_none c.args.rows.now c.requires.first (sym c.in-None.is ∙ c.in_ok-later_broken.ensures)
+
+pub returns-in-None-clause-sound : goal.returns-in-None-clause-sound
+returns-in-None-clause-sound c =
+    subst IsSound (sym c.requires.elaborated)
+    (elaborated_sound c.args.rows.now c.requires.rows c.requires.few
+    (all_none c.args.rows.now c.requires.first (sym c.in-None.is ∙ c.in_ok-later_broken.ensures)))
