@@ -1,5 +1,5 @@
 -- What is elaborated is what rows say.
-use Rattle.std.proofs.Common.{◌≡◌, ◌^◌, ◌<◌, ◌≤◌, List, [], None, length, ap, arith, sym, subst, ◌∙◌}
+use Rattle.std.proofs.Common.{◌≡◌, ◌≤◌, List, None, arith, sym}
 use Rattle.task_lang.specs.declared.demand.Demand.{Demand}
 use Rattle.tt_base.specs.declared.names.NameKind.{NameKind}
 use Rattle.tt_base.specs.declared.names.NameKind.TheVariants as Kind
@@ -14,16 +14,12 @@ use Rattle.tt_parts.specs.Located.{parts}
 use Rattle.tt_parts.specs.Bodies.{bodies_of}
 use Rattle.tt_parts.specs.Names.{names_in}
 use Rattle.tt_parts.specs.Parts.{declarations_of, said_in}
-use Rattle.tt_rules.specs.BodyRules.{AreTellable}
 use Rattle.tt_rules.specs.Document.{document_of}
 use Rattle.tt_rules.specs.NameRules.{most_of}
-use Rattle.tt_rules.specs.StructureRules.{lines_2, lines_3}
-use Rattle.tt_rules.specs.Table.{AreKept, first_broken, first_rules, declaration_rules}
+use Rattle.tt_rules.specs.Table.{AreKept, first_broken, first_rules}
 use Rattle.tt_rules.proofs.SoundDeclarations.{declarations_sound}
-use Rattle.tt_config.specs.declared.document.Elaborated.{Elaborated}
 use Rattle.tt_config.specs.Document.{elaborated_of}
 use Rattle.tt_config.proofs.Asked.{kept}
-use Rattle.tt_config.proofs.SoundBodies.{tellable}
 
 most_small : (kind : NameKind) → most_of kind ≤ 1024
 most_small Kind.Mode = omega arith
@@ -32,7 +28,7 @@ most_small kind = omega arith
 module _ (rows : List NumberedRow) where
   -- what the rules that need no number of a name say about what is elaborated next
   module _ (none : None ≡ first_broken 1 first_rules (document_of rows)) where
-    no_line : AreKept first_rules (document_of rows)
+    pub no_line : AreKept first_rules (document_of rows)
     no_line = kept (document_of rows) 1 first_rules (sym none)
 
     pub few_by_kind : (kind : NameKind) → count_of kind (names_in rows) ≤ most_of kind
@@ -41,12 +37,6 @@ module _ (rows : List NumberedRow) where
     pub few_names : (kind : NameKind) → count_of kind (names_in rows) ≤ 1024
     few_names kind = omega (arith, few_by_kind kind, most_small kind)
 
-    pub well_formed : lines_2 rows ≡ []
-    well_formed = no_line 1
-
-    pub well_nested : lines_3 rows ≡ []
-    well_nested = no_line 2
-
   -- each part is read with the names
   pub elaborated_is : (declared : Declarations) (names : List NameEntry) (said : Said) (demands : List Demand)
       (bodies : List (At BodyPart))
@@ -54,18 +44,4 @@ module _ (rows : List NumberedRow) where
       → demands ≡ parts said.demands → bodies ≡ bodies_of names rows
       → record { declared = declared; names = names; said = said; demands = demands; bodies = bodies }
       ≡ elaborated_of rows
-  elaborated_is declared names said demands bodies a b s e f =
-      let named : names ≡ names_in rows = b ∙ ap (λ (d : Declarations). parts d.names) a in
-      let told : said ≡ said_in (names_in rows) rows = s ∙ ap (λ ns. said_in ns rows) named in
-      let asked = e ∙ ap (λ (x : Said). parts x.demands) told in
-      let owned = f ∙ ap (λ ns. bodies_of ns rows) named in
-      λ i. record { declared = a i; names = named i; said = told i; demands = asked i; bodies = owned i }
-
-  -- 2, 3, 9. The worst cases of what is elaborated can be computed.
-  pub elaborated_tellable : (d : Elaborated) (bodies : List (At BodyPart)) → d ≡ elaborated_of rows
-      → bodies ≡ d.bodies → length rows < 2 ^ 32 → lines_2 rows ≡ [] → lines_3 rows ≡ []
-      → None ≡ first_broken 9 declaration_rules (document_of rows) → AreTellable d.demands bodies
-  elaborated_tellable d bodies is same short is_2 is_3 none =
-      subst (AreTellable d.demands) (sym same)
-      (subst (λ (e : Elaborated). AreTellable e.demands e.bodies) (sym is)
-      (tellable rows short is_2 is_3 (kept (document_of rows) 9 declaration_rules (sym none) 0)))
+  elaborated_is declared names said demands bodies a b s e f = cc

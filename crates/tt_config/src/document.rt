@@ -1,6 +1,6 @@
 //! What the rows of a document say, elaborated, and the first rule that they break.
 
-ghost use Rattle.std.specs.Prelude.{◌≡◌, ◌≤◌, ◌<◌, ◌^◌, [], length, IfOk};
+ghost use Rattle.std.specs.Prelude.{◌≡◌, ◌≤◌, ◌<◌, ◌^◌, None, length, IfOk};
 ghost use Rattle.tt_base.specs.declared.names.NameKind.{NameKind};
 ghost use Rattle.tt_base.specs.Names.{count_of};
 ghost use Rattle.tt_config.specs.Document.{elaborated_of};
@@ -9,7 +9,6 @@ ghost use Rattle.tt_parts.specs.Located.{parts};
 ghost use Rattle.tt_parts.specs.Names.{names_in};
 ghost use Rattle.tt_parts.specs.Parts.{declarations_of, said_in};
 ghost use Rattle.tt_rules.specs.Document.{document_of};
-ghost use Rattle.tt_rules.specs.StructureRules.{lines_2, lines_3};
 ghost use Rattle.tt_rules.specs.Table.{first_broken, first_rules, later_rules};
 
 use crate::lists::{count_of, parts};
@@ -59,7 +58,7 @@ fn said_with(
     rows: &[NumberedRow],
 ) -> Result<(Said, Demands, Series<At<BodyPart>>), Memory>
     ensures said { IfOk result (λ told. told.0 ≡ said_in names.now rows.now) }
-    ensures demands { IfOk result (λ told. told.1 ≡ parts (said_in names.now rows.now).demands) }
+    ensures demands { IfOk result (λ told. told.1 ≡ parts told.0.demands) }
     ensures bodies { IfOk result (λ told. told.2 ≡ bodies_of names.now rows.now) }
 {
     let bodies = bodies_of(alloc, names, rows)?;
@@ -95,8 +94,7 @@ pub(crate) fn elaborate(
     })
 }
 
-/// The first of rules 9 to 28 that is broken. The rows have blocks that are well formed and nested
-/// at most 4 deep.
+/// The first of rules 9 to 28 that is broken, where none is before.
 pub(crate) fn later_broken(
     alloc: Global,
     rows: &[NumberedRow],
@@ -104,9 +102,7 @@ pub(crate) fn later_broken(
 ) -> Result<Option<Broken>, Memory>
     requires elaborated { document.now ≡ elaborated_of rows.now }
     requires short { length rows.now < 2 ^ 32 }
-    requires formed { lines_2 rows.now ≡ [] }
-    requires nested { lines_3 rows.now ≡ [] }
-    requires few { count_of NameKind.Mode (names_in rows.now) ≤ 16 }
+    requires first { None ≡ first_broken 1 first_rules (document_of rows.now) }
     ensures { IfOk result (λ broken. broken ≡ first_broken 9 later_rules (document_of rows.now)) }
 {
     let bodies = document.bodies.as_slice();

@@ -1,63 +1,71 @@
-use Rattle.std.proofs.Common.{ap, refl, sym, ◌∙◌}
+use Rattle.std.proofs.Common.{◌≡◌, Option, Some, None, ap, refl, subst, sym, ◌∙◌, arith}
 use Rattle.tt_base.specs.declared.names.NameKind.TheVariants as Kind
 use Rattle.tt_base.specs.Names.{count_of}
 use Rattle.tt_parts.specs.Located.{parts}
-use Rattle.tt_rules.specs.Document.{document_of, limit_of}
-use Rattle.tt_config.specs.declared.document.Elaborated.{Elaborated}
-use Rattle.tt_config.proofs.Asked.{later_one, later_two, later_three, later_rest}
-use Rattle.tt_config.proofs.Elaboration.{elaborated_tellable}
+use Rattle.tt_rules.specs.BodyRules.{AreTellable}
+use Rattle.tt_rules.specs.declared.broken.Broken.{Broken}
+use Rattle.tt_rules.specs.Document.{Document, document_of, limit_of, names_of}
+use Rattle.tt_rules.specs.Table.{first_broken, declaration_rules, body_rules, table_rules}
+use Rattle.tt_config.proofs.Asked.{kept, later_by}
+use Rattle.tt_config.proofs.Elaboration.{few_by_kind, no_line}
+use Rattle.tt_config.proofs.SoundBodies.{tellable}
 use Rattle.tt_config.proofs.document.later_broken.Goals as goal
+use Rattle.tt_config.proofs.document.later_broken.Goals.{In_default, In_ok-broken, In_ok-broken-2}
 
-pub returns-in-Some : goal.returns-in-Some
-returns-in-Some c =
-    let d = document_of c.args.rows.now in
-    let bodies = sym (c.as_slice-bodies.ensures ∙ ap (λ (e : Elaborated). e.bodies) c.requires.elaborated) in
-    later_one d c.in-Some.broken (sym c.in-Some.is ∙ c.in_ok-broken.ensures d refl bodies)
+declarations : (c : In_ok-broken) → c.in_ok-broken.field-0 ≡ first_broken 9 declaration_rules (document_of c.args.rows.now)
+declarations c = c.in_ok-broken.ensures (document_of c.args.rows.now) refl
+    (sym (c.as_slice-bodies.ensures ∙ (λ i. (c.requires.elaborated i).bodies)))
+
+tables : (c : In_ok-broken-2) → c.in_ok-broken-2.field-0 ≡ first_broken 18 table_rules (document_of c.args.rows.now)
+tables c = c.in_ok-broken-2.ensures (document_of c.args.rows.now)
+    (sym (c.limit_of-limit.ensures ∙ (λ i. limit_of (c.requires.elaborated i).declared)))
+    (sym (c.count_of-modes.ensures ∙ ap (λ ns. count_of Kind.Mode (parts ns)) c.as_slice.ensures
+    ∙ (λ i. count_of Kind.Mode (parts (c.requires.elaborated i).declared.names))))
+    (sym (c.as_slice-2.ensures ∙ (λ i. (c.requires.elaborated i).said.entries)))
+
+-- what the rules on bodies answer
+bodies : (c : In_default) {b : Option Broken} → ((d : Document) → d.rows ≡ c.args.rows.now → names_of d ≡ c.args.document.now.names
+    → parts d.said.demands ≡ c.args.document.now.demands → d.bodies ≡ c.as_slice-bodies.result.now
+    → b ≡ first_broken 14 body_rules d) → b ≡ first_broken 14 body_rules (document_of c.args.rows.now)
+bodies c is = is (document_of c.args.rows.now) refl (λ i. (sym c.requires.elaborated i).names)
+    (λ i. (sym c.requires.elaborated i).demands)
+    (sym (c.as_slice-bodies.ensures ∙ (λ i. (c.requires.elaborated i).bodies)))
 
 pub bodies_broken-requires : goal.bodies_broken-requires
 bodies_broken-requires c =
-    let d = document_of c.args.rows.now in
-    let bodies = sym (c.as_slice-bodies.ensures ∙ ap (λ (e : Elaborated). e.bodies) c.requires.elaborated) in
-    elaborated_tellable c.args.rows.now c.args.document.now c.as_slice-bodies.result.now c.requires.elaborated
-    c.as_slice-bodies.ensures c.requires.short c.requires.formed c.requires.nested
-    (sym c.in_default.is ∙ c.in_ok-broken.ensures d refl bodies)
+    let rows = c.args.rows.now in
+    let line = no_line rows c.requires.first in
+    let here = sym c.in_default.is ∙ declarations (goal.at.bodies_broken-requires c).In_ok-broken in
+    subst (AreTellable c.args.document.now.demands) (sym c.as_slice-bodies.ensures)
+    (subst (λ e. AreTellable e.demands e.bodies) (sym c.requires.elaborated)
+    (tellable rows c.requires.short (line 1) (line 2) (kept (document_of rows) 9 declaration_rules (sym here) 0)))
+
+pub returns-in-Some : goal.returns-in-Some
+returns-in-Some c =
+    later_by (document_of c.args.rows.now) (Some c.in-Some.broken) _ _ _
+    (sym c.in-Some.is ∙ declarations (goal.at.returns-in-Some c).In_ok-broken) refl refl refl
 
 pub returns-in-Some-bodies_broken : goal.returns-in-Some-bodies_broken
 returns-in-Some-bodies_broken c =
-    let d = document_of c.args.rows.now in
-    let bodies = sym (c.as_slice-bodies.ensures ∙ ap (λ (e : Elaborated). e.bodies) c.requires.elaborated) in
-    later_two d c.in-Some-bodies_broken.broken (sym c.in_default.is ∙ c.in_ok-broken.ensures d refl bodies)
-    (c.in-Some-bodies_broken.ensures d refl (sym (ap (λ (e : Elaborated). e.names) c.requires.elaborated))
-    (sym (ap (λ (e : Elaborated). e.demands) c.requires.elaborated)) bodies)
+    later_by (document_of c.args.rows.now) None (Some c.in-Some-bodies_broken.broken) _ _
+    (sym c.in_default.is ∙ declarations (goal.at.returns-in-Some-bodies_broken c).In_ok-broken)
+    (bodies (goal.at.returns-in-Some-bodies_broken c).In_default c.in-Some-bodies_broken.ensures) refl refl
+
+pub overflow_cast-modes : goal.overflow_cast-modes
+overflow_cast-modes c = grind (arith, few_by_kind c.args.rows.now c.requires.first Kind.Mode)
 
 pub returns-in-Some-2 : goal.returns-in-Some-2
 returns-in-Some-2 c =
-    let d = document_of c.args.rows.now in
-    let bodies = sym (c.as_slice-bodies.ensures ∙ ap (λ (e : Elaborated). e.bodies) c.requires.elaborated) in
-    later_three d c.in-Some-2.broken (sym c.in_default.is ∙ c.in_ok-broken.ensures d refl bodies)
-    (c.in_default-bodies_broken.ensures d refl (sym (ap (λ (e : Elaborated). e.names) c.requires.elaborated))
-    (sym (ap (λ (e : Elaborated). e.demands) c.requires.elaborated)) bodies)
-    (sym c.in-Some-2.is
-    ∙ c.in_ok-broken-2.ensures d
-    (sym (c.limit_of-limit.ensures ∙ ap (λ (e : Elaborated). limit_of e.declared) c.requires.elaborated))
-    (sym (c.count_of-modes.ensures
-    ∙ ap (λ ns. count_of Kind.Mode (parts ns))
-    (c.as_slice.ensures ∙ ap (λ (e : Elaborated). e.declared.names) c.requires.elaborated)))
-    (sym (c.as_slice-2.ensures ∙ ap (λ (e : Elaborated). e.said.entries) c.requires.elaborated)))
+    later_by (document_of c.args.rows.now) None None (Some c.in-Some-2.broken) _
+    (sym c.in_default.is ∙ declarations (goal.at.returns-in-Some-2 c).In_ok-broken)
+    (bodies (goal.at.returns-in-Some-2 c).In_default c.in_default-bodies_broken.ensures)
+    (sym c.in-Some-2.is ∙ tables (goal.at.returns-in-Some-2 c).In_ok-broken-2) refl
 
 pub returns : goal.returns
 returns c =
-    let d = document_of c.args.rows.now in
-    let bodies = sym (c.as_slice-bodies.ensures ∙ ap (λ (e : Elaborated). e.bodies) c.requires.elaborated) in
-    c.in_ok-broken-3.ensures d (sym (ap (λ (e : Elaborated). e.declared.first) c.requires.elaborated))
-    (sym (ap (λ (e : Elaborated). e.said) c.requires.elaborated))
-    ∙ later_rest d (sym c.in_default.is ∙ c.in_ok-broken.ensures d refl bodies)
-    (c.in_default-bodies_broken.ensures d refl (sym (ap (λ (e : Elaborated). e.names) c.requires.elaborated))
-    (sym (ap (λ (e : Elaborated). e.demands) c.requires.elaborated)) bodies)
-    (sym c.in_default-2.is
-    ∙ c.in_ok-broken-2.ensures d
-    (sym (c.limit_of-limit.ensures ∙ ap (λ (e : Elaborated). limit_of e.declared) c.requires.elaborated))
-    (sym (c.count_of-modes.ensures
-    ∙ ap (λ ns. count_of Kind.Mode (parts ns))
-    (c.as_slice.ensures ∙ ap (λ (e : Elaborated). e.declared.names) c.requires.elaborated)))
-    (sym (c.as_slice-2.ensures ∙ ap (λ (e : Elaborated). e.said.entries) c.requires.elaborated)))
+    later_by (document_of c.args.rows.now) None None None _
+    (sym c.in_default.is ∙ declarations (goal.at.returns c).In_ok-broken)
+    (bodies (goal.at.returns c).In_default c.in_default-bodies_broken.ensures)
+    (sym c.in_default-2.is ∙ tables (goal.at.returns c).In_ok-broken-2)
+    (c.in_ok-broken-3.ensures (document_of c.args.rows.now) (λ i. (sym c.requires.elaborated i).declared.first)
+    (λ i. (sym c.requires.elaborated i).said))
