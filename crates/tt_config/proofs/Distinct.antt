@@ -1,8 +1,8 @@
 -- The numbers of owners differ, where no owner has the number of one above.
-use Rattle.std.proofs.Common.{◌≡◌, ℕ, true, false, not, List, [], ◌∷◌, ◌++◌, map, Option, Some, None, refl, ap, ◌∙◌, sym, arith}
+use Rattle.std.proofs.Common.{◌≡◌, ℕ, true, false, not, List, [], ◌∷◌, ◌++◌, map, Option, Some, None, refl, ap, ◌∙◌, arith}
 use Rattle.std.specs.Prelude.{◌==◌, flat_map}
 use Rattle.std.specs.List.{AllByRecursion as Each, list_any}
-use Rattle.std.proofs.lemmas.Bool.{and_from, or_from}
+use Rattle.std.proofs.lemmas.Bool.{and_from}
 use Rattle.std.proofs.lemmas.Bool.Decides.{nat_tests}
 use Rattle.std.proofs.lemmas.List.{map-append}
 use Rattle.task_lang.specs.declared.demand.Demand.{Demand}
@@ -16,12 +16,12 @@ use Rattle.tt_parts.specs.declared.bodies.Owner.{Owner}
 use Rattle.tt_parts.specs.declared.bodies.Owner.TheVariants as owner
 use Rattle.tt_parts.specs.declared.bodies.BodyPart.{BodyPart}
 use Rattle.tt_parts.specs.Located.{parts}
-use Rattle.tt_rules.specs.DeclarationRules.{level_of, lines_10, lines_11, lines_12, lines_same, oisr_priority_of, osek_priority_of, same_number}
-use Rattle.tt_rules.specs.Shapes.{Differ, same_by}
-use Rattle.tt_rules.proofs.Each.{Pairs}
+use Rattle.tt_rules.specs.DeclarationRules.{level_of, lines_same, oisr_priority_of, osek_priority_of, same_number}
+use Rattle.tt_rules.specs.Shapes.{Differ, same_by, same_keys}
+use Rattle.tt_rules.proofs.Each.{Pairs, none_from_each, pairs_flat_map}
 use Rattle.tt_rules.proofs.Kept.{kept_one}
 use Rattle.tt_rules.proofs.Pairs.{pairs_differ}
-use Rattle.tt_config.specs.Owners.{isr_by, isr_in, osek_by, osek_in, oisr_by, oisr_in}
+use Rattle.tt_config.specs.Owners.{isr_by, osek_by, oisr_by}
 
 -- a number, if there is one, as a list
 abbrev told : Option ℕ → List ℕ
@@ -31,87 +31,59 @@ told (Some n) = n ∷ []
 other_way : (a b : ℕ) → (a == b) ≡ false → (b == a) ≡ false
 other_way a b is = grind (arith, nat_tests)
 
-module _ (number_of : Owner → Option ℕ) where
-  abbrev key : BodyPart → Option ℕ
-  key b = number_of b.owner
+-- each two numbers differ
+abbrev Apart : ℕ → ℕ → Type 0
+Apart a b = (b == a) ≡ false
 
-  abbrev numbers : List BodyPart → List ℕ
-  numbers bodies = flat_map (λ b. told (key b)) bodies
+distinct : (ns : List ℕ) → Pairs Apart ns → are_distinct ns ≡ true
+distinct [] h = refl
+distinct (n ∷ ns) h = and_from (not (list_any (λ other. other == n) ns)) _
+    (ap not (none_from_each (λ other. other == n) ns h.0)) (distinct ns h.1)
 
-  -- the owners after one with a number have other numbers
-  others : (n : ℕ) (o : Option ℕ) (bodies : List BodyPart) → o ≡ Some n
-      → Each (λ (b : BodyPart). same_by same_number (λ (x : Option ℕ). x) o (key b) ≡ false) bodies
-      → list_any (λ other. other == n) (numbers bodies) ≡ false
-  others n o [] is h = refl
-  others n None (b ∷ bodies) is h = cc
-  others n (Some m) (b ∷ bodies) is h = by (key b) h.0 (others n (Some m) bodies is h.1) where
-    by : (p : Option ℕ) → same_by same_number (λ (x : Option ℕ). x) (Some m) p ≡ false
-        → list_any (λ other. other == n) (numbers bodies) ≡ false
-        → list_any (λ other. other == n) (told p ++ numbers bodies) ≡ false
-    by None apart rest = rest
-    by (Some k) apart rest = let one : m ≡ n = cc in
-        or_from (k == n) _ (ap (λ j. k == j) (sym one) ∙ other_way m k apart) rest
+told_apart : (o p : Option ℕ) → same_keys same_number o p ≡ false → Each (λ a. Each (Apart a) (told p)) (told o)
+told_apart None p is = tt
+told_apart (Some a) None is = (tt, tt)
+told_apart (Some a) (Some b) is = ((other_way a b is, tt), tt)
 
-  distinct : (bodies : List BodyPart) → Pairs (λ (a b : BodyPart). same_by same_number key a b ≡ false) bodies
-      → are_distinct (numbers bodies) ≡ true
-  distinct [] h = refl
-  distinct (b ∷ bodies) h = by (key b) h.0 (distinct bodies h.1) where
-    by : (o : Option ℕ) → Each (λ (x : BodyPart). same_by same_number (λ (y : Option ℕ). y) o (key x) ≡ false) bodies
-        → are_distinct (numbers bodies) ≡ true → are_distinct (told o ++ numbers bodies) ≡ true
-    by None apart rest = rest
-    by (Some n) apart rest = and_from (not (list_any (λ other. other == n) (numbers bodies))) _
-        (ap not (others n (Some n) bodies refl apart)) rest
+told_alone : (o : Option ℕ) → Pairs Apart (told o)
+told_alone None = tt
+told_alone (Some n) = (tt, tt)
 
-  -- where a field of each thing is the number of its owner
-  fields : {A : Type 0} (field : A → ℕ) (part_in : BodyPart → List A)
-      → ((b : BodyPart) → map field (part_in b) ≡ told (key b)) → (bodies : List BodyPart)
-      → map field (flat_map part_in bodies) ≡ numbers bodies
-  fields field part_in same [] = refl
-  fields field part_in same (b ∷ bodies) =
-      map-append field (part_in b) (flat_map part_in bodies)
-      ∙ ap (λ ns. ns ++ map field (flat_map part_in bodies)) (same b)
-      ∙ ap (λ ns. told (key b) ++ ns) (fields field part_in same bodies)
+module _ (number_of : Owner → Option ℕ) {A : Type 0} (field : A → ℕ) (part_in : BodyPart → List A)
+    (same : (b : BodyPart) → map field (part_in b) ≡ told (number_of b.owner)) where
+  abbrev number : BodyPart → Option ℕ
+  number b = number_of b.owner
 
-  fields_distinct : {A : Type 0} (field : A → ℕ) (part_in : BodyPart → List A)
-      → ((b : BodyPart) → map field (part_in b) ≡ told (key b)) → (bodies : List (At BodyPart))
-      → lines_same number_of bodies ≡ [] → are_distinct (map field (flat_map part_in (parts bodies))) ≡ true
-  fields_distinct field part_in same bodies is =
-      ap are_distinct (fields field part_in same (parts bodies))
-      ∙ distinct (parts bodies) (pairs_differ (same_by same_number key) (parts bodies)
-      (kept_one 1 (Differ (same_by same_number key)) bodies is))
+  fields : (bodies : List BodyPart) → map field (flat_map part_in bodies) ≡ flat_map (λ b. told (number b)) bodies
+  fields [] = refl
+  fields (b ∷ bodies) = map-append field (part_in b) (flat_map part_in bodies)
+      ∙ (λ i. same b i ++ fields bodies i)
 
-module _ (demands : List Demand) where
-  level_told : (body : List Stmt) (o : Owner)
-      → map (λ (isr : IsrDef). isr.level) (isr_by demands body o) ≡ told (level_of o)
-  level_told body (owner.Isr level stack distance) = refl
-  level_told body other = refl
+  -- where no owner has the number of one above, the fields that are these numbers differ
+  pub fields_distinct : (bodies : List (At BodyPart)) → lines_same number_of bodies ≡ []
+      → are_distinct (map field (flat_map part_in (parts bodies))) ≡ true
+  fields_distinct bodies is =
+      let differ = same_by same_number number in
+      ap are_distinct (fields (parts bodies))
+      ∙ distinct (flat_map (λ b. told (number b)) (parts bodies))
+      (pairs_flat_map (λ b. told (number b)) (λ a b. differ a b ≡ false) Apart
+      (λ a b. told_apart (number a) (number b)) (λ b. told_alone (number b)) (parts bodies)
+      (pairs_differ differ (parts bodies) (kept_one 1 (Differ differ) bodies is)))
 
-  osek_told : (body : List Stmt) (o : Owner)
+module _ (demands : List Demand) (body : List Stmt) where
+  -- 10. The levels of interrupt service routines.
+  pub level_told : (o : Owner) → map (λ (isr : IsrDef). isr.level) (isr_by demands body o) ≡ told (level_of o)
+  level_told (owner.Isr level stack distance) = refl
+  level_told other = refl
+
+  -- 11. The priorities of OSEK tasks.
+  pub osek_told : (o : Owner)
       → map (λ (task : OsekDef). task.priority) (osek_by demands body o) ≡ told (osek_priority_of o)
-  osek_told body (owner.Osek priority auto) = refl
-  osek_told body other = refl
+  osek_told (owner.Osek priority auto) = refl
+  osek_told other = refl
 
-  oisr_told : (body : List Stmt) (o : Owner)
+  -- 12. The priorities of OSEK interrupt service routines.
+  pub oisr_told : (o : Owner)
       → map (λ (oisr : OisrDef). oisr.priority) (oisr_by demands body o) ≡ told (oisr_priority_of o)
-  oisr_told body (owner.Oisr priority) = refl
-  oisr_told body other = refl
-
-  -- 10. The levels of interrupt service routines differ.
-  pub levels : (bodies : List (At BodyPart)) → lines_10 bodies ≡ []
-      → are_distinct (map (λ (isr : IsrDef). isr.level) (flat_map (isr_in demands) (parts bodies))) ≡ true
-  levels bodies is = fields_distinct level_of (λ (isr : IsrDef). isr.level) (isr_in demands)
-      (λ b. level_told b.body b.owner) bodies is
-
-  -- 11. The priorities of OSEK tasks differ.
-  pub osek_priorities : (bodies : List (At BodyPart)) → lines_11 bodies ≡ []
-      → are_distinct (map (λ (task : OsekDef). task.priority) (flat_map (osek_in demands) (parts bodies))) ≡ true
-  osek_priorities bodies is =
-      fields_distinct osek_priority_of (λ (task : OsekDef). task.priority) (osek_in demands)
-      (λ b. osek_told b.body b.owner) bodies is
-
-  -- 12. The priorities of OSEK interrupt service routines differ.
-  pub oisr_priorities : (bodies : List (At BodyPart)) → lines_12 bodies ≡ []
-      → are_distinct (map (λ (oisr : OisrDef). oisr.priority) (flat_map (oisr_in demands) (parts bodies))) ≡ true
-  oisr_priorities bodies is =
-      fields_distinct oisr_priority_of (λ (oisr : OisrDef). oisr.priority) (oisr_in demands)
-      (λ b. oisr_told b.body b.owner) bodies is
+  oisr_told (owner.Oisr priority) = refl
+  oisr_told other = refl

@@ -10,21 +10,22 @@ use Rattle.tt_base.specs.Names.{count_of, declared, declared_at, find_name, inde
 use Rattle.tt_parts.specs.Names.{number_named}
 use Rattle.tt_rules.specs.BodyRules.{uses, has_kind, is_declared}
 
-abbrev pub one_if : Bool → ℕ
-one_if true = 1
-one_if false = 0
+-- one more, where a test says so
+abbrev pub more : Bool → ℕ → ℕ
+more true n = suc n
+more false n = n
 
 -- one more name
 pub count-cons : (kind : NameKind) (first : NameEntry) (names : List NameEntry)
-    → count_of kind (first ∷ names) ≡ one_if (is_same_kind kind first.kind) + count_of kind names
+    → count_of kind (first ∷ names) ≡ more (is_same_kind kind first.kind) (count_of kind names)
 count-cons kind first names = by (is_same_kind kind first.kind) where
   rest : List NameEntry
   rest = filter (λ (entry : NameEntry). is_same_kind kind entry.kind) names
 
   by : (same : Bool) → length (map (λ (entry : NameEntry). entry.name) (cond same (first ∷ rest) rest))
-      ≡ one_if same + length (map (λ (entry : NameEntry). entry.name) rest)
-  by true = omega arith
-  by false = omega arith
+      ≡ more same (length (map (λ (entry : NameEntry). entry.name) rest))
+  by true = refl
+  by false = refl
 
 same_itself : (kind : NameKind) → is_same_kind kind kind ≡ true
 same_itself kind = eq-eqb (index_of kind) (index_of kind) refl
@@ -37,6 +38,10 @@ number_of-declared : (kind : NameKind) (number : ℕ) → number_of (declared ki
 number_of-declared Kind.Mode number = refl
 number_of-declared kind number = refl
 
+below_more : (same : Bool) (m n : ℕ) → m < n → more same m < more same n
+below_more true m n lt = omega arith
+below_more false m n lt = lt
+
 -- the number of an entry is below the count of its kind
 below : (names : List NameEntry) (place : ℕ) (entry : NameEntry) → slice_get names place ≡ Some entry
     → count_of entry.kind (take place names) < count_of entry.kind names
@@ -45,16 +50,10 @@ below (first ∷ names) zero entry is =
     let one : first ≡ entry = cc in
     let same : is_same_kind entry.kind first.kind ≡ true = ap (λ (e : NameEntry). is_same_kind entry.kind e.kind) one
     ∙ same_itself entry.kind in
-    let more : count_of entry.kind (first ∷ names) ≡ 1 + count_of entry.kind names = count-cons entry.kind first names
-    ∙ ap (λ b. one_if b + count_of entry.kind names) same in
-    omega (arith, more)
+    omega (arith, count-cons entry.kind first names ∙ ap (λ b. more b (count_of entry.kind names)) same)
 below (first ∷ names) (suc place) entry is =
-    omega (
-      arith,
-      count-cons entry.kind first names,
-      count-cons entry.kind first (take place names),
-      below names place entry is,
-    )
+    let lt = below_more (is_same_kind entry.kind first.kind) _ _ (below names place entry is) in
+    omega (arith, count-cons entry.kind first names, count-cons entry.kind first (take place names), lt)
 
 -- how many names have a kind at a place among the kinds
 abbrev count_at : ℕ → List NameEntry → ℕ

@@ -22,6 +22,7 @@ use Rattle.tt_parts.specs.Entries.{entry_in, rounds_in}
 use Rattle.tt_parts.specs.Names.{names_in, number_named}
 use Rattle.tt_parts.specs.Parts.{declarations_of}
 use Rattle.tt_rules.specs.BodyRules.{is_declared, uses}
+use Rattle.tt_rules.specs.DeclarationRules.{level_of, oisr_priority_of, osek_priority_of}
 use Rattle.tt_rules.specs.Document.{document_of, first_or_zero}
 use Rattle.tt_rules.specs.Laws.{AreDeclarationsSound, AreTablesKept}
 use Rattle.tt_rules.specs.Order.{below}
@@ -37,7 +38,7 @@ use Rattle.tt_config.specs.Parts.{config_of, config_with, script_of}
 use Rattle.tt_config.specs.Sound.{IsSound}
 use Rattle.tt_config.proofs.Asked.{none_broken}
 use Rattle.tt_config.proofs.Counted.{few, named}
-use Rattle.tt_config.proofs.Distinct.{levels, osek_priorities, oisr_priorities}
+use Rattle.tt_config.proofs.Distinct.{fields_distinct, level_told, osek_told, oisr_told}
 use Rattle.tt_config.proofs.Known.{number_below}
 use Rattle.tt_config.proofs.Rows.{IsRowFit, each_part, rows_fit}
 use Rattle.tt_config.proofs.SoundBodies.{bodies_are_sound, bodies_fit, mosts_in_range, usuals_in_range}
@@ -143,9 +144,11 @@ module _ (rows : List NumberedRow) (sound : AreSound rows) (none : AreKept the_r
         isrs = bodies.isrs;
         oseks = bodies.oseks;
         oisrs = bodies.oisrs;
-        levels = levels c.demands located (none 9);
-        osek_priorities = osek_priorities c.demands located (none 10);
-        oisr_priorities = oisr_priorities c.demands located (none 11);
+        levels = fields_distinct level_of _ _ (λ b. level_told c.demands b.body b.owner) located (none 9);
+        osek_priorities =
+            fields_distinct osek_priority_of _ _ (λ b. osek_told c.demands b.body b.owner) located (none 10);
+        oisr_priorities =
+            fields_distinct oisr_priority_of _ _ (λ b. oisr_told c.demands b.body b.owner) located (none 11);
         error_hook = bodies.error_hook;
         shutdown_hook = bodies.shutdown_hook;
         modes = modes_sound;
