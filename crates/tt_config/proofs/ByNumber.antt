@@ -5,36 +5,22 @@ use Rattle.std.proofs.lemmas.Bool.{eqb-true}
 use Rattle.std.proofs.lemmas.Bool.Decides.{nat_tests}
 use Rattle.std.proofs.lemmas.Grind.{flat_map-append, get_or-set_at}
 use Rattle.std.proofs.lemmas.List.{append-nil, ext_get_or, get_or_append_left, get_or_push, get_or-map, get_or-replicate, get_or-set_other, length-replicate, length-map, length-set, map-append, take_more}
+use Rattle.std.proofs.lemmas.List.FromFn.{fill_by_all, get_or-map-range_with_len}
 use Rattle.tt_parts.specs.declared.located.At.{At}
 use Rattle.tt_parts.specs.Located.{parts}
 use Rattle.tt_rules.specs.Order.{below}
 use Rattle.tt_config.specs.Lists.{at_number, by_number, given, put_at}
-use Rattle.tt_config.proofs.Counted.{length-below}
-
--- the number at a place in the numbers below n
-get_or-below : (n k d : ℕ) → k < n → get_or (below n) k d ≡ k
-get_or-below zero k d lt = absurd (omega arith)
-get_or-below (suc n) k d lt = by (k == n) refl (get_or-below n k d) where
-  by : (last : Bool) → (k == n) ≡ last → (k < n → get_or (below n) k d ≡ k) → get_or (below n ++ n ∷ []) k d ≡ k
-  by true is rest = let same : k ≡ n = eqb-true k n is in get_or_push (below n) n d k (length-below n ∙ sym same)
-      ∙ sym same
-  by false is rest =
-      let less : k < n = grind (arith, nat_tests) in
-      get_or_append_left (below n) (n ∷ []) d k (omega (arith, length-below n)) ∙ rest less
+use Rattle.tt_config.proofs.Counted.{below_is, length-each}
 
 -- what belongs to each number below n, read at one number
 get_or-each : {X : Type 0} (f : ℕ → X) (n k : ℕ) (d : X) → k < n → get_or (map f (below n)) k d ≡ f k
-get_or-each f n k d lt = get_or-map f (below n) k 0 d (omega (arith, length-below n)) ∙ ap f (get_or-below n k 0 lt)
-
-length-each : {X : Type 0} (f : ℕ → X) (n : ℕ) → length (map f (below n)) ≡ n
-length-each f n = length-map (below n) f ∙ length-below n
+get_or-each f n k d lt =
+    ap (λ ks. get_or (map f ks) k d) (below_is n) ∙ get_or-map-range_with_len f 0 n k k d lt (omega arith)
 
 -- a list whose item at each number is what belongs to that number is the list of these
 same_each : {X : Type 0} (f : ℕ → X) (n : ℕ) (xs : List X) (d : X) → length xs ≡ n
     → ((k : ℕ) → k < n → get_or xs k d ≡ f k) → xs ≡ map f (below n)
-same_each f n xs d long each =
-    ext_get_or d xs (map f (below n)) (long ∙ sym (length-each f n))
-    (λ k lt. let less : k < n = omega arith in each k less ∙ sym (get_or-each f n k d less))
+same_each f n xs d long each = fill_by_all f xs n d long each ∙ ap (map f) (sym (below_is n))
 
 module _ {A B : Type 0} (count : ℕ) (place : A → Option (ℕ × B)) where
   -- at first none
@@ -51,24 +37,16 @@ module _ {A B : Type 0} (count : ℕ) (place : A → Option (ℕ × B)) where
   put_one : (xs : List A) (o : Option (ℕ × B)) (k : ℕ) → k < count
       → get_or (put_at o (by_number count place xs)) k [] ≡ given place xs k ++ at_number k o
   put_one xs None k lt = get_or-each (given place xs) count k [] lt ∙ sym (append-nil (given place xs k))
-  put_one xs (Some p) k lt = by (p.0 == k) refl where
-    lists : List (List B)
-    lists = by_number count place xs
-
-    here : p.0 ≡ k → get_or (set lists p.0 (get_or lists p.0 [] ++ p.1 ∷ [])) k [] ≡ given place xs k ++ p.1 ∷ []
-    here same =
-        get_or-set_at lists p.0 k (get_or lists p.0 [] ++ p.1 ∷ []) [] (sym same)
-        (omega (arith, length-each (given place xs) count))
-        ∙ ap (λ ys. ys ++ p.1 ∷ []) (ap (λ m. get_or lists m []) same ∙ get_or-each (given place xs) count k [] lt)
-
-    by : (same : Bool) → (p.0 == k) ≡ same
-        → get_or (set lists p.0 (get_or lists p.0 [] ++ p.1 ∷ [])) k []
-        ≡ given place xs k ++ (if same then p.1 ∷ [] else [])
-    by true is = here (eqb-true p.0 k is)
-    by false is =
-        let apart : k ≢ p.0 = grind (arith, nat_tests) in
-        get_or-set_other lists p.0 k (get_or lists p.0 [] ++ p.1 ∷ []) [] apart
-        ∙ get_or-each (given place xs) count k [] lt ∙ sym (append-nil (given place xs k))
+  put_one xs (Some p) k lt =
+      grind (
+        arith,
+        nat_tests,
+        get_or-set_at,
+        get_or-set_other,
+        append-nil (given place xs k),
+        length-each (given place xs) count,
+        get_or-each (given place xs) count k [] lt,
+      )
 
   length-put : (xs : List A) (o : Option (ℕ × B)) → length (put_at o (by_number count place xs)) ≡ count
   length-put xs None = length-each (given place xs) count

@@ -1,7 +1,9 @@
 -- There are as many names of each kind as parts of that kind.
-use Rattle.std.proofs.Common.{◌≡◌, ℕ, zero, suc, ◌≤◌, Bool, false, List, [], ◌∷◌, length, Option, Some, None, refl, ap, sym, subst, ◌∙◌, arith}
+use Rattle.std.proofs.Common.{◌≡◌, ℕ, zero, suc, ◌+◌, ◌≤◌, Bool, false, List, [], ◌∷◌, ◌++◌, length, map, Option, Some, None, refl, ap, sym, subst, ◌∙◌, arith}
 use Rattle.std.specs.Prelude.{flat_map}
-use Rattle.std.proofs.lemmas.List.{length-append, length-map}
+use Rattle.std.specs.List.{range_with_len}
+use Rattle.std.proofs.lemmas.List.{map-id}
+use Rattle.std.proofs.lemmas.List.FromFn.{length-map-range_with_len, map-range_with_len_more}
 use Rattle.task_lang.specs.declared.demand.Demand.{Demand}
 use Rattle.tt_base.specs.declared.names.NameKind.{NameKind}
 use Rattle.tt_base.specs.declared.names.NameKind.TheVariants as Kind
@@ -26,9 +28,15 @@ use Rattle.tt_config.specs.Document.{elaborated_of}
 use Rattle.tt_config.specs.Parts.{config_with}
 use Rattle.tt_config.proofs.Known.{more, count-cons}
 
-pub length-below : (n : ℕ) → length (below n) ≡ n
-length-below zero = refl
-length-below (suc n) = length-append (below n) (n ∷ []) ∙ omega (arith, length-below n)
+-- the numbers below n, from 0 on
+pub below_is : (n : ℕ) → below n ≡ range_with_len 0 n
+below_is zero = refl
+below_is (suc n) = ap (λ ks. ks ++ n ∷ []) (below_is n ∙ sym (map-id (range_with_len 0 n)))
+    ∙ sym (map-range_with_len_more (λ k. k) 0 n n (omega arith))
+    ∙ map-id (range_with_len 0 (n + 1)) ∙ ap (range_with_len 0) {y = suc n} (omega arith)
+
+pub length-each : {X : Type 0} (f : ℕ → X) (n : ℕ) → length (map f (below n)) ≡ n
+length-each f n = ap (λ ks. length (map f ks)) (below_is n) ∙ length-map-range_with_len f 0 n
 
 -- a row declares a name of a kind
 abbrev is_kind : NameKind → Option NameEntry → Bool
@@ -101,8 +109,7 @@ named rows =
     let names = names_in rows in
     let demands = parts (each_at demand_in rows) in
     record {
-      modes = sym (length-map (below (count_of Kind.Mode names)) (mode_with (parts (elaborated_of rows).said.entries))
-          ∙ length-below (count_of Kind.Mode names));
+      modes = sym (length-each (mode_with (parts (elaborated_of rows).said.entries)) (count_of Kind.Mode names));
       vars = count_parts Kind.Var var_in var_adds rows;
       demands = count_parts Kind.Demand demand_in demand_adds rows;
       tasks = count_owners Kind.Task (task_in demands) (task_adds demands) names rows;

@@ -1,9 +1,10 @@
 -- The bodies of a configuration meet its rules.
-use Rattle.std.proofs.Common.{◌≡◌, ℕ, ◌^◌, ◌<◌, ◌≤◌, Bool, true, false, List, [], ◌∷◌, length, refl, ap, sym, ◌∙◌, arith, subst}
+use Rattle.std.proofs.Common.{◌≡◌, ℕ, ◌^◌, ◌<◌, ◌≤◌, Bool, true, false, List, [], ◌∷◌, length, get_or, refl, arith, subst}
 use Rattle.std.specs.Prelude.{◌&&◌, ◌||◌, nat_le, flat_map, IfSome}
 use Rattle.std.specs.List.{AllByRecursion as Each}
 use Rattle.std.proofs.lemmas.Bool.{and_parts, leb-true}
-use Rattle.std.proofs.lemmas.List.Elements.{All-from_recursion}
+use Rattle.std.proofs.lemmas.List.Elements.{All-from_recursion, recursion_from_All}
+use Rattle.task_lang.specs.declared.allowed.OwnerKind.{OwnerKind}
 use Rattle.task_lang.specs.declared.allowed.OwnerKind.TheVariants as kind
 use Rattle.task_lang.specs.declared.demand.Demand.{Demand}
 use Rattle.task_lang.specs.declared.syntax.Stmt.{Stmt}
@@ -13,7 +14,7 @@ use Rattle.tt_base.specs.declared.names.NameEntry.{NameEntry}
 use Rattle.tt_base.specs.declared.names.NameKind.TheVariants as Kind
 use Rattle.tt_base.specs.Names.{count_of}
 use Rattle.tt_world.specs.declared.config.ConfigParts.{ConfigParts}
-use Rattle.tt_world.specs.ConfigRules.{IsBody, IsRoutine, IsTask, IsIsr, IsOsek, IsOisr, is_distance}
+use Rattle.tt_world.specs.ConfigRules.{IsBody, IsRoutine, IsTask, IsIsr, IsOsek, IsOisr}
 use Rattle.tt_rows.specs.declared.row.Row.{Row}
 use Rattle.tt_rows.specs.declared.row.Row.TheVariants as r
 use Rattle.tt_rows.specs.declared.row.NumberedRow.{NumberedRow}
@@ -25,7 +26,7 @@ use Rattle.tt_parts.specs.Located.{each_at, parts}
 use Rattle.tt_parts.specs.Bodies.{Head, bodies_of, head_of, owner_in}
 use Rattle.tt_parts.specs.Entries.{demand_in}
 use Rattle.tt_parts.specs.Names.{names_in}
-use Rattle.tt_rules.specs.BodyRules.{AreTellable, has_statement, is_hook, is_light}
+use Rattle.tt_rules.specs.BodyRules.{AreTellable, IsTellable, has_statement, is_light}
 use Rattle.tt_rules.specs.DeclarationRules.{has_numbers_in_range, lines_9}
 use Rattle.tt_rules.specs.Laws.{IsBodySound, kind_of}
 use Rattle.tt_rules.specs.RoundRules.{is_within}
@@ -35,7 +36,7 @@ use Rattle.tt_rules.proofs.Kept.{EachRow, each_kept, each_row}
 use Rattle.tt_rules.proofs.SoundBodies.{Passes, bodies_pass, bodies_sound, number_passes}
 use Rattle.tt_config.specs.BodyRules.{BodiesAreSound, HasSoundBodies, KeepBodyRules}
 use Rattle.tt_config.specs.Document.{elaborated_of}
-use Rattle.tt_config.specs.Owners.{AreFit, FitsOwner, task_by, task_in, isr_by, isr_in, osek_by, osek_in, oisr_by, oisr_in, error_hook_by, error_hook_in, shutdown_hook_by, shutdown_hook_in, first_body}
+use Rattle.tt_config.specs.Owners.{AreFit, IsFit, IsInRange, task_by, isr_by, osek_by, oisr_by, error_hook_by, shutdown_hook_by, first_body}
 use Rattle.tt_config.specs.Parts.{config_of, config_with}
 use Rattle.tt_config.proofs.Counted.{named}
 use Rattle.tt_config.proofs.Limits.{bodies_nested, bodies_counted}
@@ -52,44 +53,22 @@ demand_fits row fit = tt
 
 -- ---- owners
 
--- the numbers of an owner are in range
-abbrev IsInRange : Owner → Type 0
-IsInRange (owner.Task stack) = nat_le stack 65535 ≡ true
-IsInRange (owner.Isr level stack distance) =
-    (is_within 1 255 level ≡ true) × ((nat_le stack 65535 ≡ true) × (is_distance distance ≡ true))
-IsInRange (owner.Osek priority auto) = is_within 1 255 priority ≡ true
-IsInRange (owner.Oisr priority) = is_within 1 255 priority ≡ true
-IsInRange other = Unit {0}
+within : (n : ℕ) → is_within 1 255 n ≡ true → (1 ≤ n) × (n ≤ 255)
+within n is = let both = and_parts (nat_le 1 n) (nat_le n 255) is in (leb-true 1 n both.0, leb-true n 255 both.1)
 
 owner_fits : (row : Row) → has_numbers_in_range row ≡ true → IfSome (owner_in row) IsInRange
-owner_fits (r.Task name stack) fit = fit
-owner_fits (r.Isr name level stack) fit = let both = and_parts (is_within 1 255 level) (nat_le stack 65535) fit in
-    (both.0, (both.1, refl))
+owner_fits (r.Task name stack) fit = leb-true stack 65535 fit
+owner_fits (r.Isr name level stack) fit =
+    let both = and_parts (is_within 1 255 level) (nat_le stack 65535) fit in
+    ((within level both.0).0, ((within level both.0).1, (leb-true stack 65535 both.1, refl)))
 owner_fits (r.IsrFar name level stack distance) fit =
     let both = and_parts (is_within 1 255 level) (nat_le stack 65535 && is_within 1 1000000000 distance) fit in
-    (both.0, and_parts (nat_le stack 65535) (is_within 1 1000000000 distance) both.1)
-owner_fits (r.Osek name priority) fit = fit
-owner_fits (r.OsekAuto name priority) fit = fit
-owner_fits (r.Oisr name priority) fit = fit
+    let rest = and_parts (nat_le stack 65535) (is_within 1 1000000000 distance) both.1 in
+    ((within level both.0).0, ((within level both.0).1, (leb-true stack 65535 rest.0, rest.1)))
+owner_fits (r.Osek name priority) fit = within priority fit
+owner_fits (r.OsekAuto name priority) fit = within priority fit
+owner_fits (r.Oisr name priority) fit = within priority fit
 owner_fits row fit = tt
-
-fits_owner : (demands : List Demand) (body : List Stmt) (o : Owner) → IsInRange o
-    → is_hook o || nat_le (worst_in demands body) (10 ^ 12) ≡ true → FitsOwner demands body o
-fits_owner demands body (owner.Task stack) range light =
-    (leb-true stack 65535 range, leb-true (worst_in demands body) (10 ^ 12) light)
-fits_owner demands body (owner.Isr level stack distance) range light = (
-  leb-true level 255 (and_parts (nat_le 1 level) (nat_le level 255) range.0).1,
-  (leb-true stack 65535 range.1.0, leb-true (worst_in demands body) (10 ^ 12) light),
-)
-fits_owner demands body (owner.Osek priority auto) range light = (
-  leb-true priority 255 (and_parts (nat_le 1 priority) (nat_le priority 255) range).1,
-  leb-true (worst_in demands body) (10 ^ 12) light,
-)
-fits_owner demands body (owner.Oisr priority) range light = (
-  leb-true priority 255 (and_parts (nat_le 1 priority) (nat_le priority 255) range).1,
-  leb-true (worst_in demands body) (10 ^ 12) light,
-)
-fits_owner demands body other range light = tt
 
 -- ---- bodies whose worst case can be computed
 
@@ -117,18 +96,16 @@ module _ (rows : List NumberedRow) (short : length rows < 2 ^ 32) (is_2 : lines_
 
   -- 2, 3, 9. The worst case of each body can be computed.
   pub tellable : AreTellable demands (bodies_of (names_in rows) rows)
-  tellable = by (bodies_of (names_in rows) rows) (bodies_nested (names_in rows) rows is_2 is_3)
-      (bodies_counted (names_in rows) rows short)
-      (bodies_pass (names_in rows) is_number_in_range (λ row. has_numbers_in_range row ≡ true)
-      (number_passes (names_in rows)) rows is_2 in_range) where
-        by : (xs : List (At BodyPart)) → Each (λ (x : At BodyPart). IsNestedInLimit x.part.body) xs
-            → Each (λ (x : At BodyPart). IsCountInLimit x.part.body) xs
-            → Each (λ (x : At BodyPart). each_in is_number_in_range x.part.body ≡ true) xs → AreTellable demands xs
-        by [] nested counted numbers = tt
-        by (x ∷ xs) nested counted numbers = (
-          record { nested = nested.0; counted = counted.0; numbers = numbers.0; mosts = mosts_in_range },
-          by xs nested.1 counted.1 numbers.1,
-        )
+  tellable =
+      let names = names_in rows in
+      let bodies = bodies_of names rows in
+      recursion_from_All (λ (x : At BodyPart). IsTellable demands x.part.body) bodies (λ k d lt. record {
+        nested = All-from_recursion _ bodies (bodies_nested names rows is_2 is_3) k d lt;
+        counted = All-from_recursion _ bodies (bodies_counted names rows short) k d lt;
+        numbers = All-from_recursion _ bodies (bodies_pass names is_number_in_range
+            (λ row. has_numbers_in_range row ≡ true) (number_passes names) rows is_2 in_range) k d lt;
+        mosts = mosts_in_range;
+      })
 
 -- ---- bodies that break no rule
 
@@ -156,63 +133,52 @@ module _ (c : ConfigParts) where
   first_good [] h = hook
   first_good (body ∷ bodies) h = h.0
 
-  routine_good : (body : List Stmt) (o : Owner) → IsGood c (record { owner = o; body = body }) → is_hook o ≡ false
-      → IsRoutine c (kind_of o) body (worst_in c.demands body)
-  routine_good body o good is = record {
-    is_body = good.body;
-    some = leb-true 1 (length body) (ap (λ b. b || nat_le 1 (length body)) (sym is) ∙ good.some);
+  routine_good : {k : OwnerKind} (body : List Stmt) → IsBody c k body → nat_le 1 (length body) ≡ true
+      → nat_le (worst_in c.demands body) (10 ^ 12) ≡ true → IsRoutine c k body (worst_in c.demands body)
+  routine_good body good some light = record {
+    is_body = good;
+    some = leb-true 1 (length body) some;
     worst = refl;
-    bounded = leb-true (worst_in c.demands body) (10 ^ 12)
-        (ap (λ b. b || nat_le (worst_in c.demands body) (10 ^ 12)) (sym is) ∙ good.light);
+    bounded = leb-true (worst_in c.demands body) (10 ^ 12) light;
   }
 
-  least : (n : ℕ) → is_within 1 255 n ≡ true → 1 ≤ n
-  least n is = leb-true 1 n (and_parts (nat_le 1 n) (nat_le n 255) is).0
+  -- what good bodies give has a property
+  abbrev Gives : {D : Type 0} → (List Stmt → Owner → List D) → (D → Type 0) → Type 0
+  Gives part_by Q = (body : List Stmt) (o : Owner) → IsGood c (record { owner = o; body = body })
+      → Each Q (part_by body o)
 
-  task_good : (body : List Stmt) (o : Owner) → IsGood c (record { owner = o; body = body })
-      → Each (IsTask c) (task_by c.demands body o)
+  task_good : Gives (task_by c.demands) (IsTask c)
   task_good body (owner.Task stack) good =
-      (record { routine = routine_good body (owner.Task stack) good refl; stack = leb-true stack 65535 good.range }, tt)
+      (record { routine = routine_good body good.body good.some good.light; stack = good.range }, tt)
   task_good body other good = tt
 
-  isr_good : (body : List Stmt) (o : Owner) → IsGood c (record { owner = o; body = body })
-      → Each (IsIsr c) (isr_by c.demands body o)
+  isr_good : Gives (isr_by c.demands) (IsIsr c)
   isr_good body (owner.Isr level stack distance) good = (
     record {
-      routine = routine_good body (owner.Isr level stack distance) good refl;
-      stack = leb-true stack 65535 good.range.1.0;
-      level = least level good.range.0;
-      distance = good.range.1.1;
+      routine = routine_good body good.body good.some good.light;
+      stack = good.range.1.1.0;
+      level = good.range.0;
+      distance = good.range.1.1.1;
     },
     tt,
   )
   isr_good body other good = tt
 
-  osek_good : (body : List Stmt) (o : Owner) → IsGood c (record { owner = o; body = body })
-      → Each (IsOsek c) (osek_by c.demands body o)
-  osek_good body (owner.Osek priority auto) good = (
-    record {
-      routine = routine_good body (owner.Osek priority auto) good refl;
-      priority =
-          least priority good.range;
-    },
-    tt,
-  )
+  osek_good : Gives (osek_by c.demands) (IsOsek c)
+  osek_good body (owner.Osek priority auto) good =
+      (record { routine = routine_good body good.body good.some good.light; priority = good.range.0 }, tt)
   osek_good body other good = tt
 
-  oisr_good : (body : List Stmt) (o : Owner) → IsGood c (record { owner = o; body = body })
-      → Each (IsOisr c) (oisr_by c.demands body o)
+  oisr_good : Gives (oisr_by c.demands) (IsOisr c)
   oisr_good body (owner.Oisr priority) good =
-      (record { routine = routine_good body (owner.Oisr priority) good refl; priority = least priority good.range }, tt)
+      (record { routine = routine_good body good.body good.some good.light; priority = good.range.0 }, tt)
   oisr_good body other good = tt
 
-  error_good : (body : List Stmt) (o : Owner) → IsGood c (record { owner = o; body = body })
-      → Each (IsBody c kind.Hook) (error_hook_by body o)
+  error_good : Gives error_hook_by (IsBody c kind.Hook)
   error_good body owner.ErrorHook good = (good.body, tt)
   error_good body other good = tt
 
-  shutdown_good : (body : List Stmt) (o : Owner) → IsGood c (record { owner = o; body = body })
-      → Each (IsBody c kind.Hook) (shutdown_hook_by body o)
+  shutdown_good : Gives shutdown_hook_by (IsBody c kind.Hook)
   shutdown_good body owner.ShutdownHook good = (good.body, tt)
   shutdown_good body other good = tt
 
@@ -236,80 +202,59 @@ module _ (rows : List NumberedRow) (rules : KeepBodyRules rows) where
       → Each (λ (x : At BodyPart). each_in test x.part.body ≡ true) bodies
   passed test each = bodies_pass names test (IsRowFit names) each rows rules.rule_2 fit
 
-  good_bodies : Each (λ (x : At BodyPart). IsGood c x.part) bodies
-  good_bodies =
-      by bodies (bodies_nested names rows rules.rule_2 rules.rule_3) (bodies_counted names rows rules.short)
-      (bodies_sound names rows rules.rule_2 rules.rule_9 rules.rule_15)
-      (passed is_expression_short (row_short names))
-      (passed (has_variables (count_of Kind.Var names)) (row_variables names))
-      (passed (has_demand (count_of Kind.Demand names)) (row_demand names))
-      (passed (has_callee (count_of Kind.Mode names) (count_of Kind.Osek names)) (row_callee names))
-      ranges (each_kept has_statement bodies rules.rule_16)
-      (each_kept (is_light c.demands) bodies rules.rule_17) where
-        by : (xs : List (At BodyPart)) → Each (λ (x : At BodyPart). IsNestedInLimit x.part.body) xs
-            → Each (λ (x : At BodyPart). IsCountInLimit x.part.body) xs
-            → Each (λ (x : At BodyPart). IsBodySound x.part) xs
-            → Each (λ (x : At BodyPart). each_in is_expression_short x.part.body ≡ true) xs
-            → Each (λ (x : At BodyPart). each_in (has_variables (count_of Kind.Var names)) x.part.body ≡ true) xs
-            → Each (λ (x : At BodyPart). each_in (has_demand (count_of Kind.Demand names)) x.part.body ≡ true) xs
-            → Each (λ (x : At BodyPart). each_in
-            (has_callee (count_of Kind.Mode names) (count_of Kind.Osek names)) x.part.body ≡ true) xs
-            → Each (λ (x : At BodyPart). IsInRange x.part.owner) xs
-            → Each (λ (x : At BodyPart). has_statement x.part ≡ true) xs
-            → Each (λ (x : At BodyPart). is_light c.demands x.part ≡ true) xs
-            → Each (λ (x : At BodyPart). IsGood c x.part) xs
-        by [] nested counted own short_ vars dems calls range some light = tt
-        by (x ∷ xs) nested counted own short_ vars dems calls range some light = (
-          record {
-            body = record {
-              nested = nested.0;
-              counted = counted.0;
-              numbers = own.0.numbers;
-              expressions = short_.0;
-              variables = subst (λ n. HasVariables n x.part.body) (named rows).vars vars.0;
-              demands = subst (λ n. HasDemands n x.part.body) (named rows).demands dems.0;
-              callees = subst (λ n. HasCallees n (length c.oseks) x.part.body) (named rows).modes
-                  (subst (λ n. HasCallees (count_of Kind.Mode names) n x.part.body) (named rows).oseks calls.0);
-              allowed = own.0.allowed;
-            };
-            range = range.0;
-            some = some.0;
-            light = light.0;
-          },
-          by xs nested.1 counted.1 own.1 short_.1 vars.1 dems.1 calls.1 range.1 some.1 light.1,
-        )
+  good : Each (λ (x : At BodyPart). IsGood c x.part) bodies
+  good = recursion_from_All (λ (x : At BodyPart). IsGood c x.part) bodies (λ k d lt.
+      let own = All-from_recursion _ bodies (bodies_sound names rows rules.rule_2 rules.rule_9 rules.rule_15) k d lt in
+      let vars = count_of Kind.Var names in
+      let modes = count_of Kind.Mode names in
+      let oseks = count_of Kind.Osek names in
+      let body = (get_or bodies k d).part.body in
+      record {
+        body = record {
+          nested = All-from_recursion _ bodies (bodies_nested names rows rules.rule_2 rules.rule_3) k d lt;
+          counted = All-from_recursion _ bodies (bodies_counted names rows rules.short) k d lt;
+          numbers = own.numbers;
+          expressions = All-from_recursion _ bodies (passed is_expression_short (row_short names)) k d lt;
+          variables = subst (λ n. HasVariables n body) (named rows).vars
+              (All-from_recursion _ bodies (passed (has_variables vars) (row_variables names)) k d lt);
+          demands = subst (λ n. HasDemands n body) (named rows).demands
+              (All-from_recursion _ bodies (passed (has_demand _) (row_demand names)) k d lt);
+          callees = subst (λ n. HasCallees n (length c.oseks) body) (named rows).modes
+              (subst (λ n. HasCallees modes n body) (named rows).oseks
+              (All-from_recursion _ bodies (passed (has_callee modes oseks) (row_callee names)) k d lt));
+          allowed = own.allowed;
+        };
+        range = All-from_recursion _ bodies ranges k d lt;
+        some = All-from_recursion _ bodies (each_kept has_statement bodies rules.rule_16) k d lt;
+        light = All-from_recursion _ bodies (each_kept (is_light c.demands) bodies rules.rule_17) k d lt;
+      })
 
-  good : Each (IsGood c) (parts bodies)
-  good = each_map (IsGood c) (λ (x : At BodyPart). x.part) bodies good_bodies
-
-  owned : {D : Type 0} (part_in : BodyPart → List D) (Q : D → Type 0)
-      → ((body : List Stmt) (o : Owner) → IsGood c (record { owner = o; body = body })
-      → Each Q (part_in (record { owner = o; body = body })))
-      → Each Q (flat_map part_in (parts bodies))
-  owned part_in Q gives = each_flat_map part_in (IsGood c) Q (λ b g. gives b.body b.owner g) (parts bodies) good
+  owned : {D : Type 0} (part_by : List Stmt → Owner → List D) (Q : D → Type 0) → Gives c part_by Q
+      → Each Q (flat_map (λ (b : BodyPart). part_by b.body b.owner) (parts bodies))
+  owned part_by Q gives =
+      each_flat_map (λ (b : BodyPart). part_by b.body b.owner) (IsGood c) Q (λ b g. gives b.body b.owner g)
+      (parts bodies) (each_map (IsGood c) (λ (x : At BodyPart). x.part) bodies good)
 
   pub bodies_are_sound : HasSoundBodies c
   bodies_are_sound = record {
-    tasks = All-from_recursion (IsTask c) c.tasks (owned (task_in c.demands) (IsTask c) (task_good c));
-    isrs = All-from_recursion (IsIsr c) c.isrs (owned (isr_in c.demands) (IsIsr c) (isr_good c));
-    oseks = All-from_recursion (IsOsek c) c.oseks (owned (osek_in c.demands) (IsOsek c) (osek_good c));
-    oisrs = All-from_recursion (IsOisr c) c.oisrs (owned (oisr_in c.demands) (IsOisr c) (oisr_good c));
-    error_hook = first_good c _ (owned error_hook_in (IsBody c kind.Hook) (error_good c));
-    shutdown_hook = first_good c _ (owned shutdown_hook_in (IsBody c kind.Hook) (shutdown_good c));
+    tasks = All-from_recursion (IsTask c) c.tasks (owned (task_by c.demands) (IsTask c) (task_good c));
+    isrs = All-from_recursion (IsIsr c) c.isrs (owned (isr_by c.demands) (IsIsr c) (isr_good c));
+    oseks = All-from_recursion (IsOsek c) c.oseks (owned (osek_by c.demands) (IsOsek c) (osek_good c));
+    oisrs = All-from_recursion (IsOisr c) c.oisrs (owned (oisr_by c.demands) (IsOisr c) (oisr_good c));
+    error_hook = first_good c _ (owned error_hook_by (IsBody c kind.Hook) (error_good c));
+    shutdown_hook = first_good c _ (owned shutdown_hook_by (IsBody c kind.Hook) (shutdown_good c));
   }
 
   -- 2, 3, 9, 17. The numbers of each body's owner fit the widths of those of a configuration.
   pub bodies_fit : AreFit c.demands bodies
-  bodies_fit = by bodies (tellable rows rules.short rules.rule_2 rules.rule_3 rules.rule_9) ranges
-      (each_kept (is_light c.demands) bodies rules.rule_17) where
-        by : (xs : List (At BodyPart)) → AreTellable c.demands xs
-            → Each (λ (x : At BodyPart). IsInRange x.part.owner) xs
-            → Each (λ (x : At BodyPart). is_light c.demands x.part ≡ true) xs → AreFit c.demands xs
-        by [] told range light = tt
-        by (x ∷ xs) told range light = (
-          record { tellable = told.0; owner = fits_owner c.demands x.part.body x.part.owner range.0 light.0 },
-          by xs told.1 range.1 light.1,
-        )
+  bodies_fit = recursion_from_All (λ (x : At BodyPart). IsFit c.demands x.part) bodies (λ k d lt.
+      let fine = All-from_recursion _ bodies good k d lt in
+      record {
+        tellable = All-from_recursion _ bodies
+            (tellable rows rules.short rules.rule_2 rules.rule_3 rules.rule_9) k d lt;
+        owner = fine.range;
+        light = fine.light;
+      })
 
 pub law : BodiesAreSound
 unfolding config_of

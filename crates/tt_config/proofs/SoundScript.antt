@@ -3,7 +3,6 @@ use Rattle.std.proofs.Common.{◌≡◌, ℕ, ◌+◌, ◌^◌, ◌<◌, ◌≤�
 use Rattle.std.specs.Prelude.{◌==◌, ◌&&◌, nat_le, nat_lt, IfSome}
 use Rattle.std.specs.List.{AllByRecursion as Each, list_all}
 use Rattle.std.proofs.lemmas.Bool.{and_parts, and_from, le-leb, leb-true, leb-false, eqb-true, eq-eqb}
-use Rattle.std.proofs.lemmas.List.{length-map}
 use Rattle.tt_base.specs.declared.names.Declared.{Declared}
 use Rattle.tt_base.specs.declared.names.NameKind.{NameKind}
 use Rattle.tt_base.specs.declared.names.NameKind.TheVariants as Kind
@@ -37,7 +36,7 @@ use Rattle.tt_rules.proofs.SoundTables.{alone, one}
 use Rattle.tt_config.specs.Document.{elaborated_of}
 use Rattle.tt_config.specs.Lists.{at_number, by_number, given}
 use Rattle.tt_config.specs.Parts.{arrival_by, arrival_place, config_with, first_mode, script_with, value_place}
-use Rattle.tt_config.proofs.Counted.{length-below, named}
+use Rattle.tt_config.proofs.Counted.{length-each, named}
 use Rattle.tt_config.proofs.Known.{number_below}
 use Rattle.tt_rules.proofs.Kept.{EachRow}
 use Rattle.tt_config.proofs.Rows.{IsRowFit, each_part, rows_fit}
@@ -46,7 +45,7 @@ use Rattle.tt_config.proofs.Rows.{IsRowFit, each_part, rows_fit}
 
 pub length-by_number : {A B : Type 0} (count : ℕ) (place : A → Option (ℕ × B)) (xs : List A)
     → length (by_number count place xs) ≡ count
-length-by_number count place xs = length-map (below count) (given place xs) ∙ length-below count
+length-by_number count place xs = length-each (given place xs) count
 
 all_lists : {X : Type 0} (test : X → Bool) (f : ℕ → X) → ((k : ℕ) → test (f k) ≡ true) → (ks : List ℕ)
     → list_all test (map f ks) ≡ true

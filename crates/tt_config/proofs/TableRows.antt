@@ -4,6 +4,7 @@ use Rattle.std.specs.Prelude.{nat_lt, ◌==◌, ◌||◌, ◌&&◌, flat_map}
 use Rattle.std.specs.declared.cmp.Ordering.TheVariants.{Less, Equal, Greater}
 use Rattle.std.specs.Ordering.{nat_cmp, is_lt, ordering_then}
 use Rattle.std.proofs.lemmas.Grind.{flat_map-append}
+use Rattle.std.proofs.lemmas.Simd.{map-map}
 use Rattle.tt_parts.specs.declared.entries.Entry.{Entry}
 use Rattle.tt_parts.specs.declared.entries.Entry.TheVariants as entry
 use Rattle.tt_rules.specs.Order.{ascending, below}
@@ -45,15 +46,11 @@ module _ (mode : ℕ) where
       let ens = own enable_of (enable_in mode) own_enable xs in
       λ i. record { activations = ascending is_earlier (acts i); enables = ascending is_enabled_earlier (ens i) }
 
-each_table : (xs : List Entry) (modes : List ℕ)
-    → map mode_of_entries (map (given entry_place xs) modes) ≡ map (mode_with xs) modes
-each_table xs [] = refl
-each_table xs (mode ∷ modes) = λ i. own_table mode xs i ∷ each_table xs modes i
-
 -- the tables of the entries of each mode
 pub tables : (count : ℕ) (xs : List Entry)
     → map mode_of_entries (by_number count entry_place xs) ≡ map (mode_with xs) (below count)
-tables count xs = each_table xs (below count)
+tables count xs = map-map mode_of_entries (given entry_place xs) (below count)
+    ∙ (λ i. map (λ mode. own_table mode xs i) (below count))
 
 -- ---- comparisons
 

@@ -1,5 +1,5 @@
 -- The owners of bodies.
-use Rattle.std.specs.Prelude.{◌^◌, ◌≤◌, List, [], ◌∷◌, ◌++◌, flat_map}
+use Rattle.std.specs.Prelude.{◌≡◌, ◌≤◌, true, List, [], ◌∷◌, ◌++◌, flat_map}
 use Rattle.std.specs.List.{AllByRecursion}
 use Rattle.task_lang.specs.declared.demand.Demand.{Demand}
 use Rattle.task_lang.specs.declared.syntax.Stmt.{Stmt}
@@ -8,11 +8,12 @@ use Rattle.tt_world.specs.declared.config.TaskDef.{TaskDef}
 use Rattle.tt_world.specs.declared.config.IsrDef.{IsrDef}
 use Rattle.tt_world.specs.declared.config.OsekDef.{OsekDef}
 use Rattle.tt_world.specs.declared.config.OisrDef.{OisrDef}
+use Rattle.tt_world.specs.ConfigRules.{is_distance}
 use Rattle.tt_parts.specs.declared.located.At.{At}
 use Rattle.tt_parts.specs.declared.bodies.Owner.{Owner}
 use Rattle.tt_parts.specs.declared.bodies.Owner.TheVariants as owner
 use Rattle.tt_parts.specs.declared.bodies.BodyPart.{BodyPart}
-use Rattle.tt_rules.specs.BodyRules.{IsTellable}
+use Rattle.tt_rules.specs.BodyRules.{IsTellable, is_light}
 use Rattle.tt_config.specs.declared.owners.Owners.{Owners}
 
 abbrev pub task_by : List Demand → List Stmt → Owner → List TaskDef
@@ -91,20 +92,20 @@ abbrev pub first_body : List (List Stmt) → List Stmt
 first_body [] = []
 first_body (body ∷ others) = body
 
--- the numbers of an owner fit the widths of those of a configuration
-abbrev pub FitsOwner : List Demand → List Stmt → Owner → Type 0
-FitsOwner demands body (owner.Task stack) = (stack ≤ 65535) × (worst_in demands body ≤ 10 ^ 12)
-FitsOwner demands body (owner.Isr level stack distance) =
-    (level ≤ 255) × ((stack ≤ 65535) × (worst_in demands body ≤ 10 ^ 12))
-FitsOwner demands body (owner.Osek priority auto) = (priority ≤ 255) × (worst_in demands body ≤ 10 ^ 12)
-FitsOwner demands body (owner.Oisr priority) = (priority ≤ 255) × (worst_in demands body ≤ 10 ^ 12)
-FitsOwner demands body owner.ErrorHook = Unit {0}
-FitsOwner demands body owner.ShutdownHook = Unit {0}
+-- the numbers of an owner are in range
+abbrev pub IsInRange : Owner → Type 0
+IsInRange (owner.Task stack) = stack ≤ 65535
+IsInRange (owner.Isr level stack distance) =
+    (1 ≤ level) × ((level ≤ 255) × ((stack ≤ 65535) × (is_distance distance ≡ true)))
+IsInRange (owner.Osek priority auto) = (1 ≤ priority) × (priority ≤ 255)
+IsInRange (owner.Oisr priority) = (1 ≤ priority) × (priority ≤ 255)
+IsInRange other = Unit {0}
 
--- a body whose worst case can be computed, and an owner whose numbers fit
+-- a body whose worst case can be computed and is small, and an owner whose numbers are in range
 pub record IsFit (demands : List Demand) (b : BodyPart) : Type 0 where
   pub tellable : IsTellable demands b.body
-  pub owner : FitsOwner demands b.body b.owner
+  pub owner : IsInRange b.owner
+  pub light : is_light demands b ≡ true
 
 abbrev pub AreFit : List Demand → List (At BodyPart) → Type 0
 AreFit demands bodies = AllByRecursion (λ (x : At BodyPart). IsFit demands x.part) bodies

@@ -3,9 +3,9 @@ use Rattle.std.specs.Cmp.{nat_cmp_total}
 use Rattle.std.specs.Ordering.{nat_cmp, is_lt}
 use Rattle.std.proofs.lemmas.List.Sorted.{ranks_by, answers_always}
 use Rattle.tt_world.specs.declared.config.Activation.{Activation}
-use Rattle.tt_rules.specs.Tables.{is_earlier}
+use Rattle.tt_rules.specs.Order.{ascending}
 use Rattle.tt_config.proofs.TableRows.{is_lt-nat_cmp}
-use Rattle.tt_config.proofs.StableSort.{stable_sort, ascending_alike}
+use Rattle.tt_config.proofs.StableSort.{stable_sort}
 use Rattle.tt_config.proofs.tables.sort_activations.Goals as goal
 
 abbrev before : Activation → Activation → Bool
@@ -18,4 +18,4 @@ returns-in-Ok c =
     stable_sort before (ranks_by nat_cmp_total offset) rows _
     (c.in-Ok.ensures.sorted offset (answers_always _ _ _ (λ f a r g h. search rules)))
     (c.in-Ok.ensures.stable offset (answers_always _ _ _ (λ f a r g h. search rules)))
-    ∙ ascending_alike before is_earlier (λ a b. is_lt-nat_cmp a.offset b.offset) rows
+    ∙ (λ i. ascending (λ a b. is_lt-nat_cmp a.offset b.offset i) rows)

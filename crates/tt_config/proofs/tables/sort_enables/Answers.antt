@@ -3,9 +3,9 @@ use Rattle.std.specs.Cmp.{nat_cmp_total, then_total, on_total}
 use Rattle.std.specs.Ordering.{nat_cmp, is_lt, ordering_then}
 use Rattle.std.proofs.lemmas.List.Sorted.{ranks_by, answers_always}
 use Rattle.tt_world.specs.declared.config.Enable.{Enable}
-use Rattle.tt_rules.specs.Tables.{is_enabled_earlier}
+use Rattle.tt_rules.specs.Order.{ascending}
 use Rattle.tt_config.proofs.TableRows.{is_lt-ordering_then}
-use Rattle.tt_config.proofs.StableSort.{stable_sort, ascending_alike}
+use Rattle.tt_config.proofs.StableSort.{stable_sort}
 use Rattle.tt_config.proofs.tables.sort_enables.Goals as goal
 
 abbrev compare : ℕ × ℕ → ℕ × ℕ → Ordering
@@ -25,4 +25,4 @@ returns-in-Ok c =
     place) rows _
     (c.in-Ok.ensures.sorted place (answers_always _ _ _ (λ f a r g h. search rules)))
     (c.in-Ok.ensures.stable place (answers_always _ _ _ (λ f a r g h. search rules)))
-    ∙ ascending_alike before is_enabled_earlier (λ a b. is_lt-ordering_then a.offset b.offset a.isr.0 b.isr.0) rows
+    ∙ (λ i. ascending (λ a b. is_lt-ordering_then a.offset b.offset a.isr.0 b.isr.0 i) rows)
