@@ -1,6 +1,6 @@
 -- The bodies of a configuration meet its rules.
-use Rattle.std.proofs.Common.{◌≡◌, ℕ, ◌^◌, ◌<◌, ◌≤◌, Bool, true, false, List, [], ◌∷◌, length, get_or, refl, arith, subst}
-use Rattle.std.specs.Prelude.{◌&&◌, ◌||◌, nat_le, flat_map, IfSome}
+use Rattle.std.proofs.Common.{◌≡◌, ℕ, ◌^◌, ◌<◌, ◌≤◌, Bool, true, List, [], ◌∷◌, length, get_or, refl, arith, subst}
+use Rattle.std.specs.Prelude.{◌&&◌, nat_le, flat_map, IfSome}
 use Rattle.std.specs.List.{AllByRecursion as Each}
 use Rattle.std.proofs.lemmas.Bool.{and_parts, leb-true}
 use Rattle.std.proofs.lemmas.List.Elements.{All-from_recursion, recursion_from_All}
@@ -8,7 +8,7 @@ use Rattle.task_lang.specs.declared.allowed.OwnerKind.{OwnerKind}
 use Rattle.task_lang.specs.declared.allowed.OwnerKind.TheVariants as kind
 use Rattle.task_lang.specs.declared.demand.Demand.{Demand}
 use Rattle.task_lang.specs.declared.syntax.Stmt.{Stmt}
-use Rattle.task_lang.specs.Limits.{IsNestedInLimit, IsCountInLimit, HasVariables, HasDemands, HasCallees, AreMostsInRange, AreUsualsInRange, each_in, is_expression_short, is_number_in_range, has_variables, has_demand, has_callee}
+use Rattle.task_lang.specs.Limits.{HasVariables, HasDemands, HasCallees, AreMostsInRange, AreUsualsInRange, each_in, is_expression_short, is_number_in_range, has_variables, has_demand, has_callee}
 use Rattle.task_lang.specs.Worst.{worst_in}
 use Rattle.tt_base.specs.declared.names.NameEntry.{NameEntry}
 use Rattle.tt_base.specs.declared.names.NameKind.TheVariants as Kind
@@ -28,7 +28,7 @@ use Rattle.tt_parts.specs.Entries.{demand_in}
 use Rattle.tt_parts.specs.Names.{names_in}
 use Rattle.tt_rules.specs.BodyRules.{AreTellable, IsTellable, has_statement, is_light}
 use Rattle.tt_rules.specs.DeclarationRules.{has_numbers_in_range, lines_9}
-use Rattle.tt_rules.specs.Laws.{IsBodySound, kind_of}
+use Rattle.tt_rules.specs.Laws.{kind_of}
 use Rattle.tt_rules.specs.RoundRules.{is_within}
 use Rattle.tt_rules.specs.StructureRules.{lines_2, lines_3}
 use Rattle.tt_rules.proofs.Each.{all_from_each, each_flat_map, each_map, each_weaker}
