@@ -1,7 +1,9 @@
 -- The number of a name that is declared as a kind is below the count of that kind.
 use Rattle.std.proofs.Common.{◌≡◌, ℕ, zero, suc, ◌<◌, Bool, true, false, cond, List, [], ◌∷◌, length, map, filter, take, Option, Some, None, refl, ap, sym, ◌∙◌, arith}
-use Rattle.std.specs.Prelude.{◌==◌, slice_get, option_and_then, option_map, unwrap_or, ◌||◌}
-use Rattle.std.proofs.lemmas.Bool.{eqb-true, eq-eqb}
+use Rattle.std.specs.Prelude.{◌==◌, nat_lt, slice_get, option_and_then, option_map, unwrap_or}
+use Rattle.std.proofs.lemmas.Bool.{lt-ltb}
+use Rattle.std.proofs.lemmas.Bool.Decides.{nat_tests}
+use Rattle.std.proofs.lemmas.Grind.{common_steps}
 use Rattle.tt_base.specs.declared.names.Declared.{Declared}
 use Rattle.tt_base.specs.declared.names.NameKind.{NameKind}
 use Rattle.tt_base.specs.declared.names.NameKind.TheVariants as Kind
@@ -18,17 +20,7 @@ more false n = n
 -- one more name
 pub count-cons : (kind : NameKind) (first : NameEntry) (names : List NameEntry)
     → count_of kind (first ∷ names) ≡ more (is_same_kind kind first.kind) (count_of kind names)
-count-cons kind first names = by (is_same_kind kind first.kind) where
-  rest : List NameEntry
-  rest = filter (λ (entry : NameEntry). is_same_kind kind entry.kind) names
-
-  by : (same : Bool) → length (map (λ (entry : NameEntry). entry.name) (cond same (first ∷ rest) rest))
-      ≡ more same (length (map (λ (entry : NameEntry). entry.name) rest))
-  by true = refl
-  by false = refl
-
-same_itself : (kind : NameKind) → is_same_kind kind kind ≡ true
-same_itself kind = eq-eqb (index_of kind) (index_of kind) refl
+count-cons kind first names = grind (arith, common_steps, nat_tests)
 
 kind_of-declared : (kind : NameKind) (number : ℕ) → kind_of (declared kind number) ≡ kind
 kind_of-declared Kind.Mode number = refl
@@ -38,31 +30,17 @@ number_of-declared : (kind : NameKind) (number : ℕ) → number_of (declared ki
 number_of-declared Kind.Mode number = refl
 number_of-declared kind number = refl
 
-below_more : (same : Bool) (m n : ℕ) → m < n → more same m < more same n
-below_more true m n lt = omega arith
-below_more false m n lt = lt
-
 -- the number of an entry is below the count of its kind
 below : (names : List NameEntry) (place : ℕ) (entry : NameEntry) → slice_get names place ≡ Some entry
     → count_of entry.kind (take place names) < count_of entry.kind names
 below [] place entry is = cc
-below (first ∷ names) zero entry is =
-    let one : first ≡ entry = cc in
-    let same : is_same_kind entry.kind first.kind ≡ true = ap (λ (e : NameEntry). is_same_kind entry.kind e.kind) one
-    ∙ same_itself entry.kind in
-    omega (arith, count-cons entry.kind first names ∙ ap (λ b. more b (count_of entry.kind names)) same)
-below (first ∷ names) (suc place) entry is =
-    let lt = below_more (is_same_kind entry.kind first.kind) _ _ (below names place entry is) in
-    omega (arith, count-cons entry.kind first names, count-cons entry.kind first (take place names), lt)
+below (first ∷ names) zero entry is = grind (arith, common_steps, nat_tests)
+below (first ∷ names) (suc place) entry is = grind (arith, common_steps, nat_tests, below names place entry is)
 
 -- how many names have a kind at a place among the kinds
 abbrev count_at : ℕ → List NameEntry → ℕ
 count_at place names = length
     (map (λ (entry : NameEntry). entry.name) (filter (λ (entry : NameEntry). place == index_of entry.kind) names))
-
-either_same : (a : Bool) → a || a ≡ true → a ≡ true
-either_same true is = refl
-either_same false is = is
 
 module _ (names : List NameEntry) (kind : NameKind) (name : List ℕ) where
   -- where a name is declared as a kind, the number of what it declares is below the count of that kind
@@ -75,16 +53,15 @@ module _ (names : List NameEntry) (kind : NameKind) (name : List ℕ) where
   at_entry place None is has = cc
   at_entry place (Some e) is has =
       let number = count_of e.kind (take place names) in
-      let same = either_same (is_same_kind (kind_of (declared e.kind number)) kind) has in
-      let index : index_of e.kind ≡ index_of kind =
-      sym (ap index_of (kind_of-declared e.kind number))
-      ∙ eqb-true (index_of (kind_of (declared e.kind number))) (index_of kind) same in
+      let same : index_of (kind_of (declared e.kind number)) ≡ index_of kind = grind (arith, nat_tests) in
+      let index : index_of e.kind ≡ index_of kind = sym (ap index_of (kind_of-declared e.kind number)) ∙ same in
       omega (arith, number_of-declared e.kind number, below names place e is, ap (λ n. count_at n names) index)
 
   at_place : (place : Option ℕ) → IsBelow (option_and_then (declared_at names) place)
   at_place None has = cc
   at_place (Some place) has = at_entry place (slice_get names place) refl has
 
-  pub number_below : is_declared names (uses kind name) ≡ true → number_named names name < count_of kind names
+  pub number_below : is_declared names (uses kind name) ≡ true
+      → nat_lt (number_named names name) (count_of kind names) ≡ true
   unfolding find_name
-  number_below has = at_place (place_of name names) has
+  number_below has = lt-ltb _ _ (at_place (place_of name names) has)

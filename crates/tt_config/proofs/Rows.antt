@@ -1,8 +1,9 @@
 -- What the rules on single rows say of the heads and the parts that rows give.
-use Rattle.std.proofs.Common.{◌≡◌, ℕ, true, List, [], ◌∷◌, Option, Some, None, refl}
+use Rattle.std.proofs.Common.{◌≡◌, ℕ, true, List, [], ◌∷◌, Option, Some, None, refl, arith}
 use Rattle.std.specs.Prelude.{codes, nat_lt, IfSome}
 use Rattle.std.specs.List.{AllByRecursion as Each, list_all}
-use Rattle.std.proofs.lemmas.Bool.{and_from, and_parts, lt-ltb}
+use Rattle.std.proofs.lemmas.Bool.{and_from, and_parts}
+use Rattle.std.proofs.lemmas.List.Elements.{All-from_recursion, recursion_from_All}
 use Rattle.task_lang.specs.Limits.{is_expression_short, has_variables, has_demand, has_callee}
 use Rattle.tt_base.specs.declared.names.NameKind.{NameKind}
 use Rattle.tt_base.specs.declared.names.NameKind.TheVariants as Kind
@@ -26,7 +27,7 @@ use Rattle.tt_rules.specs.DeclarationRules.{has_numbers_in_range, lines_9}
 use Rattle.tt_rules.proofs.Each.{each_from_all, each_map, each_weaker, each_both}
 use Rattle.tt_rules.proofs.Kept.{EachRow, each_row}
 use Rattle.tt_rules.proofs.SoundBodies.{Passes}
-use Rattle.tt_config.proofs.Expressions.{last_sound, reads-expression_of, short-last}
+use Rattle.tt_config.proofs.Expressions.{reads-expression_of, short-last}
 use Rattle.tt_config.proofs.Known.{number_below}
 
 -- a row that a document can have, whose numbers are in range and whose names are declared
@@ -39,15 +40,13 @@ pub record IsRowFit (names : List NameEntry) (row : Row) : Type 0 where
 pub rows_fit : (rows : List NumberedRow) → AreSound rows → lines_9 rows ≡ [] → lines_14 (names_in rows) rows ≡ []
     → EachRow (IsRowFit (names_in rows)) rows
 rows_fit rows sound is_9 is_14 =
-    let known = are_names_declared (names_in rows) in
-    let N = λ (row : NumberedRow). has_numbers_in_range row.row ≡ true in
-    let K = λ (row : NumberedRow). known row.row ≡ true in
-    let S = λ (row : NumberedRow). is_sound_row row.row ≡ true in
-    each_weaker (λ row. N row × (K row × S row)) (λ row. IsRowFit (names_in rows) row.row)
-    (λ row h. record { numbers = h.0; known = h.1.0; sound = h.1.1 }) rows
-    (each_both N (λ row. K row × S row) rows (each_row has_numbers_in_range rows is_9)
-    (each_both K S rows (each_row known rows is_14)
-    (each_from_all (λ (row : NumberedRow). is_sound_row row.row) rows sound.sound)))
+    let names = names_in rows in
+    recursion_from_All (λ (row : NumberedRow). IsRowFit names row.row) rows (λ k d lt. record {
+      numbers = All-from_recursion _ rows (each_row has_numbers_in_range rows is_9) k d lt;
+      known = All-from_recursion _ rows (each_row (are_names_declared names) rows is_14) k d lt;
+      sound = All-from_recursion _ rows
+          (each_from_all (λ (row : NumberedRow). is_sound_row row.row) rows sound.sound) k d lt;
+    })
 
 -- ---- parts
 
@@ -80,48 +79,32 @@ module _ (P : Owner → Type 0) (Q : Row → Type 0) (gives : (row : Row) → Q 
 -- ---- heads
 
 module _ (names : List NameEntry) where
-  one_known : (kind : NameKind) (name : List ℕ) → list_all (is_declared names) (uses kind name ∷ []) ≡ true
-      → nat_lt (number_named names name) (count_of kind names) ≡ true
-  one_known kind name known =
-      lt-ltb (number_named names name) (count_of kind names)
-      (number_below names kind name (and_parts (is_declared names (uses kind name)) true known).0)
-
-  items_sound : (row : Row) → is_sound_row row ≡ true → list_all is_sound_item (items_of row) ≡ true
-  items_sound row sound = (and_parts (list_all is_sound_item (items_of row)) _ sound).0
-
   pub row_short : (row : Row) → IsRowFit names row → Passes is_expression_short (head_of names row)
   row_short (r.Set var terms) fit one two =
-      let items = items_sound (r.Set var terms) fit.sound in
-      short-last names (r.Set var terms) (codes "set" ∷ var ∷ []) terms fit.sound
-      (last_sound terms (and_parts (is_name var) _ items).1) refl
+      short-last names (codes "set" ∷ var ∷ []) terms (grind (arith, fit.sound)) (and_parts _ _ fit.sound).1
   row_short (r.If terms) fit one two =
-      short-last names (r.If terms) (codes "if" ∷ []) terms fit.sound
-      (last_sound terms (items_sound (r.If terms) fit.sound)) refl
+      short-last names (codes "if" ∷ []) terms (grind (arith, fit.sound)) (and_parts _ _ fit.sound).1
   row_short (r.Out terms) fit one two =
-      short-last names (r.Out terms) (codes "out" ∷ []) terms fit.sound
-      (last_sound terms (items_sound (r.Out terms) fit.sound)) refl
+      short-last names (codes "out" ∷ []) terms (grind (arith, fit.sound)) (and_parts _ _ fit.sound).1
   row_short row fit one two = refl
 
   pub row_variables : (row : Row) → IsRowFit names row
       → Passes (has_variables (count_of Kind.Var names)) (head_of names row)
   row_variables (r.Set var terms) fit one two =
-      let here = is_declared names (uses Kind.Var var) in
-      let both = and_parts here _ fit.known in
-      and_from (nat_lt (number_named names var) (count_of Kind.Var names)) _
-      (lt-ltb (number_named names var) (count_of Kind.Var names) (number_below names Kind.Var var both.0))
-      (reads-expression_of names terms both.1)
+      let both = and_parts (is_declared names (uses Kind.Var var)) _ fit.known in
+      and_from _ _ (number_below names Kind.Var var both.0) (reads-expression_of names terms both.1)
   row_variables (r.If terms) fit one two = reads-expression_of names terms fit.known
   row_variables (r.Out terms) fit one two = reads-expression_of names terms fit.known
   row_variables row fit one two = refl
 
   pub row_demand : (row : Row) → IsRowFit names row
       → Passes (has_demand (count_of Kind.Demand names)) (head_of names row)
-  row_demand (r.Take demand) fit one two = one_known Kind.Demand demand fit.known
+  row_demand (r.Take demand) fit one two = number_below names Kind.Demand demand (and_parts _ _ fit.known).0
   row_demand row fit one two = refl
 
   pub row_callee : (row : Row) → IsRowFit names row
       → Passes (has_callee (count_of Kind.Mode names) (count_of Kind.Osek names)) (head_of names row)
-  row_callee (r.Switch mode) fit one two = one_known Kind.Mode mode fit.known
-  row_callee (r.Activate task) fit one two = one_known Kind.Osek task fit.known
-  row_callee (r.Chain task) fit one two = one_known Kind.Osek task fit.known
+  row_callee (r.Switch mode) fit one two = number_below names Kind.Mode mode (and_parts _ _ fit.known).0
+  row_callee (r.Activate task) fit one two = number_below names Kind.Osek task (and_parts _ _ fit.known).0
+  row_callee (r.Chain task) fit one two = number_below names Kind.Osek task (and_parts _ _ fit.known).0
   row_callee row fit one two = refl

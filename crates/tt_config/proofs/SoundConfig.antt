@@ -2,7 +2,7 @@
 use Rattle.std.proofs.Common.{◌≡◌, ℕ, zero, suc, ◌-◌, ◌^◌, ◌<◌, Bool, true, List, [], ◌∷◌, All, None, length, arith, subst}
 use Rattle.std.specs.Prelude.{◌&&◌, nat_le, nat_lt, IfSome}
 use Rattle.std.specs.List.{AllByRecursion as Each, list_all}
-use Rattle.std.proofs.lemmas.Bool.{and_parts, and_from, leb-true, lt-ltb}
+use Rattle.std.proofs.lemmas.Bool.{and_parts, and_from, leb-true}
 use Rattle.std.proofs.lemmas.List.Elements.{All-from_recursion}
 use Rattle.tt_base.specs.declared.names.NameKind.{NameKind}
 use Rattle.tt_base.specs.declared.names.NameKind.TheVariants as Kind
@@ -61,10 +61,7 @@ module _ (names : List NameEntry) where
       && nat_lt (number_named names two) (count_of other names) ≡ true
   both_known kind other one two known =
       let both = and_parts (is_declared names (uses kind one)) _ known in
-      and_from (nat_lt (number_named names one) (count_of kind names)) _
-      (lt-ltb (number_named names one) (count_of kind names) (number_below names kind one both.0))
-      (lt-ltb (number_named names two) (count_of other names)
-      (number_below names other two (and_parts (is_declared names (uses other two)) true both.1).0))
+      and_from _ _ (number_below names kind one both.0) (number_below names other two (and_parts _ _ both.1).0)
 
   entry_known : (row : Row) → IsRowFit names row → IfSome (entry_in names row) (λ x. is_known x ≡ true)
   entry_known (r.AtStringent offset mode task deadline) fit = both_known Kind.Mode Kind.Task mode task fit.known

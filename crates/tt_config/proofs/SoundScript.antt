@@ -1,8 +1,9 @@
 -- The script keeps the rules of a script, where no line breaks the rules on it.
 use Rattle.std.proofs.Common.{◌≡◌, ℕ, ◌+◌, ◌^◌, ◌<◌, ◌≤◌, Bool, true, false, List, [], ◌∷◌, length, map, Option, Some, None, refl, sym, subst, ◌∙◌, arith, if◌then◌else◌}
-use Rattle.std.specs.Prelude.{◌==◌, ◌&&◌, nat_le, nat_lt, IfSome}
+use Rattle.std.specs.Prelude.{◌==◌, ◌&&◌, nat_le, nat_lt, flat_map, IfSome}
 use Rattle.std.specs.List.{AllByRecursion as Each, list_all}
-use Rattle.std.proofs.lemmas.Bool.{and_parts, and_from, le-leb, leb-true, leb-false, eqb-true, eq-eqb}
+use Rattle.std.proofs.lemmas.Bool.{and_parts, and_from, le-leb, leb-true, ltb-true}
+use Rattle.std.proofs.lemmas.Bool.Decides.{nat_tests}
 use Rattle.tt_base.specs.declared.names.Declared.{Declared}
 use Rattle.tt_base.specs.declared.names.NameKind.{NameKind}
 use Rattle.tt_base.specs.declared.names.NameKind.TheVariants as Kind
@@ -58,7 +59,7 @@ module _ (names : List NameEntry) where
   start_fits : (row : Row) → IsRowFit names row
       → IfSome (start_in names row) (λ (mode : ModeNo). mode.0 < count_of Kind.Mode names)
   start_fits (r.Start mode) fit =
-      number_below names Kind.Mode mode (and_parts (is_declared names (uses Kind.Mode mode)) true fit.known).0
+      ltb-true _ _ (number_below names Kind.Mode mode (and_parts (is_declared names (uses Kind.Mode mode)) true fit.known).0)
   start_fits row fit = tt
 
   time_fits : (row : Row) → IsRowFit names row → IfSome (time_in row) (λ time. nat_lt time (10 ^ 12) ≡ true)
@@ -107,65 +108,41 @@ ascend least (tick ∷ ticks) low small h =
     (ascend (tick + 1) ticks (each_weaker (λ b. tick < b) (λ b. tick + 1 ≤ b) (λ b lt. omega arith) ticks h.0) small.1
     h.1))
 
--- an arrival of a source that is below another of it has a later tick
-later : (same : Bool) (a b : ℕ) → same && nat_le b a ≡ false → same ≡ true → a < b
-later true a b is yes_ = omega (arith, leb-false b a is)
-later false a b is yes_ = cc
-
--- numbers that equal a third one are equal
-both_are : (k a b : ℕ) → (k == a) ≡ true → (k == b) ≡ true → (a == b) ≡ true
-both_are k a b one_ other = eq-eqb a b (sym (eqb-true k a one_) ∙ eqb-true k b other)
-
-turned : (k a : ℕ) → (a == k) ≡ true → (k == a) ≡ true
-turned k a is = eq-eqb k a (sym (eqb-true a k is))
-
 module _ (kind : NameKind) (k : ℕ) where
-  -- what holds of an item of a number, where it is one of this kind
-  in_kind : (P : ℕ → Type 0) (own : Bool) (n tick : ℕ) → (own ≡ true → (n == k) ≡ true → P tick)
-      → Each P (at_number k (if own then Some (n, tick) else None))
-  in_kind P true n tick has = one P (n == k) tick (has refl)
-  in_kind P false n tick has = tt
+  -- a source is one of a kind and a number
+  abbrev is_own : Option Declared → Bool
+  is_own None = false
+  is_own (Some d) = is_same_kind kind (kind_of d) && (number_of d == k)
 
-  in_source : (P : ℕ → Type 0) (s : Option Declared) (tick : ℕ) → P tick → Each P (at_number k (arrival_by kind s tick))
-  in_source P None tick has = tt
-  in_source P (Some d) tick has = in_kind P (is_same_kind kind (kind_of d)) (number_of d) tick (λ own here. has)
+  -- the tick of an arrival, where its source is that one
+  abbrev own_ticks : Arrival → List ℕ
+  own_ticks a = if is_own a.source then a.tick ∷ [] else []
 
-  single : (s : Option Declared) (tick : ℕ) → Pairs (λ a b. a < b) (at_number k (arrival_by kind s tick))
-  single None tick = tt
-  single (Some d) tick = by (is_same_kind kind (kind_of d)) where
-    by : (own : Bool) → Pairs (λ a b. a < b) (at_number k (if own then Some (number_of d, tick) else None))
-    by true = alone (λ a b. a < b) (number_of d == k) tick
-    by false = tt
+  given-own : (s : Option Declared) (tick : ℕ)
+      → at_number k (arrival_by kind s tick) ≡ (if is_own s then tick ∷ [] else [])
+  given-own None tick = refl
+  given-own (Some d) tick = grind (arith, nat_tests)
 
-  apart : (s t : Option Declared) (a b : ℕ) → is_same_source s t && nat_le b a ≡ false
-      → Each (λ x. Each (λ y. x < y) (at_number k (arrival_by kind t b))) (at_number k (arrival_by kind s a))
-  apart None t a b h = tt
-  apart (Some d) None a b h = in_source (λ x. Each (λ y. x < y) []) (Some d) a tt
-  apart (Some d) (Some e) a b h =
-      in_kind (λ x. Each (λ y. x < y) (at_number k (arrival_by kind (Some e) b))) (is_same_kind kind (kind_of d))
-      (number_of d) a (λ own here.
-      in_kind (λ y. a < y) (is_same_kind kind (kind_of e)) (number_of e) b (λ other there.
-      later (is_same_thing d e) a b h
-      (and_from (is_same_kind (kind_of d) (kind_of e)) _
-      (both_are (index_of kind) (index_of (kind_of d)) (index_of (kind_of e)) own other)
-      (both_are k (number_of d) (number_of e) (turned k (number_of d) here) (turned k (number_of e) there)))))
+  apart : (s t : Option Declared) (a b : ℕ) → is_same_source s t && nat_le b a ≡ false → is_own s ≡ true
+      → is_own t ≡ true → a < b
+  apart None t a b late own other = cc
+  apart (Some d) None a b late own other = cc
+  apart (Some d) (Some e) a b late own other = grind (arith, nat_tests)
 
--- 27. The arrivals of each source ascend.
-arrivals_ascend : (kind : NameKind) (count : ℕ) (arrivals : List Arrival)
-    → Each (λ (a : Arrival). nat_lt a.tick (10 ^ 12) ≡ true) arrivals → differ_from is_not_after [] arrivals ≡ true
-    → list_all (ticks_ascend 0) (by_number count (arrival_place kind) arrivals) ≡ true
-arrivals_ascend kind count arrivals small is =
-    all_lists (ticks_ascend 0) (given (arrival_place kind) arrivals)
-    (λ k. ascend 0 (given (arrival_place kind) arrivals k)
-    (each_always (λ tick. 0 ≤ tick) (λ tick. omega arith) (given (arrival_place kind) arrivals k))
-    (each_flat_map (λ (a : Arrival). at_number k (arrival_place kind a))
-    (λ (a : Arrival). nat_lt a.tick (10 ^ 12) ≡ true) (λ tick. nat_lt tick (10 ^ 12) ≡ true)
-    (λ a lt. in_source kind k (λ tick. nat_lt tick (10 ^ 12) ≡ true) a.source a.tick lt) arrivals small)
-    (pairs_flat_map (λ (a : Arrival). at_number k (arrival_place kind a))
-    (λ (a b : Arrival). is_not_after a b ≡ false) (λ a b. a < b)
-    (λ a b h. apart kind k a.source b.source a.tick b.tick h) (λ a. single kind k a.source a.tick) arrivals
-    (pairs_differ is_not_after arrivals is)))
-    (below count)
+  -- 27. The arrivals of a source ascend.
+  own_ascend : (arrivals : List Arrival) → Each (λ (a : Arrival). nat_lt a.tick (10 ^ 12) ≡ true) arrivals
+      → differ_from is_not_after [] arrivals ≡ true → ticks_ascend 0 (given (arrival_place kind) arrivals k) ≡ true
+  own_ascend arrivals small is =
+      let Small = λ (tick : ℕ). nat_lt tick (10 ^ 12) ≡ true in
+      (λ i. ticks_ascend 0 (flat_map (λ (a : Arrival). given-own a.source a.tick i) arrivals))
+      ∙ ascend 0 (flat_map own_ticks arrivals)
+      (each_always (λ tick. 0 ≤ tick) (λ tick. omega arith) (flat_map own_ticks arrivals))
+      (each_flat_map own_ticks (λ (a : Arrival). Small a.tick) Small
+      (λ a lt. one Small (is_own a.source) a.tick (λ own. lt)) arrivals small)
+      (pairs_flat_map own_ticks (λ (a b : Arrival). is_not_after a b ≡ false) (λ a b. a < b)
+      (λ a b late. one (λ x. Each (λ y. x < y) (own_ticks b)) (is_own a.source) a.tick (λ own.
+      one (λ y. a.tick < y) (is_own b.source) b.tick (apart a.source b.source a.tick b.tick late own)))
+      (λ a. alone (λ x y. x < y) (is_own a.source) a.tick) arrivals (pairs_differ is_not_after arrivals is))
 
 -- ---- the whole
 
@@ -221,8 +198,10 @@ module _ (rows : List NumberedRow) (kept : AreKept the_rules (document_of rows))
               (keeps 1 rule_28 (each_at (value_in names) rows) (kept 27))).0;
           isrs = length-by_number (count_of Kind.Isr names) (arrival_place Kind.Isr) arrivals ∙ (named rows).isrs;
           oisrs = length-by_number (count_of Kind.Oisr names) (arrival_place Kind.Oisr) arrivals ∙ (named rows).oisrs;
-          isrs_ascending = arrivals_ascend Kind.Isr (count_of Kind.Isr names) arrivals ticks_small not_late;
-          oisrs_ascending = arrivals_ascend Kind.Oisr (count_of Kind.Oisr names) arrivals ticks_small not_late;
+          isrs_ascending = all_lists (ticks_ascend 0) (given (arrival_place Kind.Isr) arrivals)
+              (λ k. own_ascend Kind.Isr k arrivals ticks_small not_late) (below (count_of Kind.Isr names));
+          oisrs_ascending = all_lists (ticks_ascend 0) (given (arrival_place Kind.Oisr) arrivals)
+              (λ k. own_ascend Kind.Oisr k arrivals ticks_small not_late) (below (count_of Kind.Oisr names));
           times = all_from_each (λ time. nat_lt time (10 ^ 12)) times
               (each_part (λ time. nat_lt time (10 ^ 12) ≡ true) (IsRowFit names) time_in (time_fits names) rows fit);
         }
