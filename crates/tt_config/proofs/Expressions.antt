@@ -1,7 +1,7 @@
 -- Expressions have at most 100 terms, since a line has at most 200 bytes, and read declared variables, where their
 -- names are declared.
-use Rattle.std.proofs.Common.{◌≡◌, ℕ, ◌+◌, ◌^◌, ◌≤◌, ◌<◌, Bool, true, pos, negsuc, List, [], ◌∷◌, ◌++◌, map, length, refl, arith, sym, ◌∙◌}
-use Rattle.std.specs.Prelude.{◌&&◌, nat_le, nat_lt, flat_map}
+use Rattle.std.proofs.Common.{◌≡◌, ℕ, ◌+◌, ◌≤◌, Bool, true, pos, negsuc, List, [], ◌∷◌, ◌++◌, map, length, refl, arith, sym, ◌∙◌}
+use Rattle.std.specs.Prelude.{nat_le, flat_map}
 use Rattle.std.specs.List.{list_all, sum_by}
 use Rattle.std.proofs.lemmas.Bool.{and_parts}
 use Rattle.std.proofs.lemmas.Bool.Decides.{nat_tests}
@@ -22,7 +22,7 @@ use Rattle.tt_rows.specs.Spelling.{term_word}
 use Rattle.tt_rows.specs.Sound.{is_sound_term}
 use Rattle.tt_parts.specs.Bodies.{term_then, expressions_of, first_or_zero, expression_of}
 use Rattle.tt_parts.specs.Names.{number_named}
-use Rattle.tt_rules.specs.BodyRules.{is_declared, used_by_term, uses}
+use Rattle.tt_rules.specs.BodyRules.{is_declared, used_by_term}
 use Rattle.tt_config.proofs.Known.{number_below}
 
 -- ---- an expression has no more terms than there are words

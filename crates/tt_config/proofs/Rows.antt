@@ -1,30 +1,27 @@
 -- What the rules on single rows say of the heads and the parts that rows give.
-use Rattle.std.proofs.Common.{◌≡◌, ℕ, true, List, [], ◌∷◌, Option, Some, None, refl, arith}
-use Rattle.std.specs.Prelude.{codes, nat_lt, IfSome}
-use Rattle.std.specs.List.{AllByRecursion as Each, list_all}
+use Rattle.std.proofs.Common.{◌≡◌, true, List, [], ◌∷◌, Option, Some, None, refl, arith}
+use Rattle.std.specs.Prelude.{codes, IfSome}
+use Rattle.std.specs.List.{AllByRecursion as Each}
 use Rattle.std.proofs.lemmas.Bool.{and_from, and_parts}
 use Rattle.std.proofs.lemmas.List.Elements.{All-from_recursion, recursion_from_All}
 use Rattle.task_lang.specs.Limits.{is_expression_short, has_variables, has_demand, has_callee}
-use Rattle.tt_base.specs.declared.names.NameKind.{NameKind}
 use Rattle.tt_base.specs.declared.names.NameKind.TheVariants as Kind
 use Rattle.tt_base.specs.declared.names.NameEntry.{NameEntry}
-use Rattle.tt_base.specs.Name.{is_name}
 use Rattle.tt_base.specs.Names.{count_of}
 use Rattle.tt_rows.specs.declared.row.Row.{Row}
 use Rattle.tt_rows.specs.declared.row.Row.TheVariants as r
 use Rattle.tt_rows.specs.declared.row.NumberedRow.{NumberedRow}
-use Rattle.tt_rows.specs.Sound.{AreSound, is_sound_item, is_sound_row}
-use Rattle.tt_rows.specs.Spelling.{items_of}
+use Rattle.tt_rows.specs.Sound.{AreSound, is_sound_row}
 use Rattle.tt_parts.specs.declared.located.At.{At}
 use Rattle.tt_parts.specs.declared.bodies.Owner.{Owner}
 use Rattle.tt_parts.specs.declared.bodies.BodyPart.{BodyPart}
 use Rattle.tt_parts.specs.Located.{each_at, parts}
 use Rattle.tt_parts.specs.Bodies.{Branches, owner_in, body_of, bodies_of, branches_from, head_of}
-use Rattle.tt_parts.specs.Names.{names_in, number_named}
+use Rattle.tt_parts.specs.Names.{names_in}
 use Rattle.tt_parts.proofs.EachAt.{each_then}
 use Rattle.tt_rules.specs.BodyRules.{are_names_declared, is_declared, lines_14, uses}
 use Rattle.tt_rules.specs.DeclarationRules.{has_numbers_in_range, lines_9}
-use Rattle.tt_rules.proofs.Each.{each_from_all, each_map, each_weaker, each_both}
+use Rattle.tt_rules.proofs.Each.{each_from_all, each_map}
 use Rattle.tt_rules.proofs.Kept.{EachRow, each_row}
 use Rattle.tt_rules.proofs.SoundBodies.{Passes}
 use Rattle.tt_config.proofs.Expressions.{reads-expression_of, short-last}

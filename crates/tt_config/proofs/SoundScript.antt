@@ -1,5 +1,5 @@
 -- The script keeps the rules of a script, where no line breaks the rules on it.
-use Rattle.std.proofs.Common.{◌≡◌, ℕ, ◌+◌, ◌^◌, ◌<◌, ◌≤◌, Bool, true, false, List, [], ◌∷◌, length, map, Option, Some, None, refl, sym, subst, ◌∙◌, arith, if◌then◌else◌}
+use Rattle.std.proofs.Common.{◌≡◌, ℕ, ◌+◌, ◌^◌, ◌<◌, ◌≤◌, Bool, true, false, List, [], ◌∷◌, length, map, Option, Some, None, refl, subst, ◌∙◌, arith, if◌then◌else◌}
 use Rattle.std.specs.Prelude.{◌==◌, ◌&&◌, nat_le, nat_lt, flat_map, IfSome}
 use Rattle.std.specs.List.{AllByRecursion as Each, list_all}
 use Rattle.std.proofs.lemmas.Bool.{and_parts, and_from, le-leb, leb-true, ltb-true}
@@ -9,7 +9,7 @@ use Rattle.tt_base.specs.declared.names.NameKind.{NameKind}
 use Rattle.tt_base.specs.declared.names.NameKind.TheVariants as Kind
 use Rattle.tt_base.specs.declared.names.NameEntry.{NameEntry}
 use Rattle.tt_base.specs.declared.number.ModeNo.{ModeNo}
-use Rattle.tt_base.specs.Names.{count_of, index_of, is_same_kind, kind_of, number_of}
+use Rattle.tt_base.specs.Names.{count_of, is_same_kind, kind_of, number_of}
 use Rattle.tt_world.specs.ScriptRules.{IsScript, ticks_ascend}
 use Rattle.tt_rows.specs.declared.row.Row.{Row}
 use Rattle.tt_rows.specs.declared.row.Row.TheVariants as r
@@ -24,7 +24,7 @@ use Rattle.tt_parts.specs.Names.{names_in}
 use Rattle.tt_parts.specs.Parts.{first_line}
 use Rattle.tt_rules.specs.BodyRules.{is_declared, uses}
 use Rattle.tt_rules.specs.Document.{document_of, first_or_zero}
-use Rattle.tt_rules.specs.InputRules.{is_not_after, is_same_source, is_same_thing, rule_25, rule_26, rule_27, rule_28}
+use Rattle.tt_rules.specs.InputRules.{is_not_after, is_same_source, rule_25, rule_26, rule_27, rule_28}
 use Rattle.tt_rules.specs.Order.{below}
 use Rattle.tt_rules.specs.RoundRules.{is_within}
 use Rattle.tt_rules.specs.Shapes.{differ_from}
