@@ -1,6 +1,13 @@
 -- Rules that are asked in groups: the first that is broken, and what holds where none is.
-use Rattle.std.proofs.Common.{◌≡◌, ℕ, zero, suc, ◌+◌, List, [], ◌∷◌, ◌++◌, Option, Some, None, length, refl, ap, sym, ◌∙◌, arith}
+use Rattle.std.proofs.Common.{◌≡◌, ℕ, zero, suc, ◌+◌, ◌≤◌, List, [], ◌∷◌, ◌++◌, Option, Some, None, length, refl, ap, sym, ◌∙◌, arith}
 use Rattle.std.specs.Option.{option_or}
+use Rattle.tt_base.specs.declared.names.NameKind.{NameKind}
+use Rattle.tt_base.specs.declared.names.NameKind.TheVariants as Kind
+use Rattle.tt_base.specs.Names.{count_of}
+use Rattle.tt_parts.specs.Names.{names_in}
+use Rattle.tt_parts.specs.Parts.{declarations_of}
+use Rattle.tt_rules.specs.NameRules.{most_of}
+use Rattle.tt_rules.proofs.SoundDeclarations.{declarations_sound}
 use Rattle.tt_rules.specs.declared.broken.Broken.{Broken}
 use Rattle.tt_rows.specs.declared.row.NumberedRow.{NumberedRow}
 use Rattle.tt_rules.specs.Document.{Document, document_of}
@@ -74,3 +81,19 @@ module _ (rows : List NumberedRow) where
   pub none_broken : broken_rule rows ≡ None → AreKept the_rules (document_of rows)
   unfolding broken_rule
   none_broken is = kept (document_of rows) 1 the_rules is
+
+-- ---- what the rules that need no number of a name say
+
+most_small : (kind : NameKind) → most_of kind ≤ 1024
+most_small Kind.Mode = omega arith
+most_small kind = omega arith
+
+module _ (rows : List NumberedRow) (none : None ≡ first_broken 1 first_rules (document_of rows)) where
+  pub no_line : AreKept first_rules (document_of rows)
+  no_line = kept (document_of rows) 1 first_rules (sym none)
+
+  pub few_by_kind : (kind : NameKind) → count_of kind (names_in rows) ≤ most_of kind
+  few_by_kind = (declarations_sound (declarations_of rows) (no_line 3) (no_line 5) (no_line 6) (no_line 7)).few
+
+  pub few_names : (kind : NameKind) → count_of kind (names_in rows) ≤ 1024
+  few_names kind = omega (arith, few_by_kind kind, most_small kind)

@@ -6,10 +6,6 @@ pub mod Expressions
 pub mod Limits
 pub mod SoundBodies
 pub mod Distinct
-pub mod ByNumber
 pub mod SoundScript
 pub mod StableSort
-pub mod TableRows
 pub mod SoundConfig
-pub mod Elaboration
-pub mod FewRows

@@ -2,7 +2,7 @@
 use Rattle.std.proofs.Common.{◌≡◌, ℕ, suc, ◌+◌, ◌^◌, ◌≤◌, ◌<◌, max, Bool, true, false, not, List, [], ◌∷◌, map, length, Option, Some, None, refl, arith, ap, sym, ◌∙◌}
 use Rattle.std.specs.Prelude.{◌&&◌, ◌||◌, nat_le, IfSome}
 use Rattle.std.specs.List.{AllByRecursion as Each}
-use Rattle.std.proofs.lemmas.Bool.{not-true, leb-false}
+use Rattle.std.proofs.lemmas.Bool.Decides.{nat_tests}
 use Rattle.std.proofs.lemmas.List.Sums.{sum_by-cons}
 use Rattle.tt_base.specs.declared.names.NameEntry.{NameEntry}
 use Rattle.task_lang.specs.declared.allowed.OwnerKind.{OwnerKind}
@@ -58,21 +58,12 @@ IsHigh stack k block head = (not (block && nat_le 5 (length stack)) ≡ true) ×
 abbrev IsLow : List Open → OwnerKind → List Stmt → Type 0
 IsLow outside k body = length outside ≤ 4 → nesting_in body + length outside ≤ 4
 
-low-block : (inner : Open) (outer : List Open) (k : OwnerKind) (head : Head) (first second body : List Stmt)
-    → IsHigh (inner ∷ outer) k true (Some head) → IsLow (inner ∷ outer) k first → IsLow (inner ∷ outer) k second
-    → IsLow outer k body → IsLow outer k (statement_of head first second ∷ body)
-low-block inner outer k head first second body here one other low le =
-    let few : suc (length outer) ≤ 4 =
-    omega (arith, leb-false 5 (length (inner ∷ outer)) (not-true (nat_le 5 (length (inner ∷ outer))) here.0)) in
-    let one' : nesting_in first + suc (length outer) ≤ 4 = one few in
-    let other' : nesting_in second + suc (length outer) ≤ 4 = other few in
-    omega (arith, nesting-block head first second, low le)
-
 low : IsKept IsHigh IsLow
 low = record {
   none = λ outside k le. omega arith;
   plain = λ inner outer k head body here low_ le. omega (arith, nesting-flat head here.1, low_ le);
-  block = low-block;
+  block = λ inner outer k head first second body here one other low_ le.
+      grind (arith, nat_tests, nesting-block head first second);
 }
 
 row_opens : (row : Row) → opens_block row ≡ opens (standing_of row)
@@ -134,17 +125,13 @@ count-block (Some head) (inner ∷ outer) =
 
 count-row : (standing : Standing) (head : Option Head) (rest : List Branches)
     → count_all (row_then standing head rest) ≤ 1 + count_all rest
-count-row Top head rest = omega arith
-count-row (Opener kind) head [] = omega arith
-count-row (Opener kind) head (inner ∷ outer) = omega arith
 count-row Plain None rest = omega arith
 count-row Plain (Some head) rest =
     omega (arith, count-statement_then (statement_of head [] []) rest, count-statement head [] [])
 count-row OfIf head rest = count-block head rest
 count-row OfRepeat head rest = count-block head rest
-count-row OfElse head [] = omega arith
-count-row OfElse head (inner ∷ outer) = omega arith
-count-row OfEnd head rest = omega arith
+count-row standing head [] = omega arith
+count-row standing head (inner ∷ outer) = omega arith
 
 module _ (names : List NameEntry) where
   count-branches : (rows : List NumberedRow) → count_all (branches_from names rows) ≤ length rows
@@ -171,4 +158,5 @@ module _ (names : List NameEntry) where
   bodies_counted [] short = tt
   bodies_counted (row ∷ rows) short =
       each_then (λ (b : BodyPart). IsCountInLimit b.body) row.line
-      (body_of (owner_in row.row) (branches_from names rows)) (bodies_of names rows) (counted (owner_in row.row) rows (omega arith)) (bodies_counted rows (omega arith))
+      (body_of (owner_in row.row) (branches_from names rows)) (bodies_of names rows)
+      (counted (owner_in row.row) rows (omega arith)) (bodies_counted rows (omega arith))

@@ -58,20 +58,15 @@ module _ {A : Type 0} (P : A → Type 0) (Q : Row → Type 0) (part_of : Row →
   pub each_part : (rows : List NumberedRow) → EachRow Q rows → Each P (parts (each_at part_of rows))
   each_part rows h = each_map P (λ (x : At A). x.part) (each_at part_of rows) (each_located rows h)
 
-module _ (P : Owner → Type 0) (Q : Row → Type 0) (gives : (row : Row) → Q row → IfSome (owner_in row) P)
-    (names : List NameEntry) where
-  owned : (o : Option Owner) (rest : List Branches) → IfSome o P → IfSome (body_of o rest) (λ (b : BodyPart). P b.owner)
-  owned None rest h = tt
-  owned (Some owner) rest h = h
-
-  -- what holds of the owner of each body
-  pub each_owner : (rows : List NumberedRow) → EachRow Q rows
-      → Each (λ (x : At BodyPart). P x.part.owner) (bodies_of names rows)
-  each_owner [] h = tt
-  each_owner (row ∷ rows) h =
-      let rest = branches_from names rows in
-      each_then (λ (b : BodyPart). P b.owner) row.line (body_of (owner_in row.row) rest) (bodies_of names rows)
-      (owned (owner_in row.row) rest (gives row.row h.0)) (each_owner rows h.1)
+-- what holds of each body, where each row that opens one gives it
+pub each_body : (P : BodyPart → Type 0) (Q : Row → Type 0)
+    → ((row : Row) (rest : List Branches) → Q row → IfSome (body_of (owner_in row) rest) P) → (names : List NameEntry)
+    (rows : List NumberedRow) → EachRow Q rows → Each (λ (x : At BodyPart). P x.part) (bodies_of names rows)
+each_body P Q gives names [] h = tt
+each_body P Q gives names (row ∷ rows) h =
+    let rest = branches_from names rows in
+    each_then P row.line (body_of (owner_in row.row) rest) (bodies_of names rows) (gives row.row rest h.0)
+    (each_body P Q gives names rows h.1)
 
 -- ---- heads
 

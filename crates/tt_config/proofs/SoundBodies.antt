@@ -1,8 +1,9 @@
 -- The bodies of a configuration meet its rules.
-use Rattle.std.proofs.Common.{◌≡◌, ℕ, ◌^◌, ◌<◌, ◌≤◌, Bool, true, List, [], ◌∷◌, length, get_or, refl, arith, subst}
+use Rattle.std.proofs.Common.{◌≡◌, ℕ, ◌^◌, ◌<◌, ◌≤◌, Bool, true, List, [], ◌∷◌, length, get_or, refl, arith, rules, subst}
 use Rattle.std.specs.Prelude.{◌&&◌, nat_le, flat_map, IfSome}
 use Rattle.std.specs.List.{AllByRecursion as Each}
 use Rattle.std.proofs.lemmas.Bool.{and_parts, leb-true}
+use Rattle.std.proofs.lemmas.Bool.Decides.{nat_tests}
 use Rattle.std.proofs.lemmas.List.Elements.{All-from_recursion, recursion_from_All}
 use Rattle.task_lang.specs.declared.allowed.OwnerKind.{OwnerKind}
 use Rattle.task_lang.specs.declared.allowed.OwnerKind.TheVariants as kind
@@ -23,7 +24,7 @@ use Rattle.tt_parts.specs.declared.bodies.Owner.{Owner}
 use Rattle.tt_parts.specs.declared.bodies.Owner.TheVariants as owner
 use Rattle.tt_parts.specs.declared.bodies.BodyPart.{BodyPart}
 use Rattle.tt_parts.specs.Located.{each_at, parts}
-use Rattle.tt_parts.specs.Bodies.{Head, bodies_of, head_of, owner_in}
+use Rattle.tt_parts.specs.Bodies.{Branches, Head, bodies_of, body_of, head_of, owner_in}
 use Rattle.tt_parts.specs.Entries.{demand_in}
 use Rattle.tt_parts.specs.Names.{names_in}
 use Rattle.tt_rules.specs.BodyRules.{AreTellable, IsTellable, has_statement, is_light}
@@ -40,35 +41,28 @@ use Rattle.tt_config.specs.Owners.{AreFit, IsFit, IsInRange, task_by, isr_by, os
 use Rattle.tt_config.specs.Parts.{config_of, config_with}
 use Rattle.tt_config.proofs.Counted.{named}
 use Rattle.tt_config.proofs.Limits.{bodies_nested, bodies_counted}
-use Rattle.tt_config.proofs.Rows.{IsRowFit, each_owner, each_part, row_callee, row_demand, row_short, row_variables, rows_fit}
+use Rattle.tt_config.proofs.Rows.{IsRowFit, each_body, each_part, row_callee, row_demand, row_short, row_variables, rows_fit}
 
 -- ---- demands
 
-abbrev IsDemand : Demand → Type 0
-IsDemand d = (nat_le d.most 10000000 ≡ true) × (nat_le d.usual d.most ≡ true)
+abbrev is_demand : Demand → Bool
+is_demand d = nat_le d.most 10000000 && nat_le d.usual d.most
 
-demand_fits : (row : Row) → has_numbers_in_range row ≡ true → IfSome (demand_in row) IsDemand
-demand_fits (r.Demand name most usual) fit = and_parts (nat_le most 10000000) (nat_le usual most) fit
+demand_fits : (row : Row) → has_numbers_in_range row ≡ true → IfSome (demand_in row) (λ d. is_demand d ≡ true)
+demand_fits (r.Demand name most usual) fit = fit
 demand_fits row fit = tt
 
 -- ---- owners
 
-within : (n : ℕ) → is_within 1 255 n ≡ true → (1 ≤ n) × (n ≤ 255)
-within n is = let both = and_parts (nat_le 1 n) (nat_le n 255) is in (leb-true 1 n both.0, leb-true n 255 both.1)
-
-owner_fits : (row : Row) → has_numbers_in_range row ≡ true → IfSome (owner_in row) IsInRange
-owner_fits (r.Task name stack) fit = leb-true stack 65535 fit
-owner_fits (r.Isr name level stack) fit =
-    let both = and_parts (is_within 1 255 level) (nat_le stack 65535) fit in
-    ((within level both.0).0, ((within level both.0).1, (leb-true stack 65535 both.1, refl)))
-owner_fits (r.IsrFar name level stack distance) fit =
-    let both = and_parts (is_within 1 255 level) (nat_le stack 65535 && is_within 1 1000000000 distance) fit in
-    let rest = and_parts (nat_le stack 65535) (is_within 1 1000000000 distance) both.1 in
-    ((within level both.0).0, ((within level both.0).1, (leb-true stack 65535 rest.0, rest.1)))
-owner_fits (r.Osek name priority) fit = within priority fit
-owner_fits (r.OsekAuto name priority) fit = within priority fit
-owner_fits (r.Oisr name priority) fit = within priority fit
-owner_fits row fit = tt
+owner_fits : (row : Row) (rest : List Branches) → has_numbers_in_range row ≡ true
+    → IfSome (body_of (owner_in row) rest) (λ (b : BodyPart). IsInRange b.owner)
+owner_fits (r.Task name stack) rest fit = grind (arith, nat_tests)
+owner_fits (r.Isr name level stack) rest fit = grind (arith, nat_tests)
+owner_fits (r.IsrFar name level stack distance) rest fit = grind (arith, nat_tests)
+owner_fits (r.Osek name priority) rest fit = grind (arith, nat_tests)
+owner_fits (r.OsekAuto name priority) rest fit = grind (arith, nat_tests)
+owner_fits (r.Oisr name priority) rest fit = grind (arith, nat_tests)
+owner_fits row rest fit = tt
 
 -- ---- bodies whose worst case can be computed
 
@@ -80,19 +74,17 @@ module _ (rows : List NumberedRow) (short : length rows < 2 ^ 32) (is_2 : lines_
   in_range : EachRow (λ row. has_numbers_in_range row ≡ true) rows
   in_range = each_row has_numbers_in_range rows is_9
 
-  each_demand : Each IsDemand demands
-  each_demand = each_part IsDemand (λ row. has_numbers_in_range row ≡ true) demand_in demand_fits rows in_range
+  each_demand : Each (λ d. is_demand d ≡ true) demands
+  each_demand = each_part _ (λ row. has_numbers_in_range row ≡ true) demand_in demand_fits rows in_range
 
   -- 9. The numbers of demands are in range.
   pub mosts_in_range : AreMostsInRange demands
-  mosts_in_range =
-      let fits = λ (d : Demand). nat_le d.most 10000000 in
-      all_from_each fits demands (each_weaker IsDemand (λ d. fits d ≡ true) (λ d h. h.0) demands each_demand)
+  mosts_in_range = all_from_each (λ (d : Demand). nat_le d.most 10000000) demands
+      (each_weaker _ _ (λ d h. (and_parts (nat_le d.most 10000000) _ h).0) demands each_demand)
 
   pub usuals_in_range : AreUsualsInRange demands
-  usuals_in_range =
-      let fits = λ (d : Demand). nat_le d.usual d.most in
-      all_from_each fits demands (each_weaker IsDemand (λ d. fits d ≡ true) (λ d h. h.1) demands each_demand)
+  usuals_in_range = all_from_each (λ (d : Demand). nat_le d.usual d.most) demands
+      (each_weaker _ _ (λ d h. (and_parts (nat_le d.most 10000000) _ h).1) demands each_demand)
 
   -- 2, 3, 9. The worst case of each body can be computed.
   pub tellable : AreTellable demands (bodies_of (names_in rows) rows)
@@ -118,16 +110,7 @@ record IsGood (c : ConfigParts) (b : BodyPart) : Type 0 where
 
 module _ (c : ConfigParts) where
   hook : IsBody c kind.Hook []
-  hook = record {
-    nested = omega arith;
-    counted = omega arith;
-    numbers = refl;
-    expressions = refl;
-    variables = refl;
-    demands = refl;
-    callees = refl;
-    allowed = refl;
-  }
+  hook = search (arith, rules)
 
   first_good : (bodies : List (List Stmt)) → Each (IsBody c kind.Hook) bodies → IsBody c kind.Hook (first_body bodies)
   first_good [] h = hook
@@ -196,7 +179,7 @@ module _ (rows : List NumberedRow) (rules : KeepBodyRules rows) where
   fit = rows_fit rows rules.sound rules.rule_9 rules.rule_14
 
   ranges : Each (λ (x : At BodyPart). IsInRange x.part.owner) bodies
-  ranges = each_owner IsInRange (IsRowFit names) (λ row f. owner_fits row f.numbers) names rows fit
+  ranges = each_body (λ b. IsInRange b.owner) (IsRowFit names) (λ row rest f. owner_fits row rest f.numbers) names rows fit
 
   passed : (test : Head → Bool) → ((row : Row) → IsRowFit names row → Passes test (head_of names row))
       → Each (λ (x : At BodyPart). each_in test x.part.body ≡ true) bodies
@@ -247,14 +230,14 @@ module _ (rows : List NumberedRow) (rules : KeepBodyRules rows) where
 
   -- 2, 3, 9, 17. The numbers of each body's owner fit the widths of those of a configuration.
   pub bodies_fit : AreFit c.demands bodies
-  bodies_fit = recursion_from_All (λ (x : At BodyPart). IsFit c.demands x.part) bodies (λ k d lt.
+  bodies_fit k d lt =
       let fine = All-from_recursion _ bodies good k d lt in
       record {
         tellable = All-from_recursion _ bodies
             (tellable rows rules.short rules.rule_2 rules.rule_3 rules.rule_9) k d lt;
         owner = fine.range;
         light = fine.light;
-      })
+      }
 
 pub law : BodiesAreSound
 unfolding config_of

@@ -63,16 +63,12 @@ module _ (names : List NameEntry) where
   start_fits row fit = tt
 
   time_fits : (row : Row) → IsRowFit names row → IfSome (time_in row) (λ time. nat_lt time (10 ^ 12) ≡ true)
-  time_fits (r.Time global) fit =
-      (and_parts (nat_lt global (10 ^ 12)) true
-      (and_parts (list_all is_sound_item (items_of (r.Time global))) _ fit.sound).0).0
+  time_fits (r.Time global) fit = grind (arith, fit.sound)
   time_fits row fit = tt
 
   tick_fits : (row : Row) → IsRowFit names row
       → IfSome (arrival_in names row) (λ (a : Arrival). nat_lt a.tick (10 ^ 12) ≡ true)
-  tick_fits (r.Arrive source tick) fit =
-      (and_parts (nat_lt tick (10 ^ 12)) true
-      (and_parts _ _ (and_parts (list_all is_sound_item (items_of (r.Arrive source tick))) _ fit.sound).0).1).0
+  tick_fits (r.Arrive source tick) fit = grind (arith, fit.sound)
   tick_fits row fit = tt
 
 first_holds : (P : ModeNo → Type 0) (modes : List ModeNo) → 1 ≤ length modes → Each P modes → P (first_mode modes)

@@ -1,11 +1,12 @@
 -- A stable sort gives the same list as inserting each element into those after it.
-use Rattle.std.proofs.Common.{◌≡◌, ℕ, suc, ◌<◌, ◌≤◌, Bool, true, false, cond, not, List, [], ◌∷◌, length, get_or, refl, sym, ap, ◌∙◌, arith}
+use Rattle.std.proofs.Common.{◌≡◌, ℕ, suc, ◌<◌, ◌≤◌, Bool, true, false, cond, not, List, [], ◌∷◌, length, get_or, Ordering, refl, sym, ap, ◌∙◌, arith}
 use Rattle.std.specs.Prelude.{◌&&◌, filter}
-use Rattle.std.specs.Cmp.{IsStrictWeakOrder}
-use Rattle.std.specs.List.Sorted.{IsSortedBy, IsStableBy, ties}
+use Rattle.std.specs.Cmp.{IsStrictWeakOrder, IsTotalOrder}
+use Rattle.std.specs.Ordering.{is_lt}
+use Rattle.std.specs.List.Sorted.{IsSortedBy, IsSortedByKey, IsStableBy, IsStableByKey, ties}
 use Rattle.std.proofs.lemmas.Bool.{and_parts, false_from_ne_true, not-true}
 use Rattle.std.proofs.lemmas.List.Elements.{All-filter, All-from_recursion, All-head, All-same, recursion_from_All}
-use Rattle.std.proofs.lemmas.List.Sorted.{sorted_far}
+use Rattle.std.proofs.lemmas.List.Sorted.{ranks_by, sorted_far}
 use Rattle.tt_rules.specs.Order.{inserted, ascending}
 use Rattle.tt_rules.proofs.Each.{Pairs}
 use Rattle.tt_rules.proofs.Sorting.{InOrder, order_ascending}
@@ -91,9 +92,15 @@ module _ {X : Type 0} (lt : X → X → Bool) (o : IsStrictWeakOrder lt) where
     ascends_sorted xs (λ i j d le below. up (suc i) (suc j) d (omega arith) (omega arith)),
   )
 
-  -- what a stable sort of a list gives
-  pub stable_sort : (xs ys : List X) → IsSortedBy lt ys → IsStableBy lt xs ys → ys ≡ ascending lt xs
+  stable_sort : (xs ys : List X) → IsSortedBy lt ys → IsStableBy lt xs ys → ys ≡ ascending lt xs
   stable_sort xs ys sorted stable =
       one_ascending ys (ascending lt xs) (ascends_sorted ys (sorted_far lt o ys sorted))
       (order_ascending lt o.one_way (λ x y z one other. o.chain z y x other one) xs)
       (λ z. stable z ∙ sym (filter_ascending z xs))
+
+-- what a stable sort by a key gives, where a test is the order of the keys
+pub sort_by_key : {X K : Type 0} {R : K → K → Ordering} → IsTotalOrder R → (key : X → K) (test : X → X → Bool)
+    → ((x y : X) → is_lt (R (key x) (key y)) ≡ test x y) → (xs ys : List X) → IsSortedByKey key R ys
+    → IsStableByKey key R xs ys → ys ≡ ascending test xs
+sort_by_key total key test same xs ys sorted stable =
+    stable_sort _ (ranks_by total key) xs ys sorted stable ∙ (λ i. ascending (λ x y. same x y i) xs)

@@ -1,6 +1,5 @@
 -- The owners of bodies.
-use Rattle.std.specs.Prelude.{◌≡◌, ◌≤◌, true, List, [], ◌∷◌, ◌++◌, flat_map}
-use Rattle.std.specs.List.{AllByRecursion}
+use Rattle.std.specs.Prelude.{◌≡◌, ◌≤◌, true, List, [], ◌∷◌, ◌++◌, All, flat_map}
 use Rattle.task_lang.specs.declared.demand.Demand.{Demand}
 use Rattle.task_lang.specs.declared.syntax.Stmt.{Stmt}
 use Rattle.task_lang.specs.Worst.{worst_in}
@@ -108,4 +107,4 @@ pub record IsFit (demands : List Demand) (b : BodyPart) : Type 0 where
   pub light : is_light demands b ≡ true
 
 abbrev pub AreFit : List Demand → List (At BodyPart) → Type 0
-AreFit demands bodies = AllByRecursion (λ (x : At BodyPart). IsFit demands x.part) bodies
+AreFit demands bodies = All (λ (x : At BodyPart). IsFit demands x.part) bodies

@@ -105,9 +105,10 @@ fn budget_of(body: &Body, demands: &Demands) -> u64
 pub(crate) fn first_body(alloc: Global, bodies: Series<Body>) -> Body
     ensures { result ≡ first_body bodies }
 {
-    let mut left = bodies.into_vec().into_iter();
-    match left.next() {
-        Some(body) => body,
-        None => Items::new(alloc),
+    let mut left = bodies.into_vec();
+    if left.is_empty() {
+        Items::new(alloc)
+    } else {
+        left.swap_remove(0)
     }
 }

@@ -1,4 +1,4 @@
-use Rattle.tt_config.proofs.Elaboration.{few_names}
+use Rattle.tt_config.proofs.Asked.{few_names}
 use Rattle.tt_config.proofs.acceptance.elaborate_rows.Goals as goal
 
 pub elaborate-requires-clause-few : goal.elaborate-requires-clause-few

@@ -6,8 +6,7 @@ use Rattle.tt_rules.specs.BodyRules.{AreTellable}
 use Rattle.tt_rules.specs.declared.broken.Broken.{Broken}
 use Rattle.tt_rules.specs.Document.{Document, document_of, limit_of, names_of}
 use Rattle.tt_rules.specs.Table.{first_broken, declaration_rules, body_rules, table_rules}
-use Rattle.tt_config.proofs.Asked.{kept, later_by}
-use Rattle.tt_config.proofs.Elaboration.{few_by_kind, no_line}
+use Rattle.tt_config.proofs.Asked.{few_by_kind, kept, later_by, no_line}
 use Rattle.tt_config.proofs.SoundBodies.{tellable}
 use Rattle.tt_config.proofs.document.later_broken.Goals as goal
 use Rattle.tt_config.proofs.document.later_broken.Goals.{In_default, In_ok-broken, In_ok-broken-2}
