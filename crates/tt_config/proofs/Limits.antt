@@ -1,5 +1,5 @@
 -- Bodies are in the limits: how deep they nest, and how many statements they have.
-use Rattle.std.proofs.Common.{◌≡◌, ℕ, suc, ◌+◌, ◌^◌, ◌≤◌, ◌<◌, max, Bool, true, false, not, List, [], ◌∷◌, map, length, Option, Some, None, refl, arith, ap, sym, ◌∙◌}
+use Rattle.std.proofs.Common.{◌≡◌, ℕ, ◌+◌, ◌^◌, ◌≤◌, ◌<◌, max, Bool, true, false, not, List, [], ◌∷◌, map, length, Option, Some, None, refl, arith, ap, sym, ◌∙◌}
 use Rattle.std.specs.Prelude.{◌&&◌, ◌||◌, nat_le, IfSome}
 use Rattle.std.specs.List.{AllByRecursion as Each}
 use Rattle.std.proofs.lemmas.Bool.Decides.{nat_tests}
@@ -17,7 +17,7 @@ use Rattle.tt_rows.specs.declared.row.NumberedRow.{NumberedRow}
 use Rattle.tt_parts.specs.declared.located.At.{At}
 use Rattle.tt_parts.specs.declared.structure.Open.{Open}
 use Rattle.tt_parts.specs.declared.structure.Standing.{Standing}
-use Rattle.tt_parts.specs.declared.structure.Standing.TheVariants.{Top, Opener, Plain, OfIf, OfElse, OfRepeat, OfEnd}
+use Rattle.tt_parts.specs.declared.structure.Standing.TheVariants.{Plain, OfIf, OfRepeat}
 use Rattle.tt_parts.specs.declared.bodies.Owner.{Owner}
 use Rattle.tt_parts.specs.declared.bodies.BodyPart.{BodyPart}
 use Rattle.tt_parts.specs.Structure.{standing_of}

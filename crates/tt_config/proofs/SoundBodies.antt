@@ -1,5 +1,5 @@
 -- The bodies of a configuration meet its rules.
-use Rattle.std.proofs.Common.{◌≡◌, ℕ, ◌^◌, ◌<◌, ◌≤◌, Bool, true, List, [], ◌∷◌, length, get_or, refl, arith, rules, subst}
+use Rattle.std.proofs.Common.{◌≡◌, ◌^◌, ◌<◌, Bool, true, List, [], ◌∷◌, length, get_or, refl, arith, rules, subst}
 use Rattle.std.specs.Prelude.{◌&&◌, nat_le, flat_map, IfSome}
 use Rattle.std.specs.List.{AllByRecursion as Each}
 use Rattle.std.proofs.lemmas.Bool.{and_parts, leb-true}
@@ -30,14 +30,13 @@ use Rattle.tt_parts.specs.Names.{names_in}
 use Rattle.tt_rules.specs.BodyRules.{AreTellable, IsTellable, has_statement, is_light}
 use Rattle.tt_rules.specs.DeclarationRules.{has_numbers_in_range, lines_9}
 use Rattle.tt_rules.specs.Laws.{kind_of}
-use Rattle.tt_rules.specs.RoundRules.{is_within}
 use Rattle.tt_rules.specs.StructureRules.{lines_2, lines_3}
 use Rattle.tt_rules.proofs.Each.{all_from_each, each_flat_map, each_map, each_weaker}
 use Rattle.tt_rules.proofs.Kept.{EachRow, each_kept, each_row}
 use Rattle.tt_rules.proofs.SoundBodies.{Passes, bodies_pass, bodies_sound, number_passes}
 use Rattle.tt_config.specs.BodyRules.{BodiesAreSound, HasSoundBodies, KeepBodyRules}
 use Rattle.tt_config.specs.Document.{elaborated_of}
-use Rattle.tt_config.specs.Owners.{AreFit, IsFit, IsInRange, task_by, isr_by, osek_by, oisr_by, error_hook_by, shutdown_hook_by, first_body}
+use Rattle.tt_config.specs.Owners.{AreFit, IsInRange, task_by, isr_by, osek_by, oisr_by, error_hook_by, shutdown_hook_by, first_body}
 use Rattle.tt_config.specs.Parts.{config_of, config_with}
 use Rattle.tt_config.proofs.Counted.{named}
 use Rattle.tt_config.proofs.Limits.{bodies_nested, bodies_counted}

@@ -14,8 +14,7 @@ use Rattle.tt_world.specs.ScriptRules.{IsScript, ticks_ascend}
 use Rattle.tt_rows.specs.declared.row.Row.{Row}
 use Rattle.tt_rows.specs.declared.row.Row.TheVariants as r
 use Rattle.tt_rows.specs.declared.row.NumberedRow.{NumberedRow}
-use Rattle.tt_rows.specs.Sound.{AreSound, is_sound_item}
-use Rattle.tt_rows.specs.Spelling.{items_of}
+use Rattle.tt_rows.specs.Sound.{AreSound}
 use Rattle.tt_parts.specs.declared.entries.Arrival.{Arrival}
 use Rattle.tt_parts.specs.declared.entries.Value.{Value}
 use Rattle.tt_parts.specs.Located.{each_at, parts}

@@ -78,9 +78,12 @@ module _ {X : Type 0} (lt : X → X → Bool) (o : IsStrictWeakOrder lt) where
       let after = not_after x xs y ys up (same y) in
       let before = not_after y ys x xs other (sym (same x)) in
       let one : x ≡ y = cc (same x, ties_itself x, after, before) in
-      cc (one, one_ascending xs ys up.1 other.1
-      (λ z. same_rest (ties lt z x) x y (filter (ties lt z) xs) (filter (ties lt z) ys) one
-      (same z ∙ ap (λ w. cond (ties lt z w) (y ∷ filter (ties lt z) ys) (filter (ties lt z) ys)) (sym one))))
+      cc (
+        one,
+        one_ascending xs ys up.1 other.1
+            (λ z. same_rest (ties lt z x) x y (filter (ties lt z) xs) (filter (ties lt z) ys) one
+            (same z ∙ ap (λ w. cond (ties lt z w) (y ∷ filter (ties lt z) ys) (filter (ties lt z) ys)) (sym one))),
+      )
 
   -- ---- a sort
 

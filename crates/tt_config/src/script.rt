@@ -3,7 +3,7 @@
 ghost use Rattle.std.specs.Prelude.{◌≡◌, ◌≤◌, IfOk};
 ghost use Rattle.tt_base.specs.Names.{count_of};
 ghost use Rattle.tt_config.specs.Lists.{by_number};
-ghost use Rattle.tt_config.specs.Parts.{arrival_place, first_mode, script_with, value_place};
+ghost use Rattle.tt_config.specs.Parts.{arrival_place, arrivals_with, first_mode, script_with, value_place};
 ghost use Rattle.tt_parts.specs.Located.{parts};
 ghost use Rattle.tt_rules.specs.Document.{first_or_zero};
 
@@ -76,6 +76,20 @@ fn arrivals_of(
     Ok(lists.into_series())
 }
 
+/// The arrivals of each source.
+fn arrivals_with(
+    alloc: Global,
+    names: &[At<NameEntry>],
+    arrivals: &[At<Arrival>],
+) -> Result<Arrivals, Memory>
+    ensures { IfOk result (λ told. told ≡ arrivals_with (parts names.now) (parts arrivals.now)) }
+{
+    Ok(Arrivals {
+        isrs: arrivals_of(alloc, NameKind::Isr, names, arrivals)?,
+        oisrs: arrivals_of(alloc, NameKind::Oisr, names, arrivals)?,
+    })
+}
+
 /// The script that parts give, of at most 100,000 rounds.
 pub(crate) fn script_parts(
     alloc: Global,
@@ -86,14 +100,14 @@ pub(crate) fn script_parts(
     ensures { IfOk result (λ script. script ≡ script_with (parts names.now) said.now) }
 {
     let demands = count_of(names, NameKind::Demand);
+    let times = parts(alloc, said.times.as_slice())?;
+    let values = values_of(alloc, demands, said.values.as_slice())?;
+    let arrivals = arrivals_with(alloc, names, said.arrivals.as_slice())?;
     Ok(ScriptParts {
         start: first_mode(said.starts.as_slice()),
         rounds: first_or_zero(said.counts.as_slice()) as u32,
-        values: values_of(alloc, demands, said.values.as_slice())?,
-        arrivals: Arrivals {
-            isrs: arrivals_of(alloc, NameKind::Isr, names, said.arrivals.as_slice())?,
-            oisrs: arrivals_of(alloc, NameKind::Oisr, names, said.arrivals.as_slice())?,
-        },
-        times: parts(alloc, said.times.as_slice())?,
+        values,
+        arrivals,
+        times,
     })
 }

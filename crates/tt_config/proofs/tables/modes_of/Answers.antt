@@ -7,7 +7,7 @@ use Rattle.tt_parts.specs.declared.entries.Entry.{Entry}
 use Rattle.tt_parts.specs.declared.entries.Entry.TheVariants as entry
 use Rattle.tt_rules.specs.Order.{ascending, below}
 use Rattle.tt_rules.specs.Tables.{activation_in, enable_in, is_earlier, is_enabled_earlier, mode_with}
-use Rattle.tt_config.specs.Lists.{at_number, by_number, given}
+use Rattle.tt_config.specs.Lists.{at_number, given}
 use Rattle.tt_config.specs.Tables.{activation_of, enable_of, entry_place, mode_of_entries}
 use Rattle.tt_parts.specs.Located.{parts}
 use Rattle.tt_config.proofs.tables.modes_of.Goals as goal
