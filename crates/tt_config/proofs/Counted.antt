@@ -1,9 +1,9 @@
 -- There are as many names of each kind as parts of that kind.
-use Rattle.std.proofs.Common.{◌≡◌, ℕ, zero, suc, ◌+◌, ◌≤◌, Bool, false, List, [], ◌∷◌, ◌++◌, length, map, Option, Some, None, refl, ap, sym, subst, ◌∙◌, arith}
+use Rattle.std.proofs.Common.{◌≡◌, ℕ, zero, suc, ◌+◌, ◌<◌, ◌≤◌, Bool, false, List, [], ◌∷◌, ◌++◌, length, get_or, map, Option, Some, None, refl, ap, sym, subst, ◌∙◌, arith}
 use Rattle.std.specs.Prelude.{flat_map}
 use Rattle.std.specs.List.{range_with_len}
 use Rattle.std.proofs.lemmas.List.{map-id}
-use Rattle.std.proofs.lemmas.List.FromFn.{length-map-range_with_len, map-range_with_len_more}
+use Rattle.std.proofs.lemmas.List.FromFn.{get_or-map-range_with_len, length-map-range_with_len, map-range_with_len_more}
 use Rattle.task_lang.specs.declared.demand.Demand.{Demand}
 use Rattle.tt_base.specs.declared.names.NameKind.{NameKind}
 use Rattle.tt_base.specs.declared.names.NameKind.TheVariants as Kind
@@ -37,6 +37,11 @@ below_is (suc n) = ap (λ ks. ks ++ n ∷ []) (below_is n ∙ sym (map-id (range
 
 pub length-each : {X : Type 0} (f : ℕ → X) (n : ℕ) → length (map f (below n)) ≡ n
 length-each f n = ap (λ ks. length (map f ks)) (below_is n) ∙ length-map-range_with_len f 0 n
+
+-- what belongs to each number below n, read at one number
+pub get_or-each : {X : Type 0} (f : ℕ → X) (n k : ℕ) (d : X) → k < n → get_or (map f (below n)) k d ≡ f k
+get_or-each f n k d lt =
+    ap (λ ks. get_or (map f ks) k d) (below_is n) ∙ get_or-map-range_with_len f 0 n k k d lt (omega arith)
 
 -- a row declares a name of a kind
 abbrev is_kind : NameKind → Option NameEntry → Bool

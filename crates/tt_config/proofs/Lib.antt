@@ -6,6 +6,5 @@ pub mod Expressions
 pub mod Limits
 pub mod SoundBodies
 pub mod Distinct
-pub mod SoundScript
 pub mod StableSort
 pub mod SoundConfig

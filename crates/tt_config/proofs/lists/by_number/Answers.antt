@@ -7,14 +7,9 @@ use Rattle.tt_parts.specs.declared.located.At.{At}
 use Rattle.tt_parts.specs.Located.{parts}
 use Rattle.tt_rules.specs.Order.{below}
 use Rattle.tt_config.specs.Lists.{at_number, by_number, given, put_at}
-use Rattle.tt_config.proofs.Counted.{below_is, length-each}
+use Rattle.tt_config.proofs.Counted.{below_is, get_or-each, length-each}
 use Rattle.std.proofs.lemmas.Fn.{says_at}
 use Rattle.tt_config.proofs.lists.by_number.Goals as goal
-
--- what belongs to each number below n, read at one number
-get_or-each : {X : Type 0} (f : ℕ → X) (n k : ℕ) (d : X) → k < n → get_or (map f (below n)) k d ≡ f k
-get_or-each f n k d lt =
-    ap (λ ks. get_or (map f ks) k d) (below_is n) ∙ get_or-map-range_with_len f 0 n k k d lt (omega arith)
 
 -- a list whose item at each number is what belongs to that number is the list of these
 same_each : {X : Type 0} (f : ℕ → X) (n : ℕ) (xs : List X) (d : X) → length xs ≡ n
