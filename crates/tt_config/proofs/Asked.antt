@@ -15,18 +15,13 @@ use Rattle.tt_rules.specs.Lines.{least_line, lesser_of}
 use Rattle.tt_rules.specs.Table.{Rule, AreKept, broken_or, first_broken, structure_rules, round_rules, name_rules, declaration_rules, body_rules, table_rules, input_rules, first_rules, later_rules, the_rules}
 use Rattle.tt_config.specs.Broken.{broken_rule}
 
-least_some : (line : ℕ) (other : Option ℕ) → lesser_of (Some line) other ≡ None → ⊥
-least_some line None is = cc
-least_some line (Some other) is = cc
-
 least_none : (lines : List ℕ) → least_line lines ≡ None → lines ≡ []
 least_none [] is = refl
-least_none (line ∷ lines) is = absurd (least_some line (least_line lines) is)
+least_none (line ∷ lines) is = grind arith
 
 broken_none : (number : ℕ) (line : Option ℕ) (later : Option Broken) → broken_or number line later ≡ None
     → (line ≡ None) × (later ≡ None)
-broken_none number None later is = (refl, is)
-broken_none number (Some line) later is = cc
+broken_none number line later is = grind arith
 
 or_later : (number : ℕ) (line : Option ℕ) (all own rest : Option Broken) → all ≡ option_or own rest
     → broken_or number line all ≡ option_or (broken_or number line own) rest
@@ -55,20 +50,22 @@ module _ (d : Document) where
   pub first_by : (a b e : Option Broken) → a ≡ first_broken 1 structure_rules d → b ≡ first_broken 4 round_rules d
       → e ≡ first_broken 7 name_rules d → option_or a (option_or b e) ≡ first_broken 1 first_rules d
   first_by a b e one two three =
-      (λ i. option_or (one i) (option_or (two i) (three i)))
-      ∙ ap (option_or (first_broken 1 structure_rules d)) (sym (joined 4 round_rules name_rules))
-      ∙ sym (joined 1 structure_rules (round_rules ++ name_rules))
+      cc (one, two, three, joined 1 structure_rules (round_rules ++ name_rules), joined 4 round_rules name_rules)
 
   -- rules 9 to 28 are asked in four groups
   pub later_by : (a b e f : Option Broken) → a ≡ first_broken 9 declaration_rules d → b ≡ first_broken 14 body_rules d
       → e ≡ first_broken 18 table_rules d → f ≡ first_broken 25 input_rules d
       → option_or a (option_or b (option_or e f)) ≡ first_broken 9 later_rules d
   later_by a b e f one two three four =
-      (λ i. option_or (one i) (option_or (two i) (option_or (three i) (four i))))
-      ∙ ap (λ o. option_or (first_broken 9 declaration_rules d) (option_or (first_broken 14 body_rules d) o))
-      (sym (joined 18 table_rules input_rules))
-      ∙ ap (option_or (first_broken 9 declaration_rules d)) (sym (joined 14 body_rules (table_rules ++ input_rules)))
-      ∙ sym (joined 9 declaration_rules (body_rules ++ (table_rules ++ input_rules)))
+      cc (
+        one,
+        two,
+        three,
+        four,
+        joined 9 declaration_rules (body_rules ++ (table_rules ++ input_rules)),
+        joined 14 body_rules (table_rules ++ input_rules),
+        joined 18 table_rules input_rules,
+      )
 
 module _ (rows : List NumberedRow) where
   -- all rules are asked in two groups

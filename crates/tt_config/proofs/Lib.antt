@@ -2,9 +2,7 @@ pub mod Asked
 pub mod Rows
 pub mod Known
 pub mod Counted
-pub mod Expressions
 pub mod Limits
 pub mod SoundBodies
-pub mod Distinct
 pub mod StableSort
 pub mod SoundConfig

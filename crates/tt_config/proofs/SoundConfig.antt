@@ -38,8 +38,7 @@ use Rattle.tt_config.specs.Document.{elaborated_of}
 use Rattle.tt_config.specs.Parts.{config_of, config_with, script_of, arrival_by, arrival_place, first_mode, script_with, value_place}
 use Rattle.tt_config.specs.Sound.{IsSound}
 use Rattle.tt_config.proofs.Asked.{none_broken}
-use Rattle.tt_config.proofs.Counted.{few, get_or-each, length-each, named}
-use Rattle.tt_config.proofs.Distinct.{fields_distinct, level_told, osek_told, oisr_told}
+use Rattle.tt_config.proofs.Counted.{few, fields_distinct, get_or-each, length-each, level_told, named, oisr_told, osek_told}
 use Rattle.tt_config.proofs.Known.{number_below}
 use Rattle.tt_config.proofs.Rows.{IsRowFit, each_part, rows_fit}
 use Rattle.tt_config.proofs.SoundBodies.{bodies_are_sound, bodies_fit, mosts_in_range, usuals_in_range}

@@ -124,6 +124,7 @@ fn keep_later(alloc: Global, rows: &[NumberedRow], document: &Elaborated) -> Res
 }
 
 /// What rows say that break none of rules 1 to 8.
+#[tactic(auto, using(crate::proofs::Asked::few_names))]
 fn elaborate_rows(alloc: Global, rows: &[NumberedRow]) -> Result<Elaborated, AcceptFault>
     requires { AreSound rows.now }
     ensures elaborated { IfOk result (λ document. document ≡ elaborated_of rows.now) }

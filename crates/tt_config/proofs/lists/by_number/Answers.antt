@@ -1,7 +1,7 @@
 use Rattle.std.proofs.Common.{◌≡◌, ℕ, ◌+◌, ◌<◌, List, [], ◌∷◌, ◌++◌, length, map, take, get_or, replicate, Option, Some, None, ap, sym, ◌∙◌, arith, refl}
 use Rattle.std.proofs.lemmas.Bool.Decides.{nat_tests}
 use Rattle.std.proofs.lemmas.Grind.{flat_map-append, get_or-set_at}
-use Rattle.std.proofs.lemmas.List.{append-nil, get_or-replicate, get_or-set_other, length-replicate, length-set, map-append, take_more}
+use Rattle.std.proofs.lemmas.List.{append-nil, get_or-replicate, get_or-set_other, length-replicate, length-set, map_more}
 use Rattle.std.proofs.lemmas.List.FromFn.{fill_by_all, get_or-map-range_with_len}
 use Rattle.tt_parts.specs.declared.located.At.{At}
 use Rattle.tt_parts.specs.Located.{parts}
@@ -44,8 +44,7 @@ module _ {A B : Type 0} (count : ℕ) (place : A → Option (ℕ × B)) where
 
   length-put : (xs : List A) (o : Option (ℕ × B)) → length (put_at o (by_number count place xs)) ≡ count
   length-put xs None = length-each (given place xs) count
-  length-put xs (Some p) = length-set (by_number count place xs) p.0
-      (get_or (by_number count place xs) p.0 [] ++ p.1 ∷ []) ∙ length-each (given place xs) count
+  length-put xs (Some p) = length-set (by_number count place xs) p.0 _ ∙ length-each (given place xs) count
 
   put-push : (xs : List A) (x : A) → put_at (place x) (by_number count place xs) ≡ by_number count place (xs ++ x ∷ [])
   put-push xs x =
@@ -60,8 +59,7 @@ module _ {A B : Type 0} (count : ℕ) (place : A → Option (ℕ × B)) where
       → more ≡ by_number count place (parts (take (i + 1) xs))
   by_number-more xs i x lists more o lt is before gives put =
       let whole : parts (take (i + 1) xs) ≡ parts (take i xs) ++ x.part ∷ [] =
-      ap parts (take_more xs i x lt ∙ ap (λ (y : At A). take i xs ++ y ∷ []) (sym is))
-      ∙ map-append (λ (y : At A). y.part) (take i xs) (x ∷ []) in
+      map_more (λ (y : At A). y.part) xs i x lt ∙ (λ j. parts (take i xs) ++ (sym is j).part ∷ []) in
       put ∙ ap (λ p. put_at p lists) gives ∙ ap (put_at (place x.part)) before ∙ put-push (parts (take i xs)) x.part
       ∙ ap (by_number count place) (sym whole)
 

@@ -24,10 +24,7 @@ module _ (mode : ℕ) where
   own : {B : Type 0} (f g : Entry → List B) → ((x : Entry) → flat_map f (at_number mode (entry_place x)) ≡ g x)
       → (xs : List Entry) → flat_map f (given entry_place xs mode) ≡ flat_map g xs
   own f g same [] = refl
-  own f g same (x ∷ xs) =
-      flat_map-append f (at_number mode (entry_place x)) (given entry_place xs mode)
-      ∙ ap (λ ys. ys ++ flat_map f (given entry_place xs mode)) (same x)
-      ∙ ap (λ ys. g x ++ ys) (own f g same xs)
+  own f g same (x ∷ xs) = grind (arith, flat_map-append, same x, own f g same xs)
 
   own_table : (xs : List Entry) → mode_of_entries (given entry_place xs mode) ≡ mode_with xs mode
   own_table xs =
