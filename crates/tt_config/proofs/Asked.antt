@@ -11,17 +11,13 @@ use Rattle.tt_rules.proofs.SoundDeclarations.{declarations_sound}
 use Rattle.tt_rules.specs.declared.broken.Broken.{Broken}
 use Rattle.tt_rows.specs.declared.row.NumberedRow.{NumberedRow}
 use Rattle.tt_rules.specs.Document.{Document, document_of}
-use Rattle.tt_rules.specs.Lines.{least_line, lesser_of}
+use Rattle.tt_rules.specs.Lines.{least_line}
 use Rattle.tt_rules.specs.Table.{Rule, AreKept, broken_or, first_broken, structure_rules, round_rules, name_rules, declaration_rules, body_rules, table_rules, input_rules, first_rules, later_rules, the_rules}
 use Rattle.tt_config.specs.Broken.{broken_rule}
 
 least_none : (lines : List ℕ) → least_line lines ≡ None → lines ≡ []
 least_none [] is = refl
 least_none (line ∷ lines) is = grind arith
-
-broken_none : (number : ℕ) (line : Option ℕ) (later : Option Broken) → broken_or number line later ≡ None
-    → (line ≡ None) × (later ≡ None)
-broken_none number line later is = grind arith
 
 or_later : (number : ℕ) (line : Option ℕ) (all own rest : Option Broken) → all ≡ option_or own rest
     → broken_or number line all ≡ option_or (broken_or number line own) rest
@@ -33,10 +29,8 @@ module _ (d : Document) where
   pub kept : (number : ℕ) (rules : List Rule) → first_broken number rules d ≡ None → AreKept rules d
   kept number [] is zero = refl
   kept number [] is (suc n) = refl
-  kept number (rule ∷ rules) is zero =
-      least_none (rule d) (broken_none number (least_line (rule d)) (first_broken (number + 1) rules d) is).0
-  kept number (rule ∷ rules) is (suc n) =
-      kept (number + 1) rules (broken_none number (least_line (rule d)) (first_broken (number + 1) rules d) is).1 n
+  kept number (rule ∷ rules) is zero = least_none (rule d) (grind arith)
+  kept number (rule ∷ rules) is (suc n) = kept (number + 1) rules (grind arith) n
 
   -- the first broken rule is that of the first rules, or else that of the others
   joined : (number : ℕ) (first others : List Rule) → first_broken number (first ++ others) d

@@ -158,9 +158,6 @@ abbrev told : Option ℕ → List ℕ
 told None = []
 told (Some n) = n ∷ []
 
-other_way : (a b : ℕ) → (a == b) ≡ false → (b == a) ≡ false
-other_way a b is = grind (arith, nat_tests)
-
 -- each two numbers differ
 abbrev Apart : ℕ → ℕ → Type 0
 Apart a b = (b == a) ≡ false
@@ -173,7 +170,7 @@ distinct (n ∷ ns) h = and_from (not (list_any (λ other. other == n) ns)) _
 told_apart : (o p : Option ℕ) → same_keys same_number o p ≡ false → Each (λ a. Each (Apart a) (told p)) (told o)
 told_apart None p is = tt
 told_apart (Some a) None is = (tt, tt)
-told_apart (Some a) (Some b) is = ((other_way a b is, tt), tt)
+told_apart (Some a) (Some b) is = ((grind (arith, nat_tests), tt), tt)
 
 told_alone : (o : Option ℕ) → Pairs Apart (told o)
 told_alone None = tt

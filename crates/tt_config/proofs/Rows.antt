@@ -2,7 +2,7 @@
 use Rattle.std.proofs.Common.{◌≡◌, true, List, [], ◌∷◌, Option, refl, arith, ℕ, ◌+◌, ◌≤◌, Bool, pos, negsuc, ◌++◌, map, length, sym, ◌∙◌}
 use Rattle.std.specs.Prelude.{codes, IfSome, nat_le, flat_map}
 use Rattle.std.specs.List.{AllByRecursion as Each, list_all, sum_by}
-use Rattle.std.proofs.lemmas.Bool.{and_from, and_parts}
+use Rattle.std.proofs.lemmas.Bool.{and_parts}
 use Rattle.std.proofs.lemmas.List.Elements.{All-from_recursion, recursion_from_All}
 use Rattle.task_lang.specs.Limits.{is_expression_short, has_variables, has_demand, has_callee, terms_of, terms_step, reads_only, reads_step}
 use Rattle.tt_base.specs.declared.names.NameKind.TheVariants as Kind
@@ -18,7 +18,7 @@ use Rattle.tt_parts.specs.Located.{each_at, parts}
 use Rattle.tt_parts.specs.Bodies.{Branches, owner_in, body_of, bodies_of, branches_from, head_of, term_then, expressions_of, first_or_zero, expression_of}
 use Rattle.tt_parts.specs.Names.{names_in, number_named}
 use Rattle.tt_parts.proofs.EachAt.{each_then}
-use Rattle.tt_rules.specs.BodyRules.{are_names_declared, is_declared, lines_14, uses, used_by_term}
+use Rattle.tt_rules.specs.BodyRules.{are_names_declared, is_declared, lines_14, used_by_term}
 use Rattle.tt_rules.specs.DeclarationRules.{has_numbers_in_range, lines_9}
 use Rattle.tt_rules.proofs.Each.{each_from_all, each_map}
 use Rattle.tt_rules.proofs.Kept.{EachRow, each_row}
@@ -178,8 +178,7 @@ module _ (names : List NameEntry) where
   pub row_variables : (row : Row) → IsRowFit names row
       → Passes (has_variables (count_of Kind.Var names)) (head_of names row)
   row_variables (r.Set var terms) fit one two =
-      let both = and_parts (is_declared names (uses Kind.Var var)) _ fit.known in
-      and_from _ _ (number_below names Kind.Var var both.0) (reads-expression_of names terms both.1)
+      grind (arith, fit.known, number_below names Kind.Var var, reads-expression_of names terms)
   row_variables (r.If terms) fit one two = reads-expression_of names terms fit.known
   row_variables (r.Out terms) fit one two = reads-expression_of names terms fit.known
   row_variables row fit one two = refl

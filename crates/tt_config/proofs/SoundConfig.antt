@@ -1,9 +1,8 @@
 -- Sound rows that break no rule give a configuration and a script that keep the rules of theirs.
-use Rattle.std.proofs.Common.{◌≡◌, ℕ, zero, suc, ◌-◌, ◌^◌, ◌<◌, Bool, true, List, [], ◌∷◌, All, None, length, arith, subst, sym, ◌+◌, ◌≤◌, false, map, Option, Some, refl, ◌∙◌, if◌then◌else◌}
+use Rattle.std.proofs.Common.{◌≡◌, ℕ, ◌^◌, ◌<◌, Bool, true, List, [], ◌∷◌, All, None, length, arith, subst, sym, ◌+◌, ◌≤◌, false, map, Option, Some, refl, ◌∙◌, if◌then◌else◌}
 use Rattle.std.specs.Prelude.{◌&&◌, nat_le, nat_lt, IfSome, ◌==◌, flat_map}
 use Rattle.std.specs.List.{AllByRecursion as Each, list_all}
-use Rattle.std.proofs.lemmas.Bool.{and_parts, and_from, leb-true, le-leb, ltb-true}
-use Rattle.std.proofs.lemmas.List.Elements.{All-from_recursion}
+use Rattle.std.proofs.lemmas.Bool.{and_parts, and_from, leb-true, ltb-true}
 use Rattle.tt_base.specs.declared.names.NameKind.{NameKind}
 use Rattle.tt_base.specs.declared.names.NameKind.TheVariants as Kind
 use Rattle.tt_base.specs.declared.names.NameEntry.{NameEntry}
@@ -20,16 +19,15 @@ use Rattle.tt_parts.specs.declared.entries.Entry.{Entry}
 use Rattle.tt_parts.specs.Located.{each_at, parts}
 use Rattle.tt_parts.specs.Bodies.{bodies_of}
 use Rattle.tt_parts.specs.Entries.{entry_in, rounds_in, arrival_in, start_in, time_in, value_in}
-use Rattle.tt_parts.specs.Names.{names_in, number_named}
+use Rattle.tt_parts.specs.Names.{names_in}
 use Rattle.tt_parts.specs.Parts.{declarations_of, first_line}
-use Rattle.tt_rules.specs.BodyRules.{is_declared, uses}
 use Rattle.tt_rules.specs.DeclarationRules.{level_of, oisr_priority_of, osek_priority_of}
 use Rattle.tt_rules.specs.Document.{document_of, first_or_zero}
-use Rattle.tt_rules.specs.Laws.{AreDeclarationsSound, AreTablesKept}
+use Rattle.tt_rules.specs.Laws.{AreDeclarationsSound}
 use Rattle.tt_rules.specs.Order.{below}
 use Rattle.tt_rules.specs.Table.{AreKept, the_rules}
 use Rattle.tt_rules.specs.Tables.{is_entry_known, mode_with}
-use Rattle.tt_rules.proofs.Each.{all_from_each, each_append, each_map, each_weaker, Pairs, each_always, each_flat_map, each_from_all, pairs_flat_map}
+use Rattle.tt_rules.proofs.Each.{all_from_each, each_weaker, Pairs, each_always, each_flat_map, pairs_flat_map}
 use Rattle.tt_rules.proofs.SoundDeclarations.{declarations_sound, first-passes}
 use Rattle.tt_rules.proofs.SoundTables.{mode_sound, alone, one}
 use Rattle.tt_config.specs.BodyRules.{HasSoundBodies, KeepBodyRules}
@@ -52,7 +50,7 @@ use Rattle.tt_rules.specs.RoundRules.{is_within}
 use Rattle.tt_rules.specs.Shapes.{differ_from}
 use Rattle.tt_rules.proofs.Kept.{kept as keeps, EachRow}
 use Rattle.tt_rules.proofs.Pairs.{pairs_differ}
-use Rattle.tt_config.specs.Lists.{at_number, by_number, given}
+use Rattle.tt_config.specs.Lists.{at_number, given}
 
 -- ---- parts
 
@@ -60,18 +58,13 @@ module _ (names : List NameEntry) where
   abbrev is_known : Entry → Bool
   is_known = is_entry_known (count_of Kind.Mode names) (count_of Kind.Task names) (count_of Kind.Isr names)
 
-  both_known : (kind other : NameKind) (one two : List ℕ)
-      → is_declared names (uses kind one) && (is_declared names (uses other two) && true) ≡ true
-      → nat_lt (number_named names one) (count_of kind names)
-      && nat_lt (number_named names two) (count_of other names) ≡ true
-  both_known kind other one two known =
-      let both = and_parts (is_declared names (uses kind one)) _ known in
-      and_from _ _ (number_below names kind one both.0) (number_below names other two (and_parts _ _ both.1).0)
-
   entry_known : (row : Row) → IsRowFit names row → IfSome (entry_in names row) (λ x. is_known x ≡ true)
-  entry_known (r.AtStringent offset mode task deadline) fit = both_known Kind.Mode Kind.Task mode task fit.known
-  entry_known (r.AtNonstringent offset mode task deadline) fit = both_known Kind.Mode Kind.Task mode task fit.known
-  entry_known (r.AtEnable offset mode isr) fit = both_known Kind.Mode Kind.Isr mode isr fit.known
+  entry_known (r.AtStringent offset mode task deadline) fit =
+      grind (arith, fit.known, number_below names Kind.Mode mode, number_below names Kind.Task task)
+  entry_known (r.AtNonstringent offset mode task deadline) fit =
+      grind (arith, fit.known, number_below names Kind.Mode mode, number_below names Kind.Task task)
+  entry_known (r.AtEnable offset mode isr) fit =
+      grind (arith, fit.known, number_below names Kind.Mode mode, number_below names Kind.Isr isr)
   entry_known row fit = tt
 
   start_fits : (row : Row) → IsRowFit names row

@@ -1,27 +1,14 @@
 -- A stable sort gives the same list as inserting each element into those after it.
-use Rattle.std.proofs.Common.{◌≡◌, ℕ, suc, ◌<◌, ◌≤◌, Bool, true, false, cond, not, List, [], ◌∷◌, length, get_or, Ordering, refl, sym, ap, ◌∙◌, arith}
+use Rattle.std.proofs.Common.{◌≡◌, ℕ, suc, ◌<◌, ◌≤◌, Bool, true, false, not, List, [], ◌∷◌, length, get_or, Ordering, refl, sym, ap, ◌∙◌, arith}
 use Rattle.std.specs.Prelude.{◌&&◌, filter}
 use Rattle.std.specs.Cmp.{IsStrictWeakOrder, IsTotalOrder}
 use Rattle.std.specs.Ordering.{is_lt}
 use Rattle.std.specs.List.Sorted.{IsSortedBy, IsSortedByKey, IsStableBy, IsStableByKey, ties}
-use Rattle.std.proofs.lemmas.Bool.{and_parts, false_from_ne_true, not-true}
 use Rattle.std.proofs.lemmas.List.Elements.{All-filter, All-from_recursion, All-head, All-same, recursion_from_All}
 use Rattle.std.proofs.lemmas.List.Sorted.{ranks_by, sorted_far}
 use Rattle.tt_rules.specs.Order.{inserted, ascending}
 use Rattle.tt_rules.proofs.Each.{Pairs}
 use Rattle.tt_rules.proofs.Sorting.{InOrder, order_ascending}
-
--- two elements in either order before a list, where at most one of them passes
-swapped : {X : Type 0} (p q : Bool) (x y : X) (xs : List X) → (p ≡ true → q ≡ true → ⊥)
-    → cond q (y ∷ cond p (x ∷ xs) xs) (cond p (x ∷ xs) xs) ≡ cond p (x ∷ cond q (y ∷ xs) xs) (cond q (y ∷ xs) xs)
-swapped true true x y xs apart = absurd (apart refl refl)
-swapped true false x y xs apart = refl
-swapped false q x y xs apart = refl
-
-same_rest : {X : Type 0} (passes : Bool) (x y : X) (xs ys : List X) → x ≡ y
-    → cond passes (x ∷ xs) xs ≡ cond passes (y ∷ ys) ys → xs ≡ ys
-same_rest true x y xs ys one same = cc
-same_rest false x y xs ys one same = same
 
 module _ {X : Type 0} (lt : X → X → Bool) (o : IsStrictWeakOrder lt) where
   -- no element comes, by the order, before one that is before it in the list
@@ -29,34 +16,20 @@ module _ {X : Type 0} (lt : X → X → Bool) (o : IsStrictWeakOrder lt) where
   Ascends = Pairs (InOrder lt)
 
   irreflexive : (x : X) → lt x x ≡ false
-  irreflexive x = false_from_ne_true (lt x x) (λ below. let above : lt x x ≡ false = o.one_way x x below in cc)
+  irreflexive x = grind (arith, o.one_way x x)
 
   ties_itself : (x : X) → ties lt x x ≡ true
   ties_itself x = ap (λ b. not b && not b) (irreflexive x)
-
-  tie_left : (x y : X) → ties lt x y ≡ true → lt x y ≡ false
-  tie_left x y tie = not-true (lt x y) (and_parts (not (lt x y)) _ tie).0
-
-  tie_right : (x y : X) → ties lt x y ≡ true → lt y x ≡ false
-  tie_right x y tie = not-true (lt y x) (and_parts (not (lt x y)) _ tie).1
 
   -- ---- all elements inserted
 
   filter_inserted : (z x : X) (ys : List X) → filter (ties lt z) (inserted lt x ys) ≡ filter (ties lt z) (x ∷ ys)
   filter_inserted z x [] = refl
-  filter_inserted z x (y ∷ ys) = at (lt y x) refl (filter_inserted z x ys) where
-    at : (before : Bool) → lt y x ≡ before → filter (ties lt z) (inserted lt x ys) ≡ filter (ties lt z) (x ∷ ys)
-        → filter (ties lt z) (cond before (y ∷ inserted lt x ys) (x ∷ y ∷ ys)) ≡ filter (ties lt z) (x ∷ y ∷ ys)
-    at true is same =
-        ap (λ list. cond (ties lt z y) (y ∷ list) list) same
-        ∙ swapped (ties lt z x) (ties lt z y) x y (filter (ties lt z) ys)
-        (λ one other. let after : lt y x ≡ false = o.chain y z x (tie_right z y other) (tie_left z x one) in cc)
-    at false is same = refl
+  filter_inserted z x (y ∷ ys) = grind (arith, filter_inserted z x ys, o.chain y z x)
 
   filter_ascending : (z : X) (xs : List X) → filter (ties lt z) (ascending lt xs) ≡ filter (ties lt z) xs
   filter_ascending z [] = refl
-  filter_ascending z (x ∷ xs) =
-      filter_inserted z x (ascending lt xs) ∙ ap (λ list. cond (ties lt z x) (x ∷ list) list) (filter_ascending z xs)
+  filter_ascending z (x ∷ xs) = grind (arith, filter_inserted z x (ascending lt xs), filter_ascending z xs)
 
   -- ---- one list that ascends
 
@@ -78,12 +51,7 @@ module _ {X : Type 0} (lt : X → X → Bool) (o : IsStrictWeakOrder lt) where
       let after = not_after x xs y ys up (same y) in
       let before = not_after y ys x xs other (sym (same x)) in
       let one : x ≡ y = cc (same x, ties_itself x, after, before) in
-      cc (
-        one,
-        one_ascending xs ys up.1 other.1
-            (λ z. same_rest (ties lt z x) x y (filter (ties lt z) xs) (filter (ties lt z) ys) one
-            (same z ∙ ap (λ w. cond (ties lt z w) (y ∷ filter (ties lt z) ys) (filter (ties lt z) ys)) (sym one))),
-      )
+      cc (one, one_ascending xs ys up.1 other.1 (λ z. grind (arith, one, same z)))
 
   -- ---- a sort
 

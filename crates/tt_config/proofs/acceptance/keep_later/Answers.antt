@@ -1,5 +1,4 @@
-use Rattle.std.proofs.Common.{None, Some, sym, subst, ◌∙◌}
-use Rattle.tt_config.specs.Sound.{IsSound}
+use Rattle.std.proofs.Common.{None, Some, sym, ◌∙◌}
 use Rattle.tt_config.proofs.Asked.{broken_by}
 use Rattle.tt_config.proofs.SoundConfig.{elaborated_sound}
 use Rattle.tt_config.proofs.acceptance.keep_later.Goals as goal
@@ -15,6 +14,6 @@ returns-in-None-clause-kept c =
 
 pub returns-in-None-clause-sound : goal.returns-in-None-clause-sound
 returns-in-None-clause-sound c =
-    subst IsSound (sym c.requires.elaborated)
+    rw c.requires.elaborated
     (elaborated_sound c.args.rows.now c.requires.rows c.requires.few
     (broken_by c.args.rows.now None None c.requires.first (sym c.in-None.is ∙ c.in_ok-later_broken.ensures)))

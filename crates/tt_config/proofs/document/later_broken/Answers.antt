@@ -1,8 +1,7 @@
-use Rattle.std.proofs.Common.{◌≡◌, Option, Some, None, ap, refl, subst, sym, ◌∙◌, arith}
+use Rattle.std.proofs.Common.{◌≡◌, Option, Some, None, ap, refl, sym, ◌∙◌, arith}
 use Rattle.tt_base.specs.declared.names.NameKind.TheVariants as Kind
 use Rattle.tt_base.specs.Names.{count_of}
 use Rattle.tt_parts.specs.Located.{parts}
-use Rattle.tt_rules.specs.BodyRules.{AreTellable}
 use Rattle.tt_rules.specs.declared.broken.Broken.{Broken}
 use Rattle.tt_rules.specs.Document.{Document, document_of, limit_of, names_of}
 use Rattle.tt_rules.specs.Table.{first_broken, declaration_rules, body_rules, table_rules}
@@ -35,8 +34,8 @@ bodies_broken-requires c =
     let rows = c.args.rows.now in
     let line = no_line rows c.requires.first in
     let here = sym c.in_default.is ∙ declarations (goal.at.bodies_broken-requires c).In_ok-broken in
-    subst (AreTellable c.args.document.now.demands) (sym c.as_slice-bodies.ensures)
-    (subst (λ e. AreTellable e.demands e.bodies) (sym c.requires.elaborated)
+    rw c.as_slice-bodies.ensures
+    (rw c.requires.elaborated
     (tellable rows c.requires.short (line 1) (line 2) (kept (document_of rows) 9 declaration_rules (sym here) 0)))
 
 pub returns-in-Some : goal.returns-in-Some
