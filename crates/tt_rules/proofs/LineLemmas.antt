@@ -8,10 +8,6 @@ use Rattle.tt_parts.specs.declared.located.At.{At}
 use Rattle.tt_rules.specs.Lines.{line_unless, lesser_of, least_line}
 use Rattle.tt_rules.specs.Shapes.{lines}
 
-pub lesser_of-none : (a : Option ℕ) → lesser_of a None ≡ a
-lesser_of-none None = refl
-lesser_of-none (Some a) = refl
-
 pub lesser_of-assoc : (a b c : Option ℕ) → lesser_of (lesser_of a b) c ≡ lesser_of a (lesser_of b c)
 lesser_of-assoc None b c = refl
 lesser_of-assoc (Some a) None c = refl
