@@ -11,7 +11,7 @@ use osek_idle::Osek;
 use round_end::RoundState;
 use std::alloc::Global;
 use task_machine::Env;
-use tt_base::{copy_lists, Memory, Series};
+use tt_base::{Memory, Series, copy_lists};
 use tt_stack::{DeclaredWords, TtStack};
 use tt_world::{Arrivals, Config, ScriptParts};
 

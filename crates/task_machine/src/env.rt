@@ -7,7 +7,7 @@ ghost use Rattle.task_machine.specs.Stored.{Store};
 use std::alloc::Global;
 use std::marker::Model;
 use task_lang::{Cursors, Demands, Values, Vars};
-use tt_base::{copy_lists, Memory, Series, VarNo};
+use tt_base::{Memory, Series, VarNo, copy_lists};
 
 /// The variables, the demands, the values that the script gives for them, and how many of each
 /// were used.

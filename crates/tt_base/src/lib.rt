@@ -13,5 +13,5 @@ pub use event::{Call, Event, Owner};
 pub use name::{NAME_BYTES, Name};
 pub use names::{Declared, NameEntry, NameKind, Names};
 pub use number::{DemandNo, IsrNo, Memory, ModeNo, OisrNo, OsekNo, TaskNo, Tick, VarNo};
-pub use series::{copy_lists, Series};
+pub use series::{Series, copy_lists};
 pub use steps::{Blank, Ledger, Steps};

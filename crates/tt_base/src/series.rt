@@ -128,10 +128,7 @@ impl<T: Drop> Series<T> {
 }
 
 /// A list with a copy of each of these lists.
-pub fn copy_lists<T: Copy>(
-    alloc: Global,
-    lists: &[Series<T>],
-) -> Result<Series<Series<T>>, Memory>
+pub fn copy_lists<T: Copy>(alloc: Global, lists: &[Series<T>]) -> Result<Series<Series<T>>, Memory>
     ensures { IfOk result (λ copy. copy ≡ lists.now) }
 {
     let mut copy = Series::new(alloc);

@@ -14,7 +14,7 @@ loop-kind-init c =
     let found = c.missing_of-found.ensures (is_of_kind Kind.Mode) (search rules) in (
       refl,
       rw (found, c.as_slice-names.ensures) (sym (least_line_append
-      (missing d.first (filter_at (is_of_kind Kind.Mode) d.names)) (flat_map (lines_past d) kinds))),
+          (missing d.first (filter_at (is_of_kind Kind.Mode) d.names)) (flat_map (lines_past d) kinds))),
     )
 
 pub loop-kind-preserved : goal.loop-kind-preserved
